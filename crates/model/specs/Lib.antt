@@ -1,2 +1,4 @@
 pub mod Choice
 pub mod Words
+pub mod File
+pub mod Checker

@@ -2,55 +2,61 @@
 
 // The registers: seven words. Tops are counted in words, records from 1; 0 means no record.
 pub struct Regs {
-    pub place: usize,   // where the next instruction starts, a byte offset in the file
-    pub frame: usize,   // the running frame's record
+    pub place: usize, // where the next instruction starts, a byte offset in the file
+    pub frame: usize, // the running frame's record
     pub handler: usize, // the innermost open handler's record
-    pub mtop: usize,    // top of the main stack
-    pub ptop: usize,    // top of the pointer stack
-    pub ctop: usize,    // top of the control stack
-    pub state: usize,   // 0 running, 1 finished
+    pub mtop: usize, // top of the main stack
+    pub ptop: usize, // top of the pointer stack
+    pub ctop: usize, // top of the control stack
+    pub state: usize, // 0 running, 1 finished
+}
+
+// The result of an operation on words.
+pub enum Value {
+    Word(u32),
+    Outside, // outside -2^31 to 2^31-1, or a divisor of 0: exception 1
 }
 
 // What an instruction writes, beside the tops and the place.
 pub enum Into {
     Nothing,
-    Main,    // a word of the main stack
+    Main, // a word of the main stack
     Pointer, // a word of the pointer stack
-    Heap,    // a word of the heap
-    View,    // a new object, and its index on the pointer stack
-    Frame,   // a frame's record on the control stack
-    Return,  // takes the running frame's record away
+    Heap, // a word of the heap
+    View, // a new object, and its index on the pointer stack
+    Frame, // a frame's record on the control stack
+    Return, // takes the running frame's record away
     Handler, // a handler's record on the control stack
-    Close,   // takes the innermost handler's record away
+    Close, // takes the innermost handler's record away
 }
 
 // The writes of an instruction: both stacks are cut to their new tops, then one word is written.
 pub struct Put {
     pub into: Into,
     pub place: usize, // the next place
-    pub mtop: usize,  // the new top of the main stack
-    pub ptop: usize,  // the new top of the pointer stack
-    pub at: usize,    // the index of the word written
-    pub word: u32,    // the word written
+    pub mtop: usize, // the new top of the main stack
+    pub ptop: usize, // the new top of the pointer stack
+    pub at: usize, // the index of the word written
+    pub word: u32, // the word written
 }
 
 // What an instruction is about to do: its writes, or the exception that it raises before any write.
 pub enum Plan {
     Write(Put),
-    Overflow,  // 1: a result outside the range of a word, or a divisor of 0
+    Overflow, // 1: a result outside the range of a word, or a divisor of 0
     NilObject, // 2: the object is nil
-    BadField,  // 3: no such word in the part asked for
-    HeapFull,  // 4: the heap has too few free words
-    NoRoom,    // 5: a frame or a handler does not fit the stacks
-    Thrown,    // the word that instruction 162 pops
+    BadField, // 3: no such word in the part asked for
+    HeapFull, // 4: the heap has too few free words
+    NoRoom, // 5: a frame or a handler does not fit the stacks
+    Thrown, // the word that instruction 162 pops
 }
 
 // What a call answers.
 pub enum Answer {
     Passed,
     Ready,
-    Finished(u32),             // steps
-    Spent(u32),                // steps
+    Finished(u32), // steps
+    Spent(u32), // steps
     Uncaught(u32, usize, u32), // the exception's code, its place, steps
-    Refused(u32, usize),       // the refusal's number, the place
+    Refused(u32, usize), // the refusal's number, the place
 }
