@@ -2,3 +2,12 @@ pub mod Choice
 pub mod Words
 pub mod File
 pub mod Checker
+pub mod Rules
+pub mod Heap
+pub mod Control
+pub mod Instructions
+pub mod Step
+pub mod Sound
+pub mod Calls
+pub mod Claim
+pub mod Samples
