@@ -1,3 +1,4 @@
+-- `code::body`: the entry read is the kind's entry of `lengths`, whose rule holds at every kind (`lengths-are`).
 use mathlib.Core.Path.{_∙_, ap}
 use Prim.Native.Nat.{ℕ}
 use lib.ListN.{getD}
@@ -5,23 +6,16 @@ use Rattle.code.specs.Table.{lengths, lengths-are}
 use borrow.Author.Needs.{needs}
 use Rattle.code.proofs.body.Statement.{statement}
 use Rattle.code.proofs.body.Tie as tie
-use Rattle.code.proofs.body.Reads as reads
-use Rattle.code.proofs.body.Lts as lts
-use Rattle.code.proofs.wide.Reads as wide-reads
 
--- src/lib.rt:39:9
 wide-requires : tie.Need-wide-requires
 wide-requires c κs = search needs
 
--- src/lib.rt:40:10
 array-read-wide : tie.Need-array-read-wide
 array-read-wide c = search needs
 
--- src/lib.rt:40:5
 wide-requires-2 : tie.Need-wide-requires-2
 wide-requires-2 c κs = search needs
 
--- src/lib.rt:36:1
 returns : tie.Need-returns
 unfolding lengths
 returns c = record {

@@ -1,85 +1,64 @@
+-- `code::head_at`: each field is the byte that `wide` hands on, with its bound.
 use mathlib.Core.Path.{refl}
 use Rattle.code.specs.Heads.{headBytes}
 use borrow.Author.Needs.{needs}
 use Rattle.code.proofs.head_at.Statement.{statement}
 use Rattle.code.proofs.head_at.Tie as tie
-use Rattle.code.proofs.head_at.Reads as reads
-use Rattle.code.proofs.head_at.Lts as lts
-use Rattle.code.proofs.wide.Reads as wide-reads
 
--- src/lib.rt:118:23
 add-wide : tie.Need-add-wide
 add-wide c = search needs
 
--- src/lib.rt:118:18
 shared-slice-read-wide : tie.Need-shared-slice-read-wide
 shared-slice-read-wide c = search needs
 
--- src/lib.rt:118:9
 wide-requires : tie.Need-wide-requires
 wide-requires c κs = search needs
 
--- src/lib.rt:119:23
 add-wide-2 : tie.Need-add-wide-2
 add-wide-2 c = search needs
 
--- src/lib.rt:119:18
 shared-slice-read-wide-2 : tie.Need-shared-slice-read-wide-2
 shared-slice-read-wide-2 c = search needs
 
--- src/lib.rt:119:9
 wide-requires-2 : tie.Need-wide-requires-2
 wide-requires-2 c κs = search needs
 
--- src/lib.rt:120:23
 add-wide-3 : tie.Need-add-wide-3
 add-wide-3 c = search needs
 
--- src/lib.rt:120:18
 shared-slice-read-wide-3 : tie.Need-shared-slice-read-wide-3
 shared-slice-read-wide-3 c = search needs
 
--- src/lib.rt:120:9
 wide-requires-3 : tie.Need-wide-requires-3
 wide-requires-3 c κs = search needs
 
--- src/lib.rt:121:23
 add-wide-4 : tie.Need-add-wide-4
 add-wide-4 c = search needs
 
--- src/lib.rt:121:18
 shared-slice-read-wide-4 : tie.Need-shared-slice-read-wide-4
 shared-slice-read-wide-4 c = search needs
 
--- src/lib.rt:121:9
 wide-requires-4 : tie.Need-wide-requires-4
 wide-requires-4 c κs = search needs
 
--- src/lib.rt:122:23
 add-wide-5 : tie.Need-add-wide-5
 add-wide-5 c = search needs
 
--- src/lib.rt:122:18
 shared-slice-read-wide-5 : tie.Need-shared-slice-read-wide-5
 shared-slice-read-wide-5 c = search needs
 
--- src/lib.rt:122:9
 wide-requires-5 : tie.Need-wide-requires-5
 wide-requires-5 c κs = search needs
 
--- src/lib.rt:123:23
 add-wide-6 : tie.Need-add-wide-6
 add-wide-6 c = search needs
 
--- src/lib.rt:123:18
 shared-slice-read-wide-6 : tie.Need-shared-slice-read-wide-6
 shared-slice-read-wide-6 c = search needs
 
--- src/lib.rt:123:9
 wide-requires-6 : tie.Need-wide-requires-6
 wide-requires-6 c κs = search needs
 
--- src/lib.rt:114:1
 returns : tie.Need-returns
 unfolding headBytes
 returns c = record { is = rw (c .before .before .before .before .before .before .before .before .before .before .wide .ensures .is, c .before .before .before .before .before .before .before .before .wide2 .ensures .is, c .before .before .before .before .before .before .wide3 .ensures .is, c .before .before .before .before .wide4 .ensures .is, c .before .before .wide5 .ensures .is, c .wide6 .ensures .is) refl; a-small = c .before .before .before .before .before .before .before .before .before .before .wide .ensures .small; b-small = c .before .before .before .before .before .before .before .before .wide2 .ensures .small; r-small = c .before .before .before .before .before .before .wide3 .ensures .small; s-small = c .before .before .before .before .wide4 .ensures .small; x-small = c .before .before .wide5 .ensures .small; y-small = c .wide6 .ensures .small }

@@ -1,44 +1,33 @@
+-- `code::operand`: the two bytes behind p, each below 256.
 use Rattle.model.specs.File.{operand}
 use borrow.Author.Needs.{needs}
 use Rattle.code.proofs.operand.Statement.{statement}
 use Rattle.code.proofs.operand.Tie as tie
-use Rattle.code.proofs.operand.Reads as reads
-use Rattle.code.proofs.operand.Lts as lts
-use Rattle.code.proofs.wide.Reads as wide-reads
 
--- src/lib.rt:56:26
 add-wide : tie.Need-add-wide
 add-wide c = search needs
 
--- src/lib.rt:56:21
 shared-slice-read-wide : tie.Need-shared-slice-read-wide
 shared-slice-read-wide c = search needs
 
--- src/lib.rt:56:9
 wide-requires : tie.Need-wide-requires
 wide-requires c κs = search needs
 
--- src/lib.rt:57:25
 add-wide-2 : tie.Need-add-wide-2
 add-wide-2 c = search needs
 
--- src/lib.rt:57:20
 shared-slice-read-wide-2 : tie.Need-shared-slice-read-wide-2
 shared-slice-read-wide-2 c = search needs
 
--- src/lib.rt:57:9
 wide-requires-2 : tie.Need-wide-requires-2
 wide-requires-2 c κs = search needs
 
--- src/lib.rt:58:5
 mul-result : tie.Need-mul-result
 mul-result c = search needs
 
--- src/lib.rt:58:5
 add-result : tie.Need-add-result
 add-result c = search needs
 
--- src/lib.rt:52:1
 returns : tie.Need-returns
 unfolding operand
 returns c = search needs
