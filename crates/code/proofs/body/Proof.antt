@@ -19,7 +19,9 @@ wide-requires-2 c κs = search needs
 returns : tie.Need-returns
 unfolding lengths
 returns c = record {
-  is = c .wide2 .ensures .is ∙ ap (λ (i : ℕ). getD lengths i 0) (c .before .wide .ensures .is) ∙ lengths-are (c .before .before .args .kind) (search needs);
+  is = c .wide2 .ensures .is
+      ∙ ap (λ (i : ℕ). getD lengths i 0) (c .before .wide .ensures .is)
+      ∙ lengths-are (c .before .before .args .kind) (search needs);
   small = c .wide2 .ensures .small;
 }
 

@@ -1,5 +1,4 @@
 -- `code::head_at`: each field is the byte that `wide` hands on, with its bound.
-use mathlib.Core.Path.{refl}
 use Rattle.code.specs.Heads.{headBytes}
 use borrow.Author.Needs.{needs}
 use Rattle.code.proofs.head_at.Statement.{statement}
@@ -61,7 +60,22 @@ wide-requires-6 c κs = search needs
 
 returns : tie.Need-returns
 unfolding headBytes
-returns c = record { is = rw (c .before .before .before .before .before .before .before .before .before .before .wide .ensures .is, c .before .before .before .before .before .before .before .before .wide2 .ensures .is, c .before .before .before .before .before .before .wide3 .ensures .is, c .before .before .before .before .wide4 .ensures .is, c .before .before .wide5 .ensures .is, c .wide6 .ensures .is) refl; a-small = c .before .before .before .before .before .before .before .before .before .before .wide .ensures .small; b-small = c .before .before .before .before .before .before .before .before .wide2 .ensures .small; r-small = c .before .before .before .before .before .before .wide3 .ensures .small; s-small = c .before .before .before .before .wide4 .ensures .small; x-small = c .before .before .wide5 .ensures .small; y-small = c .wide6 .ensures .small }
+returns c = record {
+  is = rw (
+    c .before .before .before .before .before .before .before .before .before .before .wide .ensures .is,
+    c .before .before .before .before .before .before .before .before .wide2 .ensures .is,
+    c .before .before .before .before .before .before .wide3 .ensures .is,
+    c .before .before .before .before .wide4 .ensures .is,
+    c .before .before .wide5 .ensures .is,
+    c .wide6 .ensures .is,
+  );
+  a-small = search needs;
+  b-small = search needs;
+  r-small = search needs;
+  s-small = search needs;
+  x-small = search needs;
+  y-small = search needs;
+}
 
 pub head-at-spec : {M : Type 1} → statement M
 head-at-spec =
