@@ -1,6 +1,6 @@
 -- Whole numbers in the machine's bits: those of words fit 32 bits, their sums, differences and products 64, and the quotient of all but -2^31 by -1 fits 32.
 -- Each bound is one on `mag`, which is n of n and of -(n + 1).
-use Prim.Native.Nat.{ℕ, zero, suc, _+_, _-_, _*_, _/_, _^_, _<_, _≤_}
+use Prim.Native.Nat.{ℕ, zero, suc, _+_, _-_, _*_, _/_, _%_, _^_, _<_, _≤_}
 use mathlib.Core.Bool.{Bool, true, false, true≢false}
 use mathlib.Core.Logic.{_⊎_, inl, inr, ⊎-elim}
 use mathlib.Core.Path.{_≡_, refl, sym, _∙_, ap}
@@ -16,7 +16,6 @@ use native.Mathlib.Nat.{div-le-self, div-lt-iff-lt-mul, mul-le-mul, le-trans, lt
 use native.Mathlib.Omega.{arith}
 use Rattle.model.specs.Choice.{if_then_else_}
 use Rattle.model.specs.Words.{signed, toWord, inRange, valueOf}
-use Rattle.model.specs.declared.Value.{Value}
 use Rattle.model.specs.declared.Value.the-variants.{Word, Outside}
 
 pub split : (a b : ℕ) → (a < b) ⊎ (b ≤ a)
@@ -164,6 +163,10 @@ module _ {a b : ℕ} (f : a < 4294967296) (g : b < 4294967296) where
   pub remainder-fits : SFits w32 (remZ (signed a) (signed b))
   remainder-fits = sfits-le (mag-rem (signed a) (signed b)) (signed-fits a f)
 
+pub remainder-by-one : (z : ℤ) → remZ z (negsuc 0) ≡ pos 0
+remainder-by-one (pos n) = ap pos (omega arith)
+remainder-by-one (negsuc n) = let e : suc n % 1 ≡ 0 = omega arith in rw e
+
 neg-fits : (z : ℤ) → SFits w32 z → (z ≡ negsuc 2147483647 → ⊥) → SFits w32 (negℤ z)
 neg-fits (pos n) f h = record { sfits = mag-neg-lt n 2147483648 (omega arith) (omega (arith, f .sfits)) }
 neg-fits (negsuc n) f h =
@@ -174,14 +177,13 @@ neg-fits (negsuc n) f h =
 pub negation-fits : (a : ℕ) → a < 4294967296 → (a ≡ 2147483648 → ⊥) → SFits w32 (pos 0 -ℤ signed a)
 negation-fits a f h = rw +ℤ-idl (neg-fits (signed a) (signed-fits a f) (signed-other a (negsuc 2147483647) f h))
 
--- ---- the value of a result
+-- ---- the value of a result: its word where it fits, Outside below and above
 
-pub word-value : (z : ℤ) → SFits w32 z → Word (toWord z) ≡ valueOf z
+word-value : (z : ℤ) → SFits w32 z → Word (toWord z) ≡ valueOf z
 unfolding valueOf inRange
 word-value (pos n) f = rw (le-leb n 2147483647 (omega (arith, f .sfits)))
 word-value (negsuc n) f = rw (le-leb n 2147483647 (omega (arith, f .sfits)))
 
--- in range
 pub made : {r : ℕ} {z : ℤ} → SFits w32 z → r ≡ toWord z → Word r ≡ valueOf z
 made {r} {z} f e = ap Word e ∙ word-value z f
 

@@ -5,6 +5,10 @@ use model::Value;
 ghost use mathlib.Core.Path.{_≡_};
 ghost use Rattle.model.specs.Words.{signed, toWord, valueOf, Op, operate, Op1, operate1};
 
+const LEAST: u32 = 2147483648; // the word of -2^31
+
+const MINUS_ONE: u32 = 4294967295; // the word of -1
+
 // the whole number of a word
 fn whole(w: u32) -> i32
     ensures { λ r. ⌜ r ≡ signed w ⌝ }
@@ -16,6 +20,13 @@ fn whole(w: u32) -> i32
     }
 }
 
+// the same in 64 bits, which hold every sum, difference and product of two
+fn wide(w: u32) -> i64
+    ensures { λ r. ⌜ r ≡ signed w ⌝ }
+{
+    whole(w) as i64
+}
+
 // the word of a whole number
 fn word(z: i32) -> u32
     ensures { λ r. ⌜ r ≡ toWord z ⌝ }
@@ -25,13 +36,6 @@ fn word(z: i32) -> u32
     } else {
         z as u32
     }
-}
-
-// the same in 64 bits, which hold every sum, difference and product of two
-fn wide(w: u32) -> i64
-    ensures { λ r. ⌜ r ≡ signed w ⌝ }
-{
-    whole(w) as i64
 }
 
 // a result: its word, or that it lies outside the range
@@ -65,17 +69,15 @@ pub fn times(a: u32, b: u32) -> Value
     value(wide(a) * wide(b))
 }
 
-// -2^31 by -1 is 2^31, the one quotient outside the range
+// rounded towards zero; -2^31 by -1 is the one quotient outside the range
 pub fn div(a: u32, b: u32) -> Value
     ensures { λ r. ⌜ r ≡ operate Op.div a b ⌝ }
 {
     if b == 0 {
         return Value::Outside;
     }
-    if a == 2147483648 {
-        if b == 4294967295 {
-            return Value::Outside;
-        }
+    if a == LEAST && b == MINUS_ONE {
+        return Value::Outside;
     }
     Value::Word(word(whole(a) / whole(b)))
 }
@@ -87,10 +89,8 @@ pub fn rem(a: u32, b: u32) -> Value
     if b == 0 {
         return Value::Outside;
     }
-    if a == 2147483648 {
-        if b == 4294967295 {
-            return Value::Word(0);
-        }
+    if b == MINUS_ONE {
+        return Value::Word(0);
     }
     Value::Word(word(whole(a) % whole(b)))
 }
@@ -99,7 +99,7 @@ pub fn rem(a: u32, b: u32) -> Value
 pub fn neg(a: u32) -> Value
     ensures { λ r. ⌜ r ≡ operate1 Op1.neg a ⌝ }
 {
-    if a == 2147483648 {
+    if a == LEAST {
         return Value::Outside;
     }
     Value::Word(word(-whole(a)))
@@ -120,13 +120,17 @@ pub fn eq_w(a: u32, b: u32) -> u32
 pub fn lt(a: u32, b: u32) -> u32
     ensures { λ r. ⌜ Value.Word r ≡ operate Op.lt a b ⌝ }
 {
-    if whole(a) < whole(b) { 1 } else { 0 }
+    let x = whole(a);
+    let y = whole(b);
+    if x < y { 1 } else { 0 }
 }
 
 pub fn le(a: u32, b: u32) -> u32
     ensures { λ r. ⌜ Value.Word r ≡ operate Op.le a b ⌝ }
 {
-    if whole(a) <= whole(b) { 1 } else { 0 }
+    let x = whole(a);
+    let y = whole(b);
+    if x <= y { 1 } else { 0 }
 }
 
 pub fn gt(a: u32, b: u32) -> u32

@@ -1,7 +1,7 @@
 -- `words::div` meets its contract: with B = 0 and -2^31 by -1 tested first, the quotient fits 32 bits, and its word is its value.
 use mathlib.Core.Path.{_∙_, ap}
 use mathlib.Core.Logic.{⊎-elim, inl, inr}
-use borrow.Author.Tests.{eq-eqb, ne-eqb}
+use borrow.Author.Tests.{eq-eqb, ne-eqb, eqb-true, eqb-false}
 use native.Mathlib.Omega.{arith}
 use lib.Signed.{quotZ}
 use mir.Syntax.{w32}
@@ -17,7 +17,7 @@ returns c = rw (eq-eqb _ 0 (c .if1 .taken))
 
 returns-2 : tie.Need-returns-2
 unfolding operate valueOf inRange toWord signed
-returns-2 c = rw (c .before .if2 .taken, c .if3 .taken)
+returns-2 c = rw (c .before .if2 .taken, eqb-true (c .before .before .before .args .b) 4294967295 (c .if3 .taken))
 
 whole-requires : tie.Need-whole-requires
 whole-requires c κs = search needs
@@ -30,7 +30,7 @@ div-word c =
     let x = c .before .whole in
     let y = c .whole2 in
     let s = c .before .before .before .before .fits in
-    let h = ⊎-elim (λ w. inr (w .1 .left)) (λ w. inl (w .left)) (c .before .before .if2 .came) in
+    let h = ⊎-elim (λ w. inr (eqb-false _ 4294967295 (w .1 .left))) (λ w. inl (w .left)) (c .before .before .if2 .came) in
     let k = quotient-fits (s .a .fits) (s .b .fits) h in
     (rw (y .ensures, signed-bits _ (s .b .fits)) (omega (arith, c .before .before .before .if1 .left)), result-fits w32 quotZ (x .ok) (y .ok) (x .ensures) (y .ensures) k)
 
@@ -44,7 +44,7 @@ returns-3 c =
     let x = d .before .whole in
     let y = d .whole2 in
     let s = d .before .before .before .before .fits in
-    let h = ⊎-elim (λ w. inr (w .1 .left)) (λ w. inl (w .left)) (d .before .before .if2 .came) in
+    let h = ⊎-elim (λ w. inr (eqb-false _ 4294967295 (w .1 .left))) (λ w. inl (w .left)) (d .before .before .if2 .came) in
     let k = quotient-fits (s .a .fits) (s .b .fits) h in
     let e = result-read w32 quotZ (x .ok) (y .ok) (x .ensures) (y .ensures) k in
     rw (ne-eqb _ 0 (d .before .before .before .if1 .left)) (made k (c .word .ensures ∙ ap toWord e))

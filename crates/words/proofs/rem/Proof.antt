@@ -1,12 +1,12 @@
--- `words::rem` meets its contract: with B = 0 and -2^31 by -1 tested first, the machine's division is defined, and the remainder's word is its value.
+-- `words::rem` meets its contract: with B = 0 and B = -1 tested first, the machine's division is defined, and the remainder's word is its value.
 use mathlib.Core.Path.{_∙_, ap}
-use mathlib.Core.Logic.{⊎-elim, inl, inr}
+use mathlib.Core.Logic.{inr}
 use borrow.Author.Tests.{eq-eqb, ne-eqb}
 use native.Mathlib.Omega.{arith}
 use lib.Signed.{quotZ, remZ}
 use mir.Syntax.{w32}
 use Rattle.model.specs.Words.{signed, toWord, inRange, valueOf, operate}
-use Rattle.words.proofs.Bounds.{signed-bits, result-fits, result-read, quotient-fits, remainder-fits, made}
+use Rattle.words.proofs.Bounds.{signed-bits, result-fits, result-read, quotient-fits, remainder-fits, remainder-by-one, made}
 use borrow.Author.Needs.{needs}
 use Rattle.words.proofs.rem.Statement.{statement}
 use Rattle.words.proofs.rem.Tie as tie
@@ -17,7 +17,7 @@ returns c = rw (eq-eqb _ 0 (c .if1 .taken))
 
 returns-2 : tie.Need-returns-2
 unfolding operate valueOf inRange toWord signed
-returns-2 c = rw (c .before .if2 .taken, c .if3 .taken)
+returns-2 c = rw (c .if2 .taken, remainder-by-one)
 
 whole-requires : tie.Need-whole-requires
 whole-requires c κs = search needs
@@ -30,8 +30,7 @@ rem-word c =
     let x = c .before .whole in
     let y = c .whole2 in
     let s = c .before .before .before .before .fits in
-    let h = ⊎-elim (λ w. inr (w .1 .left)) (λ w. inl (w .left)) (c .before .before .if2 .came) in
-    let k = quotient-fits (s .a .fits) (s .b .fits) h in
+    let k = quotient-fits (s .a .fits) (s .b .fits) (inr (c .before .before .if2 .left)) in
     (rw (y .ensures, signed-bits _ (s .b .fits)) (omega (arith, c .before .before .before .if1 .left)), result-fits w32 quotZ (x .ok) (y .ok) (x .ensures) (y .ensures) k)
 
 word-requires : tie.Need-word-requires

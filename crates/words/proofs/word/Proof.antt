@@ -1,7 +1,6 @@
 -- `words::word` meets its contract: a negative number's bits turned round are a number below 2^31, taken from 2^32 - 1.
 use native.Mathlib.Omega.{arith}
-use mathlib.Core.Path.{sym, _∙_}
-use Rattle.words.proofs.Bounds.{Negative, negative, Natural, natural}
+use Rattle.words.proofs.Bounds.{negative, natural}
 use Rattle.words.proofs.word.Statement.{statement}
 use Rattle.words.proofs.word.Tie as tie
 
