@@ -31,7 +31,7 @@ in-member q (p ∷ l) (inr h) = go (eqb q p) (in-member q l h)
     go true e = refl
     go false e = e
 
-getD-in : (l : List ℕ) (n d : ℕ) → n < length l → Mem (getD l n d) l
+pub getD-in : (l : List ℕ) (n d : ℕ) → n < length l → Mem (getD l n d) l
 getD-in [] n d h = absurd (omega arith)
 getD-in (a ∷ l) zero d h = inl refl
 getD-in (a ∷ l) (suc n) d h = inr (getD-in l n d (omega arith))
@@ -41,7 +41,7 @@ some a (b ∷ l) h = omega arith
 
 -- what a selection keeps
 module _ (t : ℕ → Bool) where
-  select-in : (l : List ℕ) (q : ℕ) → Mem q (select t l) → Mem q l × (t q ≡ true)
+  pub select-in : (l : List ℕ) (q : ℕ) → Mem q (select t l) → Mem q l × (t q ≡ true)
   select-in [] q h = absurd h
   select-in (p ∷ l) q h = go (t p) refl (select-in l q) h
     where
@@ -51,7 +51,7 @@ module _ (t : ℕ → Bool) where
       go true e r (inr h) = let w = r h in (inr (w .0), w .1)
       go false e r h = let w = r h in (inr (w .0), w .1)
 
-  in-select : (l : List ℕ) (q : ℕ) → Mem q l → t q ≡ true → Mem q (select t l)
+  pub in-select : (l : List ℕ) (q : ℕ) → Mem q l → t q ≡ true → Mem q (select t l)
   in-select (p ∷ l) q (inl h) e = let w : t p ≡ true = rw h at e in rw w (inl h)
   in-select (p ∷ l) q (inr h) e = go (t p) (in-select l q h e)
     where
@@ -68,7 +68,7 @@ module _ (t : ℕ → Bool) where
       go false w = w
 
 -- the records from p on: each begins where the last one ends
-abbrev Walk : List ℕ → ℕ → List ℕ → Type 0
+abbrev pub Walk : List ℕ → ℕ → List ℕ → Type 0
 Walk f p [] = length f ≤ p
 Walk f p (q ∷ qs) = (q ≡ p) × (p < length f) × (after f p ≤ length f) × Walk f (after f p) qs
 
@@ -104,7 +104,7 @@ records-walk f (suc n) p ps h e =
           r (w .2 .0) (w .2 .1),
         )
 
-walk-above : (f : List ℕ) (p : ℕ) (ps : List ℕ) → Walk f p ps → (q : ℕ) → Mem q ps → (p ≤ q) × (after f q ≤ length f)
+pub walk-above : (f : List ℕ) (p : ℕ) (ps : List ℕ) → Walk f p ps → (q : ℕ) → Mem q ps → (p ≤ q) × (after f q ≤ length f)
 walk-above f p (r ∷ ps) w q (inl e) =
     let a : q ≡ p = e ∙ w .0 in
     (omega arith, rw a (w .2))
@@ -125,7 +125,7 @@ walk-rising f p (r ∷ ps) w = (
 )
 
 -- no record begins within another
-walk-gap : (f : List ℕ) (p : ℕ) (ps : List ℕ) → Walk f p ps → (q r : ℕ) → Mem q ps → Mem r ps → q < r → after f q ≤ r
+pub walk-gap : (f : List ℕ) (p : ℕ) (ps : List ℕ) → Walk f p ps → (q r : ℕ) → Mem q ps → Mem r ps → q < r → after f q ≤ r
 walk-gap f p (t ∷ ps) w q r (inl e) (inl h) l = absurd (omega arith)
 walk-gap f p (t ∷ ps) w q r (inl e) (inr h) l =
     let a : q ≡ p = e ∙ w .0 in
@@ -138,7 +138,7 @@ walk-gap f p (t ∷ ps) w q r (inr e) (inl h) l =
 walk-gap f p (t ∷ ps) w q r (inr e) (inr h) l = walk-gap f (after f p) ps (w .3) q r e h l
 
 -- the number of heads up to a place
-upTo-most : (p : ℕ) (hs : List ℕ) → upTo p hs ≤ length hs
+pub upTo-most : (p : ℕ) (hs : List ℕ) → upTo p hs ≤ length hs
 upTo-most p [] = omega arith
 upTo-most p (h ∷ hs) = go (leb h p) (upTo-most p hs)
   where
@@ -146,12 +146,12 @@ upTo-most p (h ∷ hs) = go (leb h p) (upTo-most p hs)
     go true l = omega arith
     go false l = omega arith
 
-upTo-none : (p : ℕ) (hs : List ℕ) → ((h : ℕ) → Mem h hs → p < h) → upTo p hs ≡ 0
+pub upTo-none : (p : ℕ) (hs : List ℕ) → ((h : ℕ) → Mem h hs → p < h) → upTo p hs ≡ 0
 upTo-none p [] w = refl
 upTo-none p (h ∷ hs) w = rw (lt-leb h p (w h (inl refl))) (upTo-none p hs (λ g m. w g (inr m)))
 
 -- q is at or behind head n, and before the next one
-upTo-at : (q : ℕ) (hs : List ℕ) (n : ℕ) → Rising hs → n < length hs → getD hs n 0 ≤ q →
+pub upTo-at : (q : ℕ) (hs : List ℕ) (n : ℕ) → Rising hs → n < length hs → getD hs n 0 ≤ q →
     ((h : ℕ) → Mem h hs → getD hs n 0 < h → q < h) → upTo q hs ≡ suc n
 upTo-at q [] n r l b w = absurd (omega arith)
 upTo-at q (h ∷ hs) zero r l b w = rw (le-leb h q b, upTo-none q hs (λ g m. w g (inr m) (r .0 g m)))
@@ -165,27 +165,27 @@ module _ (f ps : List ℕ) (e : recordsOf f ≡ starts ps) where
   first-inv true r h = (refl, h)
   first-inv false r h = (cc, cc)
 
-  first-head : byteAt f 0 ≡ headKind
+  pub first-head : byteAt f 0 ≡ headKind
   unfolding recordsOf
   first-head = eqb-true (byteAt f 0) headKind (first-inv (eqb (byteAt f 0) headKind) (recordsFrom f (length f) 0) e .0)
 
-  walk : Walk f 0 ps
+  pub walk : Walk f 0 ps
   unfolding recordsOf
   walk = records-walk f (length f) 0 ps (omega arith) (first-inv (eqb (byteAt f 0) headKind) (recordsFrom f (length f) 0) e .1)
 
-  head-in : (p : ℕ) → Mem p (heads f) → Mem p ps × (byteAt f p ≡ headKind)
+  pub head-in : (p : ℕ) → Mem p (heads f) → Mem p ps × (byteAt f p ≡ headKind)
   unfolding heads isHead
   head-in p h =
       let w : Mem p ps × (isHead f p ≡ true) = select-in (isHead f) ps p (rw e at h) in
       (w .0, eqb-true (byteAt f p) headKind (w .1))
 
-  ins-in : (p : ℕ) → Mem p (instructions f) → Mem p ps × (byteAt f p ≡ headKind → ⊥)
+  pub ins-in : (p : ℕ) → Mem p (instructions f) → Mem p ps × (byteAt f p ≡ headKind → ⊥)
   unfolding instructions isHead
   ins-in p h =
       let w : Mem p ps × (not (isHead f p) ≡ true) = select-in (λ q. not (isHead f q)) ps p (rw e at h) in
       (w .0, eqb-false (byteAt f p) headKind (not-true (isHead f p) (w .1)))
 
-  heads-rise : Rising (heads f)
+  pub heads-rise : Rising (heads f)
   unfolding heads
   heads-rise = rw e (select-rising (isHead f) ps (walk-rising f 0 ps walk))
 
@@ -229,7 +229,7 @@ module _ (f ps : List ℕ) (e : recordsOf f ≡ starts ps) where
   unfolding headTests
   entry-in n h = member-in (entry f n) (instructions f) (h .1 .1 .1 .1 .0)
 
-  after-head : (h : ℕ) → byteAt f h ≡ headKind → after f h ≡ h + headSize
+  pub after-head : (h : ℕ) → byteAt f h ≡ headKind → after f h ≡ h + headSize
   unfolding after bodyOf bodies
   after-head h b = rw b (omega arith)
 

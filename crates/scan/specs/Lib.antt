@@ -1,1 +1,3 @@
 pub mod Rest
+pub mod Marks
+pub mod Scanning
