@@ -85,12 +85,12 @@ module _ (m : List ℕ) (q : ℕ) where
       let e2 = getD-set-other m (3 * q) (3 * r + 2) v none (omega arith) in
       λ i. state (e0 i) (e1 i) (e2 i)
 
-  pub mark-same : (v : ℕ) → 3 * q < length m → stateIn m q ≡ unset → stateIn (set m (3 * q) v) q ≡ state v none none
+  pub mark-same : (v : ℕ) → 3 * q < length m → stateIn (set m (3 * q) v) q ≡ state v (stateIn m q .ptr) (stateIn m q .inner)
   unfolding stateIn
-  mark-same v h e =
+  mark-same v h =
       let e0 = getD-set-same m (3 * q) v none h in
-      let e1 = getD-set-other m (3 * q) (3 * q + 1) v none (omega arith) ∙ ap (λ (s : State). s .ptr) e in
-      let e2 = getD-set-other m (3 * q) (3 * q + 2) v none (omega arith) ∙ ap (λ (s : State). s .inner) e in
+      let e1 = getD-set-other m (3 * q) (3 * q + 1) v none (omega arith) in
+      let e2 = getD-set-other m (3 * q) (3 * q + 2) v none (omega arith) in
       λ i. state (e0 i) (e1 i) (e2 i)
 
 -- the marks of all the records that are instructions
@@ -107,3 +107,98 @@ unfolding marked
 length-marked f [] m = refl
 length-marked f (p ∷ ps) m =
     length-marked f ps (if isHead f p then m else set m (3 * p) unreached) ∙ length-mark (isHead f p) m (3 * p) unreached
+
+-- what the marks of a file's records show
+abbrev At-marked : List ℕ → List ℕ → List ℕ → ℕ → Type 0
+At-marked f ps m q =
+    stateIn (marked f m ps) q
+    ≡ (if member q (select (λ p. not (isHead f p)) ps) then state unreached (stateIn m q .ptr) (stateIn m q .inner) else stateIn m q)
+
+marks-at : (f : List ℕ) (ps m : List ℕ) (q : ℕ) → ((p : ℕ) → Mem p ps → 3 * p < length m) → At-marked f ps m q
+unfolding marked
+marks-at f [] m q h = refl
+marks-at f (p ∷ ps) m q h = go (isHead f p) refl (λ m′ l. marks-at f ps m′ q (λ r i. rw l (h r (inr i))))
+  where
+    here : Dec (q ≡ p) → (t : Bool) →
+        (if t
+          then state unreached (stateIn (set m (3 * p) unreached) q .ptr) (stateIn (set m (3 * p) unreached) q .inner)
+          else stateIn (set m (3 * p) unreached) q)
+        ≡ (if (if eqb q p then true else t) then state unreached (stateIn m q .ptr) (stateIn m q .inner) else stateIn m q)
+    here (yes z) true = rw (eq-eqb q p z, z, mark-same m p unreached (h p (inl refl)))
+    here (yes z) false = rw (eq-eqb q p z, z, mark-same m p unreached (h p (inl refl)))
+    here (no z) t = rw (ne-eqb q p z, mark-other m p q unreached z)
+
+    go : (t : Bool) → isHead f p ≡ t → ((m′ : List ℕ) → length m′ ≡ length m → At-marked f ps m′ q) →
+        stateIn (marked f (if isHead f p then m else set m (3 * p) unreached) ps) q
+        ≡ (if member q (if not (isHead f p) then p ∷ select (λ r. not (isHead f r)) ps else select (λ r. not (isHead f r)) ps)
+          then state unreached (stateIn m q .ptr) (stateIn m q .inner) else stateIn m q)
+    go true e r = rw e (r m refl)
+    go false e r =
+        rw e (r (set m (3 * p) unreached) (length-set m (3 * p) unreached)
+        ∙ here (ℕ-discrete q p) (member q (select (λ r. not (isHead f r)) ps)))
+
+-- a list of 65,535 alone
+getD-fill : (n i : ℕ) → _≡_ {A = ℕ} (getD (replicate n none) i none) none
+getD-fill zero i = refl
+getD-fill (suc n) zero = refl
+getD-fill (suc n) (suc i) = getD-fill n i
+
+pub blank : (n q : ℕ) → stateIn (replicate n none) q ≡ unset
+unfolding stateIn
+blank n q = λ i. state (getD-fill n (3 * q) i) (getD-fill n (3 * q + 1) i) (getD-fill n (3 * q + 2) i)
+
+-- the marked part shows the instructions, and no state yet
+pub marked-shows : (f ps : List ℕ) → recordsOf f ≡ starts ps → ((p : ℕ) → Mem p ps → p < length f) →
+    Shows f [] (marked f (replicate (3 * length f) none) ps)
+unfolding instructions
+marked-shows f ps e h =
+    let n = 3 * length f in
+    let m = replicate n none in
+    record {
+      long = length-marked f ps m ∙ length-replicate n none;
+      at = λ q l.
+        marks-at f ps m q (λ p i. let a = h p i in rw (length-replicate n none) (omega arith))
+        ∙ rw (blank n q, e);
+      only = λ q z. absurd (true≢false (sym z)) }
+
+-- reading a number with another default
+pub getD-any : (l : List ℕ) (i d d′ : ℕ) → i < length l → getD l i d ≡ getD l i d′
+getD-any [] i d d′ h = absurd (omega arith)
+getD-any (x ∷ l) zero d d′ h = refl
+getD-any (x ∷ l) (suc i) d d′ h = getD-any l i d d′ (omega arith)
+
+module _ (f : List ℕ) (k : Known) (m : List ℕ) (S : Shows f k m) where
+  shown-main : (t : Bool) (s : State) → (isSet s ≡ true → t ≡ true) → eqb (shown t s .main) none ≡ not t
+  shown-main t s h = go (eqb (s .main) none) refl t h
+    where
+      go : (b : Bool) → eqb (s .main) none ≡ b → (u : Bool) → (not b ≡ true → u ≡ true) →
+          eqb ((if not b then s else (if u then state unreached none none else unset)) .main) none ≡ not u
+      go true e true w = refl
+      go true e false w = refl
+      go false e u w = rw (e, w refl)
+
+  -- where the map has 65,535, no instruction starts
+  pub starts-here : (q : ℕ) → q < length f → eqb (getD m (3 * q) 0) none ≡ not (member q (instructions f))
+  unfolding stateIn
+  starts-here q h =
+      let l = S .long in
+      rw (getD-any m (3 * q) 0 none (omega arith))
+      (ap (λ (s : State). eqb (s .main) none) (S .at q h)
+      ∙ shown-main (member q (instructions f)) (stateAt k q) (S .only q))
+
+  -- a known state more
+  pub put-shows : (q : ℕ) (s : State) → isSet s ≡ true → member q (instructions f) ≡ true → q < length f → Shows f ((q, s) ∷ k) (putIn m q s)
+  put-shows q s set? in? h =
+      let l = S .long in
+      record {
+        long = length-putIn m q s ∙ l;
+        at = λ r w. here r w (ℕ-discrete r q);
+        only = λ r z. there r z (ℕ-discrete r q) }
+    where
+      here : (r : ℕ) → r < length f → Dec (r ≡ q) →
+          stateIn (putIn m q s) r ≡ shown (member r (instructions f)) (if eqb r q then s else stateAt k r)
+      here r w (yes e) = let l = S .long in rw (e, eq-eqb q q refl, set?) (putIn-same m q s (omega arith))
+      here r w (no e) = rw (ne-eqb r q e) (putIn-other m q s r e ∙ S .at r w)
+      there : (r : ℕ) → isSet (if eqb r q then s else stateAt k r) ≡ true → Dec (r ≡ q) → member r (instructions f) ≡ true
+      there r z (yes e) = rw e in?
+      there r z (no e) = S .only r (rw (ne-eqb r q e) at z)
