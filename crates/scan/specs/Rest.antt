@@ -7,7 +7,7 @@ use mathlib.Core.Path.{_≡_, refl, ap, sym, _∙_}
 use native.Mathlib.Omega.{arith}
 use lib.Dec.{ltb, leb, eqb}
 use lib.ListN.{length}
-use borrow.Author.Tests.{lt-ltb, le-ltb, lt-leb, eq-eqb, ne-eqb, le-leb, ltb-true}
+use borrow.Author.Tests.{lt-ltb, le-ltb, lt-leb, eq-eqb, ne-eqb, le-leb, leb-true}
 use Rattle.model.specs.Choice.{if_then_else_}
 use Rattle.model.specs.File.{byteAt, headKind, bodyOf, unknown, after, whole?, Records, broken, starts, more, recordsFrom, recordsOf, startsIn}
 use Rattle.exact.specs.Walk.{after-above}
@@ -66,3 +66,24 @@ records-first f h = rw (eq-eqb (byteAt f 0) 240 h)
 pub records-other : (f : List ℕ) → (byteAt f 0 ≡ 240 → ⊥) → recordsOf f ≡ broken 0
 unfolding recordsOf
 records-other f h = rw (ne-eqb (byteAt f 0) 240 h)
+
+-- a record of a file whose records are whole
+more-inv : (p : ℕ) (r : Records) (ps : List ℕ) → more p r ≡ starts ps → (qs : List ℕ) × (r ≡ starts qs) × (ps ≡ p ∷ qs)
+more-inv p (broken q) ps e = ([], cc, cc)
+more-inv p (starts qs) ps e = (qs, refl, cc)
+
+pub rest-inv : (f : List ℕ) (p : ℕ) (ps : List ℕ) → p < length f → restOf f p ≡ starts ps →
+    (whole? f p ≡ true) × ((qs : List ℕ) × (restOf f (after f p) ≡ starts qs) × (ps ≡ p ∷ qs))
+rest-inv f p ps h e = go (whole? f p) refl
+  where
+    go : (t : Bool) → whole? f p ≡ t → (whole? f p ≡ true) × ((qs : List ℕ) × (restOf f (after f p) ≡ starts qs) × (ps ≡ p ∷ qs))
+    go true w = (w, more-inv p (restOf f (after f p)) ps (sym (rest-more f p h w) ∙ e))
+    go false w = let x : broken p ≡ starts ps = sym (rest-broken f p h w) ∙ e in let z : true ≡ false = cc in absurd (true≢false z)
+
+pub whole-inside : (f : List ℕ) (p : ℕ) → whole? f p ≡ true → after f p ≤ length f
+unfolding whole?
+whole-inside f p e = go (eqb (bodyOf (byteAt f p)) unknown) e
+  where
+    go : (t : Bool) → (not t && leb (after f p) (length f)) ≡ true → after f p ≤ length f
+    go true w = absurd (true≢false (sym w))
+    go false w = leb-true (after f p) (length f) w
