@@ -10,16 +10,16 @@ use lib.Dec.{leb}
 use lib.ListN.{length, getD, drop, length-append, length-drop, List·getD-append}
 use lib.Seq.{drop-at}
 use borrow.Author.Tests.{leb-true, le-leb}
-use Rattle.model.specs.Choice.{if_then_else_, Mem}
-use Rattle.model.specs.File.{fileMost, Records, broken, starts, recordsOf, Heads, wrong, right, headsOf, instructions}
-use Rattle.model.specs.Checker.{none, State, state, Known, stateAt, Result, refused, passed, flow, mapFrom}
+use Rattle.model.specs.Choice.{if_then_else_, All, Mem}
+use Rattle.model.specs.File.{fileMost, Records, broken, starts, recordsOf, Heads, wrong, right, headsOf, instructions, insAt}
+use Rattle.model.specs.Checker.{none, State, state, unset, Known, stateAt, Result, refused, passed, targetTests, flow, mapFrom}
 use Rattle.model.specs.Rules.{Assignment, Keeps}
 use Rattle.model.specs.Sound.{mainAt, ptrAt, innerAt}
 use Rattle.model.specs.Calls.{mapSize, overMap, wiped, Verdict, pass, refuse, flowed, headed, scanned, verdictOf}
 use Rattle.model.specs.Claim.{Bytes}
 use Rattle.exact.specs.Pass.{and-true}
 use Rattle.exact.specs.Walk.{HeadsHold, heads-right, right-heads, instruction-below}
-use Rattle.exact.specs.Flow.{Shape, keeps-shape, keeps-same, flow-keeps, Flows, keeps-flow}
+use Rattle.exact.specs.Flow.{Shape, keeps-shape, keeps-same, Late, flow-late, flow-rest, flow-keeps, keeps-flow}
 
 -- the assignment that a map holds
 abbrev pub assigned : List ℕ → Assignment
@@ -84,14 +84,18 @@ finished-again f map k =
     ap (λ (l : List ℕ). mapFrom k (length f) 0 ++ l)
     (drop-at (mapFrom k (length f) 0) (drop (mapSize f) map) (mapSize f) (map-length k (length f) 0))
 
--- what a pass says of the file
-pub record Passed (f map new : List ℕ) : Type 0 where
+-- a file with nothing in it that refusals 1, 3 and 4 are for
+pub record Formed (f : List ℕ) : Type 0 where
   pub some : 1 ≤ length f
   pub most : length f ≤ fileMost
-  pub room : mapSize f ≤ length map
   pub places : List ℕ
   pub records : recordsOf f ≡ starts places
   pub heads : HeadsHold f
+
+-- what a pass says
+pub record Passed (f map new : List ℕ) : Type 0 where
+  pub formed : Formed f
+  pub room : mapSize f ≤ length map
   pub known : Known
   pub flows : flow f ≡ passed known
   pub is : new ≡ finished f map known
@@ -125,31 +129,35 @@ module _ (f map : List ℕ) where
       let d = headed-pass (headsOf f) new (c .2) in
       let w = flowed-pass (flow f) new (d .1) in
       record {
-        some = leb-true 1 (length f) (l .0);
-        most = leb-true (length f) fileMost (l .1);
+        formed =
+            record {
+              some = leb-true 1 (length f) (l .0);
+              most = leb-true (length f) fileMost (l .1);
+              places = c .0;
+              records = c .1;
+              heads = heads-right f (d .0);
+            };
         room = leb-true (mapSize f) (length map) (b .0);
-        places = c .0;
-        records = c .1;
-        heads = heads-right f (d .0);
         known = w .0;
         flows = w .1;
         is = w .2;
       }
 
   -- past refusals 1 to 4 the verdict is the pass's
-  pub flow-verdict : 1 ≤ length f → length f ≤ fileMost → mapSize f ≤ length map → (ps : List ℕ) → recordsOf f ≡ starts ps → HeadsHold f →
-      verdictOf f map ≡ flowed f map (flow f)
+  flow-verdict : Formed f → mapSize f ≤ length map → verdictOf f map ≡ flowed f map (flow f)
   unfolding verdictOf
-  flow-verdict a b c ps e h =
-      rw (le-leb 1 (length f) a, le-leb (length f) fileMost b, le-leb (mapSize f) (length map) c, e, right-heads f h)
+  flow-verdict F l =
+      rw (
+        le-leb 1 (length f) (F .some),
+        le-leb (length f) fileMost (F .most),
+        le-leb (mapSize f) (length map) l,
+        F .records,
+        right-heads f (F .heads),
+      )
 
 -- what document 01 asks of a file
 pub record Right (f : List ℕ) : Type 0 where
-  pub some : 1 ≤ length f
-  pub most : length f ≤ fileMost
-  pub places : List ℕ
-  pub records : recordsOf f ≡ starts places
-  pub heads : HeadsHold f
+  pub formed : Formed f
   pub assignment : Assignment
   pub keeps : Keeps f assignment
 
@@ -158,29 +166,37 @@ module _ (f map : List ℕ) (B : Bytes f) where
     P : Passed f map new
     P = passed-as f map new e
 
+    W : Formed f
+    W = P .formed
+
+    map-is : (p : ℕ) → p < length f → stateAt (P .known) p ≡ assigned new p
+    map-is p l = sym (finished-at f map (P .known) p l) ∙ ap (λ (m : List ℕ). assigned m p) (sym (P .is))
+
     known-is : (p : ℕ) → Mem p (instructions f) → stateAt (P .known) p ≡ assigned new p
-    known-is p m =
-        sym (finished-at f map (P .known) p (instruction-below f (P .places) (P .records) p m))
-        ∙ ap (λ (l : List ℕ). assigned l p) (sym (P .is))
+    known-is p m = map-is p (instruction-below f (W .places) (W .records) p m)
 
     -- the map of a file that passes keeps the rules
     pub passed-keeps : Keeps f (assigned new)
     passed-keeps =
-        keeps-same f (P .places) B (P .records) (P .heads) (stateAt (P .known)) (assigned new) known-is
-        (flow-keeps f (P .places) B (P .records) (P .heads) (P .known) (P .flows))
+        keeps-same f (W .places) B (W .records) (W .heads) (stateAt (P .known)) (assigned new) known-is
+        (flow-keeps f (W .places) B (W .records) (W .heads) (P .known) (P .flows))
 
     -- its depths lie within the procedure's, and its third numbers are below their places
     pub passed-shape : (p : ℕ) → Mem p (instructions f) → Shape f (assigned new) p
-    passed-shape = keeps-shape f (P .places) B (P .records) (P .heads) (assigned new) passed-keeps
+    passed-shape = keeps-shape f (W .places) B (W .records) (W .heads) (assigned new) passed-keeps
 
-    -- no other assignment keeps them
+    -- "three times 65,535 where no instruction starts"
+    pub passed-rest : (p : ℕ) → p < length f → (Mem p (instructions f) → ⊥) → assigned new p ≡ unset
+    passed-rest p l n = sym (map-is p l) ∙ flow-rest f (W .places) B (W .records) (W .heads) (P .known) (P .flows) p n
+
+    -- no other assignment keeps the rules
     pub keeps-unique : (A : Assignment) → Keeps f A → (p : ℕ) → Mem p (instructions f) → A p ≡ assigned new p
     keeps-unique A K p m =
-        let F = keeps-flow f (P .places) B (P .records) (P .heads) A K in
+        let F = keeps-flow f (W .places) B (W .records) (W .heads) A K in
         let w : F .known ≡ P .known = let a = F .passes in let b = P .flows in cc in
         F .same p m ∙ ap (λ (k : Known). stateAt k p) w ∙ known-is p m
 
-    -- the map handed in again passes and stays
+    -- the map handed in again passes, and stays
     pub passed-length : length new ≡ length map
     passed-length = ap length (P .is) ∙ finished-length f map (P .known) (P .room)
 
@@ -189,51 +205,46 @@ module _ (f map : List ℕ) (B : Bytes f) where
         let l = passed-length in
         let r = P .room in
         let w = P .is in
-        flow-verdict f new (P .some) (P .most) (omega arith) (P .places) (P .records) (P .heads)
+        flow-verdict f new W (omega arith)
         ∙ ap (flowed f new) (P .flows)
         ∙ ap pass (ap (λ (x : List ℕ). finished f x (P .known)) w ∙ finished-again f map (P .known) ∙ sym w)
 
-  -- past refusals 1 to 4, a file is refused exactly when no assignment keeps the rules. Targets are among the rules
-  pub refused-exactly : 1 ≤ length f → length f ≤ fileMost → mapSize f ≤ length map → (ps : List ℕ) → recordsOf f ≡ starts ps →
-      headsOf f ≡ right → ((n : ℕ) × (p : ℕ) × (verdictOf f map ≡ refuse n p (wiped f map))) ↔ ((A : Assignment) → Keeps f A → ⊥)
-  refused-exactly a b c ps e h = (λ r A K. never r (keeps-flow f ps B e H A K), λ w. go w (flow f) refl)
-    where
-      H : HeadsHold f
-      H = heads-right f h
-
-      is : verdictOf f map ≡ flowed f map (flow f)
-      is = flow-verdict f map a b c ps e H
-
-      never : {A : Assignment} → (n : ℕ) × (p : ℕ) × (verdictOf f map ≡ refuse n p (wiped f map)) → Flows f ps B e H A → ⊥
-      never r F =
-          let x : refuse (r .0) (r .1) (wiped f map) ≡ pass (finished f map (F .known)) = sym (r .2) ∙ is ∙ ap (flowed f map) (F .passes) in
-          let z : true ≡ false = cc in
-          true≢false z
-
-      go : ((A : Assignment) → Keeps f A → ⊥) → (r : Result Known) → flow f ≡ r → (n : ℕ) × (p : ℕ) × (verdictOf f map ≡ refuse n p (wiped f map))
-      go w (refused n p) x = (n, p, is ∙ ap (flowed f map) x)
-      go w (passed k) x = absurd (w (stateAt k) (flow-keeps f ps B e H k x))
-
   -- a file passes exactly when the rules hold of it
   pub passes-exactly : mapSize f ≤ length map → ((new : List ℕ) × (verdictOf f map ≡ pass new)) ↔ Right f
-  passes-exactly room = (λ r. right-of (r .0) (r .1), pass-of)
+  passes-exactly room = (
+    λ r. record { formed = passed-as f map (r .0) (r .1) .formed; assignment = assigned (r .0); keeps = passed-keeps (r .0) (r .1) },
+    pass-of,
+  )
     where
-      right-of : (new : List ℕ) → verdictOf f map ≡ pass new → Right f
-      right-of new e =
-          let P = passed-as f map new e in
-          record {
-            some = P .some;
-            most = P .most;
-            places = P .places;
-            records = P .records;
-            heads = P .heads;
-            assignment = assigned new;
-            keeps = passed-keeps new e;
-          }
-
       pass-of : Right f → (new : List ℕ) × (verdictOf f map ≡ pass new)
       pass-of R =
-          let F = keeps-flow f (R .places) B (R .records) (R .heads) (R .assignment) (R .keeps) in (
-            finished f map (F .known),
-            flow-verdict f map (R .some) (R .most) room (R .places) (R .records) (R .heads) ∙ ap (flowed f map) (F .passes),
-          )
+          let W = R .formed in
+          let F = keeps-flow f (W .places) B (W .records) (W .heads) (R .assignment) (R .keeps) in
+          (finished f map (F .known), flow-verdict f map W room ∙ ap (flowed f map) (F .passes))
+
+  module _ (W : Formed f) (room : mapSize f ≤ length map) where
+    -- a file that 1 to 4 do not refuse is refused exactly when no assignment keeps the rules; that targets are right is one of them
+    pub refused-exactly :
+        ((n : ℕ) × (p : ℕ) × (verdictOf f map ≡ refuse n p (wiped f map))) ↔ ((A : Assignment) → Keeps f A → ⊥)
+    refused-exactly = (λ r A K. never r (passes-exactly room .1 (record { formed = W; assignment = A; keeps = K })), λ n. go n (flow f) refl)
+      where
+        never : (n : ℕ) × (p : ℕ) × (verdictOf f map ≡ refuse n p (wiped f map)) → (new : List ℕ) × (verdictOf f map ≡ pass new) → ⊥
+        never r s = let x = r .2 in let y = s .1 in let z : true ≡ false = cc in true≢false z
+
+        go : ((A : Assignment) → Keeps f A → ⊥) → (r : Result Known) → flow f ≡ r →
+            (n : ℕ) × (p : ℕ) × (verdictOf f map ≡ refuse n p (wiped f map))
+        go w (refused n p) x = (n, p, flow-verdict f map W room ∙ ap (flowed f map) x)
+        go w (passed k) x = absurd (w (stateAt k) (flow-keeps f (W .places) B (W .records) (W .heads) k x))
+
+    -- with nothing in it that 5 is for, it is refused at an instruction, by 6 to 9
+    pub refused-late : ((p : ℕ) → Mem p (instructions f) → All (targetTests f p (insAt f p))) → (n q : ℕ) (new : List ℕ) →
+        verdictOf f map ≡ refuse n q new → Late n × Mem q (instructions f) × (new ≡ wiped f map)
+    refused-late t n q new e = go (flow f) refl (sym (flow-verdict f map W room) ∙ e)
+      where
+        go : (r : Result Known) → flow f ≡ r → flowed f map r ≡ refuse n q new → Late n × Mem q (instructions f) × (new ≡ wiped f map)
+        go (refused m p) w x =
+            let a : m ≡ n = cc in
+            let b : p ≡ q = cc in
+            let l = flow-late f n q t (w ∙ (λ i. refused (a i) (b i))) in
+            (l .0, l .1, cc)
+        go (passed k) w x = let z : true ≡ false = cc in absurd (true≢false z)

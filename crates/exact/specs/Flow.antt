@@ -13,11 +13,11 @@ use lib.ListN.{length}
 use borrow.Author.Tests.{eqb-true, eqb-false, eq-eqb, ne-eqb}
 use Rattle.model.specs.Choice.{if_then_else_, Test, all, All, all-true, true-all, Mem, member}
 use Rattle.model.specs.File.{byteAt, Ins, basic, jump, branch, branchKeep, call, return, enter, exit, raise, insOf, insAt, starts, recordsOf, after, procs, headOf, entry, procAt, instructions, paramsMain, paramsPtr, mostMain, mostPtr, headTests}
-use Rattle.model.specs.Checker.{none, State, state, isSet, Known, stateAt, first, firsts, outer, effectOf, moved, goesOn, handlerAt, passes, own, targetTests, nextTests, depthTests, leaveTests, Step, bad, next, Result, refused, passed, need, passAll, takeWith, take, takeAll, flow}
+use Rattle.model.specs.Checker.{none, State, state, unset, isSet, sameState, Known, stateAt, first, firsts, outer, effectOf, moved, goesOn, handlerAt, passes, own, targetTests, nextTests, depthTests, leaveTests, Step, bad, next, Result, refused, passed, need, meet, andThen, goOn, passOne, passAll, takeWith, take, takeAll, flow}
 use Rattle.model.specs.Rules.{Assignment, Opens, Fine, First, Got, Keeps}
 use Rattle.model.specs.Claim.{Bytes}
 use Rattle.exact.specs.Pass as Pass
-use Rattle.exact.specs.Pass.{and-true, Set, Sent, Linked, outer-none, at, Code, Taken, Laws, Ran, ran, Found, found}
+use Rattle.exact.specs.Pass.{and-true, Set, Sent, Linked, outer-none, at, Places, unset-at, Code, Taken, Laws, Ran, ran, ran-places, Found, found}
 use Rattle.exact.specs.Walk.{member-in, in-member, HeadsHold, after-above, instructions-rise, proc-below, entry-in, entry-proc}
 
 -- only code 160 opens a handler
@@ -78,7 +78,7 @@ record Moves (f : List ℕ) (p : ℕ) (s o : State) (q : ℕ) (u : State) : Type
   depths : Depths f p s u
   inner : Inner f p s o u
 
-own-in : (f : List ℕ) (p q : ℕ) → own f p q ≡ true → Mem q (instructions f) × (procAt f q ≡ procAt f p)
+pub own-in : (f : List ℕ) (p q : ℕ) → own f p q ≡ true → Mem q (instructions f) × (procAt f q ≡ procAt f p)
 unfolding own
 own-in f p q e =
     let a = and-true (member q (instructions f)) (eqb (procAt f q) (procAt f p)) e in
@@ -125,27 +125,36 @@ code f =
       run = takeAll f;
     }
 
+-- what is done from each test of an instruction on
+abbrev from9 : List ℕ → ℕ → Known → Step Known
+from9 f p k = passAll (passes f p (insAt f p) (stateAt k p) (at (stateAt k) p)) k
+
+abbrev from8 : List ℕ → ℕ → Known → Step Known
+from8 f p k = need (all (leaveTests f p (insAt f p) (stateAt k p))) 8 (from9 f p k)
+
+abbrev from7 : List ℕ → ℕ → Known → Step Known
+from7 f p k = need (all (depthTests f p (insAt f p) (stateAt k p) (at (stateAt k) p))) 7 (from8 f p k)
+
+abbrev from6 : List ℕ → ℕ → Known → Step Known
+from6 f p k = need (isSet (stateAt k p) && all (nextTests f p (insAt f p))) 6 (from7 f p k)
+
 step-taken : (f : List ℕ) (p : ℕ) (k k′ : Known) → take f p k ≡ next k′ → Taken (code f) p k k′
 unfolding take takeWith
 step-taken f p k k′ e =
     let i = insAt f p in
     let s = stateAt k p in
-    let o = outer (stateAt k) s in
-    let c8 : Step Known = passAll (passes f p i s o) k in
-    let c7 : Step Known = need (all (leaveTests f p i s)) 8 c8 in
-    let c6 : Step Known = need (all (depthTests f p i s o)) 7 c7 in
-    let c5 : Step Known = need (isSet s && all (nextTests f p i)) 6 c6 in
-    let a = need-inv (all (targetTests f p i)) 5 c5 k′ e in
-    let b = need-inv (isSet s && all (nextTests f p i)) 6 c6 k′ (a .1) in
-    let b′ = and-true (isSet s) (all (nextTests f p i)) (b .0) in
-    let c = need-inv (all (depthTests f p i s o)) 7 c7 k′ (b .1) in
-    let d = need-inv (all (leaveTests f p i s)) 8 c8 k′ (c .1) in
+    let o = at (stateAt k) p in
+    let a = need-inv (all (targetTests f p i)) 5 (from6 f p k) k′ e in
+    let b = need-inv (isSet s && all (nextTests f p i)) 6 (from7 f p k) k′ (a .1) in
+    let n = and-true (isSet s) (all (nextTests f p i)) (b .0) in
+    let c = need-inv (all (depthTests f p i s o)) 7 (from8 f p k) k′ (b .1) in
+    let d = need-inv (all (leaveTests f p i s)) 8 (from9 f p k) k′ (c .1) in
     record {
-      set = b′ .0;
+      set = n .0;
       fits =
           record {
             targets = all-true (targetTests f p i) (a .0);
-            nexts = all-true (nextTests f p i) (b′ .1);
+            nexts = all-true (nextTests f p i) (n .1);
             depths = all-true (depthTests f p i s o) (c .0);
             leaves = all-true (leaveTests f p i s) (d .0);
           };
@@ -164,6 +173,57 @@ taken-step f p k k′ T =
       true-all (leaveTests f p (insAt f p) (stateAt k p)) (F .leaves),
     )
     (T .puts)
+
+-- with right targets an instruction is refused by 6 to 9 only
+abbrev pub Late : ℕ → Type 0
+Late n = (6 ≤ n) × (n ≤ 9)
+
+need-late : (t : Bool) (m : ℕ) (c : Step Known) (n : ℕ) → Late m → (c ≡ bad n → Late n) → need t m c ≡ bad n → Late n
+need-late true m c n l r e = r e
+need-late false m c n l r e = let z : m ≡ n = cc in rw z at l
+
+meet-late : (a b : Bool) (x y : Known) (n : ℕ) → meet a b x y ≡ bad n → Late n
+meet-late false b x y n e = let z : 9 ≡ n = cc in (omega arith, omega arith)
+meet-late true true x y n e = let z : 9 ≡ n = cc in (omega arith, omega arith)
+meet-late true false x y n e = let z : 9 ≡ n = cc in (omega arith, omega arith)
+
+puts-late : (os : List (ℕ × State)) (k : Known) (n : ℕ) → passAll os k ≡ bad n → Late n
+puts-late [] k n e = let z : 9 ≡ n = cc in (omega arith, omega arith)
+puts-late (o ∷ os) k n e = go (passOne k (o .0) (o .1)) refl (λ m. puts-late os m n) e
+  where
+    go : (c : Step Known) → passOne k (o .0) (o .1) ≡ c → ((m : Known) → passAll os m ≡ bad n → Late n) →
+        andThen c (λ m. passAll os m) ≡ bad n → Late n
+    go (bad m) w r e = let z : m ≡ n = cc in rw z at (meet-late (isSet (stateAt k (o .0))) (sameState (stateAt k (o .0)) (o .1)) k (o ∷ k) m w)
+    go (next m) w r e = r m e
+
+take-late : (f : List ℕ) (p : ℕ) (k : Known) (n : ℕ) → All (targetTests f p (insAt f p)) → take f p k ≡ bad n → Late n
+unfolding take takeWith
+take-late f p k n t e =
+    let i = insAt f p in
+    let s = stateAt k p in
+    let o = at (stateAt k) p in
+    let w : from6 f p k ≡ bad n = rw (true-all (targetTests f p i) t) at e in
+    need-late (isSet s && all (nextTests f p i)) 6 (from7 f p k) n (omega arith, omega arith)
+    (need-late (all (depthTests f p i s o)) 7 (from8 f p k) n (omega arith, omega arith)
+    (need-late (all (leaveTests f p i s)) 8 (from9 f p k) n (omega arith, omega arith) (puts-late (passes f p i s o) k n))) w
+
+pub flow-late : (f : List ℕ) (n q : ℕ) → ((p : ℕ) → Mem p (instructions f) → All (targetTests f p (insAt f p))) →
+    flow f ≡ refused n q → Late n × Mem q (instructions f)
+unfolding flow takeAll
+flow-late f n q t = late (instructions f) (firsts f (procs f)) t
+  where
+    late : (ps : List ℕ) (k : Known) → ((p : ℕ) → Mem p ps → All (targetTests f p (insAt f p))) →
+        takeAll f ps k ≡ refused n q → Late n × Mem q ps
+    late [] k t e = let z : true ≡ false = cc in absurd (true≢false z)
+    late (p ∷ ps) k t e = go (take f p k) refl (λ m. late ps m (λ r h. t r (inr h))) e
+      where
+        go : (c : Step Known) → take f p k ≡ c → ((m : Known) → takeAll f ps m ≡ refused n q → Late n × Mem q ps) →
+            goOn p c (λ m. takeAll f ps m) ≡ refused n q → Late n × Mem q (p ∷ ps)
+        go (bad m) w r e =
+            let z : m ≡ n = cc in
+            let y : p ≡ q = cc in
+            (rw z at (take-late f p k m (t p (inl refl)) w), inl (sym y))
+        go (next m) w r e = let x = r m e in (x .0, inr (x .1))
 
 -- a state with a byte for its main depth is known
 byte-set : (s : State) → s .main < 256 → Set s
@@ -413,6 +473,21 @@ module _ (f ps : List ℕ) (B : Bytes f) (e : recordsOf f ≡ starts ps) (H : He
       came : (q : ℕ) → Set (stateAt (firsts f (procs f)) q) ⊎ Pass.Got (code f) (instructions f) (stateAt k) q → First f q ⊎ Got f (stateAt k) q
       came q (inl h) = let a = firsts-from f (procs f) q h in inl (record { number = a .0; below = a .1; is = a .2 })
       came q (inr g) = inr (record { from = g .from; there = g .there; earlier = g .earlier; state-is = g .sent })
+
+  -- where no instruction starts, no state is known
+  firsts-in : (n : ℕ) → n ≤ procs f → Places (λ r. Mem r (instructions f)) (firsts f n)
+  unfolding firsts
+  firsts-in zero l r s h = absurd h
+  firsts-in (suc n) l r s (inl h) = rw (ap (λ (x : ℕ × State). x .0) h) (entry-in f ps e n (H n (omega arith)))
+  firsts-in (suc n) l r s (inr h) = firsts-in n (omega arith) r s h
+
+  pub flow-rest : (k : Known) → flow f ≡ passed k → (q : ℕ) → (Mem q (instructions f) → ⊥) → stateAt k q ≡ unset
+  unfolding flow
+  flow-rest k w q n =
+      unset-at k q
+      (λ s h. n
+      (ran-places (code f) (laws f B) (λ r. Mem r (instructions f)) (λ p s o F r u m. moves f p s o F r u m .there) (instructions f)
+      (firsts f (procs f)) k (firsts-in (procs f) (omega arith)) w q s h))
 
   -- where an assignment keeps the rules, the pass goes through and has its states
   pub record Flows (A : Assignment) : Type 0 where

@@ -11,7 +11,7 @@ use native.Mathlib.Omega.{arith}
 use lib.Dec.{eqb}
 use borrow.Author.Tests.{eqb-true, eq-eqb, ne-eqb}
 use Rattle.model.specs.Choice.{if_then_else_, Mem}
-use Rattle.model.specs.Checker.{none, State, state, isSet, sameState, Known, stateAt, outer, Step, bad, next, Result, refused, passed, meet, andThen, goOn, passOne, passAll}
+use Rattle.model.specs.Checker.{none, State, state, unset, isSet, sameState, Known, stateAt, outer, Step, bad, next, Result, refused, passed, meet, andThen, goOn, passOne, passAll}
 
 pub and-true : (a b : Bool) → (a && b) ≡ true → (a ≡ true) × (b ≡ true)
 and-true true b e = (refl, e)
@@ -139,6 +139,34 @@ put-all (o ∷ os) k k′ g e =
         came : (r : ℕ) → Set (stateAt m r) ⊎ Sent r (stateAt k′ r) os → Set (stateAt k r) ⊎ Sent r (stateAt k′ r) (o ∷ os)
         came r (inl h) = first r h (P .from r h)
         came r (inr h) = inr (inr h)
+
+-- the places with a state have a property In; without one a place is unset
+abbrev pub Places : (ℕ → Type 0) → List (ℕ × State) → Type 0
+Places In k = (q : ℕ) (s : State) → Sent q s k → In q
+
+places-all : (In : ℕ → Type 0) (os : List (ℕ × State)) (k k′ : Known) → Places In os → Places In k → passAll os k ≡ next k′ → Places In k′
+places-all In [] k k′ w v e = let z : k ≡ k′ = cc in subst (λ (x : Known). Places In x) z v
+places-all In (o ∷ os) k k′ w v e =
+    let a = andThen-inv (passOne k (o .0) (o .1)) (λ x. passAll os x) k′ e in
+    places-all In os (a .0) k′ (λ q s h. w q s (inr h))
+    (pick (a .0) (meet-inv (isSet (stateAt k (o .0))) (sameState (stateAt k (o .0)) (o .1)) k (o ∷ k) (a .0) (a .1))) (a .2)
+  where
+    one : Places In (o ∷ k)
+    one q s (inl h) = w q s (inl h)
+    one q s (inr h) = v q s h
+
+    pick : (m : Known) → ((isSet (stateAt k (o .0)) ≡ false) × (o ∷ k ≡ m)) ⊎
+        ((isSet (stateAt k (o .0)) ≡ true) × (sameState (stateAt k (o .0)) (o .1) ≡ true) × (k ≡ m)) → Places In m
+    pick m (inl h) = subst (λ (x : Known). Places In x) (h .1) one
+    pick m (inr h) = subst (λ (x : Known). Places In x) (h .2) v
+
+pub unset-at : (k : Known) (q : ℕ) → ((s : State) → Sent q s k → ⊥) → stateAt k q ≡ unset
+unset-at [] q w = refl
+unset-at (r ∷ k) q w = go (eqb q (r .0)) refl (unset-at k q (λ s h. w s (inr h)))
+  where
+    go : (t : Bool) → eqb q (r .0) ≡ t → stateAt k q ≡ unset → (if t then r .1 else stateAt k q) ≡ unset
+    go true e u = absurd (w (r .1) (inl (pair (eqb-true q (r .0) e) refl)))
+    go false e u = u
 
 -- the innermost open handler is none, or has a known state
 abbrev Held : Known → ℕ → Type 0
@@ -315,6 +343,16 @@ module _ (C : Code) where
             came : (q : ℕ) → Mem q (p ∷ ps) → Set (stateAt k q) ⊎ Got (p ∷ ps) (stateAt k′) q
             came q (inl e) = inl (rw e (T .set))
             came q (inr h) = later q h (R .got q h)
+
+    -- only the places that states are passed to get one
+    pub ran-places : (In : ℕ → Type 0) → ((p : ℕ) (s o : State) → Fits p s o → Places In (sends p s o)) → (ps : List ℕ) (k k′ : Known) →
+        Places In k → run ps k ≡ passed k′ → Places In k′
+    ran-places In w [] k k′ v e = let z : k ≡ k′ = let y = run-none k in cc in subst (λ (x : Known). Places In x) z v
+    ran-places In w (p ∷ ps) k k′ v e =
+        let b = goOn-inv p (step p k) (run ps) k′ (sym (run-more p ps k) ∙ e) in
+        let T = step-taken p k (b .0) (b .1) in
+        ran-places In w ps (b .0) k′
+        (places-all In (sending (stateAt k) p) k (b .0) (w p (stateAt k p) (at (stateAt k) p) (T .fits)) v (T .puts)) (b .2)
 
     meet-ok : (a b : Bool) (x y : Known) → (a ≡ true → b ≡ true) → (m : Known) × (meet a b x y ≡ next m)
     meet-ok false b x y h = (y, refl)
