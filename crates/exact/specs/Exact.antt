@@ -3,8 +3,8 @@
 use Prim.Native.Nat.{ℕ, zero, suc, _+_, _*_, _<_, _≤_}
 use mathlib.Core.Bool.{Bool, true, false, true≢false, _&&_}
 use mathlib.Core.List.{List, [], _∷_, _++_}
-use mathlib.Core.Logic.{_⊎_, inl, inr, _↔_}
-use mathlib.Core.Path.{_≡_, refl, ap, sym, _∙_, subst}
+use mathlib.Core.Logic.{_↔_}
+use mathlib.Core.Path.{_≡_, refl, ap, sym, _∙_}
 use native.Mathlib.Omega.{arith}
 use lib.Dec.{leb}
 use lib.ListN.{length, getD, drop, length-append, length-drop, List·getD-append}
@@ -12,7 +12,7 @@ use lib.Seq.{drop-at}
 use borrow.Author.Tests.{leb-true, le-leb}
 use Rattle.model.specs.Choice.{if_then_else_, All, Mem}
 use Rattle.model.specs.File.{fileMost, Records, broken, starts, recordsOf, Heads, wrong, right, headsOf, instructions, insAt}
-use Rattle.model.specs.Checker.{none, State, state, unset, Known, stateAt, Result, refused, passed, targetTests, flow, mapFrom}
+use Rattle.model.specs.Checker.{none, state, unset, Known, stateAt, Result, refused, passed, targetTests, flow, mapFrom}
 use Rattle.model.specs.Rules.{Assignment, Keeps}
 use Rattle.model.specs.Sound.{mainAt, ptrAt, innerAt}
 use Rattle.model.specs.Calls.{mapSize, overMap, wiped, Verdict, pass, refuse, flowed, headed, scanned, verdictOf}

@@ -1,24 +1,23 @@
 -- The checker's pass over a file keeps the laws of a forward pass, so that its states are those of the one assignment that keeps
 -- document 01's rules; and an assignment that keeps them has depths within its procedure's and open handlers below their places,
 -- because each state comes from an earlier instruction of the same procedure.
-use Prim.Native.Nat.{ℕ, zero, suc, _+_, _-_, _<_, _≤_}
-use mathlib.Core.Bool.{Bool, true, false, true≢false, not, _&&_}
+use Prim.Native.Nat.{ℕ, zero, suc, _+_, _<_, _≤_}
+use mathlib.Core.Bool.{Bool, true, false, true≢false, _&&_}
 use mathlib.Core.List.{List, [], _∷_}
 use mathlib.Core.Logic.{_⊎_, inl, inr}
 use mathlib.Core.Path.{_≡_, refl, ap, sym, _∙_, subst}
 use native.Mathlib.Decide.{ℕ-discrete}
 use native.Mathlib.Omega.{arith}
 use lib.Dec.{eqb}
-use lib.ListN.{length}
-use borrow.Author.Tests.{eqb-true, eqb-false, eq-eqb, ne-eqb}
-use Rattle.model.specs.Choice.{if_then_else_, Test, all, All, all-true, true-all, Mem, member}
-use Rattle.model.specs.File.{byteAt, Ins, basic, jump, branch, branchKeep, call, return, enter, exit, raise, insOf, insAt, starts, recordsOf, after, procs, headOf, entry, procAt, instructions, paramsMain, paramsPtr, mostMain, mostPtr, headTests}
-use Rattle.model.specs.Checker.{none, State, state, unset, isSet, sameState, Known, stateAt, first, firsts, outer, effectOf, moved, goesOn, handlerAt, passes, own, targetTests, nextTests, depthTests, leaveTests, Step, bad, next, Result, refused, passed, need, meet, andThen, goOn, passOne, passAll, takeWith, take, takeAll, flow}
+use borrow.Author.Tests.{eqb-true, eqb-false, ne-eqb}
+use Rattle.model.specs.Choice.{if_then_else_, all, All, all-true, true-all, Mem, member}
+use Rattle.model.specs.File.{byteAt, Ins, basic, jump, branch, branchKeep, call, return, enter, exit, raise, insOf, insAt, starts, recordsOf, procs, headOf, entry, procAt, instructions, paramsMain, mostMain, mostPtr, headTests}
+use Rattle.model.specs.Checker.{none, State, unset, isSet, sameState, Known, stateAt, first, firsts, effectOf, goesOn, passes, own, targetTests, nextTests, depthTests, leaveTests, Step, bad, next, refused, passed, need, meet, andThen, goOn, passOne, passAll, takeWith, take, takeAll, flow}
 use Rattle.model.specs.Rules.{Assignment, Opens, Fine, First, Got, Keeps}
 use Rattle.model.specs.Claim.{Bytes}
 use Rattle.exact.specs.Pass as Pass
-use Rattle.exact.specs.Pass.{and-true, Set, Sent, Linked, outer-none, at, Places, unset-at, Code, Taken, Laws, Ran, ran, ran-places, Found, found}
-use Rattle.exact.specs.Walk.{member-in, in-member, HeadsHold, after-above, instructions-rise, proc-below, entry-in, entry-proc}
+use Rattle.exact.specs.Pass.{and-true, Set, Sent, Linked, outer-none, outerAt, Places, unset-at, Code, Taken, Laws, Ran, ran, ran-places, Found, found}
+use Rattle.exact.specs.Walk.{member-in, HeadsHold, instructions-rise, entry-in, entry-proc}
 
 -- only code 160 opens a handler
 abbrev isEnter : Ins → Bool
@@ -127,13 +126,13 @@ code f =
 
 -- what is done from each test of an instruction on
 abbrev from9 : List ℕ → ℕ → Known → Step Known
-from9 f p k = passAll (passes f p (insAt f p) (stateAt k p) (at (stateAt k) p)) k
+from9 f p k = passAll (passes f p (insAt f p) (stateAt k p) (outerAt (stateAt k) p)) k
 
 abbrev from8 : List ℕ → ℕ → Known → Step Known
 from8 f p k = need (all (leaveTests f p (insAt f p) (stateAt k p))) 8 (from9 f p k)
 
 abbrev from7 : List ℕ → ℕ → Known → Step Known
-from7 f p k = need (all (depthTests f p (insAt f p) (stateAt k p) (at (stateAt k) p))) 7 (from8 f p k)
+from7 f p k = need (all (depthTests f p (insAt f p) (stateAt k p) (outerAt (stateAt k) p))) 7 (from8 f p k)
 
 abbrev from6 : List ℕ → ℕ → Known → Step Known
 from6 f p k = need (isSet (stateAt k p) && all (nextTests f p (insAt f p))) 6 (from7 f p k)
@@ -143,7 +142,7 @@ unfolding take takeWith
 step-taken f p k k′ e =
     let i = insAt f p in
     let s = stateAt k p in
-    let o = at (stateAt k) p in
+    let o = outerAt (stateAt k) p in
     let a = need-inv (all (targetTests f p i)) 5 (from6 f p k) k′ e in
     let b = need-inv (isSet s && all (nextTests f p i)) 6 (from7 f p k) k′ (a .1) in
     let n = and-true (isSet s) (all (nextTests f p i)) (b .0) in
@@ -169,7 +168,7 @@ taken-step f p k k′ T =
       true-all (targetTests f p (insAt f p)) (F .targets),
       T .set,
       true-all (nextTests f p (insAt f p)) (F .nexts),
-      true-all (depthTests f p (insAt f p) (stateAt k p) (at (stateAt k) p)) (F .depths),
+      true-all (depthTests f p (insAt f p) (stateAt k p) (outerAt (stateAt k) p)) (F .depths),
       true-all (leaveTests f p (insAt f p) (stateAt k p)) (F .leaves),
     )
     (T .puts)
@@ -201,7 +200,7 @@ unfolding take takeWith
 take-late f p k n t e =
     let i = insAt f p in
     let s = stateAt k p in
-    let o = at (stateAt k) p in
+    let o = outerAt (stateAt k) p in
     let w : from6 f p k ≡ bad n = rw (true-all (targetTests f p i) t) at e in
     need-late (isSet s && all (nextTests f p i)) 6 (from7 f p k) n (omega arith, omega arith)
     (need-late (all (depthTests f p i s o)) 7 (from8 f p k) n (omega arith, omega arith)
@@ -259,10 +258,13 @@ laws f B =
       sent-inner = sent-inner f;
     }
 
--- the state at a place: depths within its procedure's, and no open handler, or a 160 of the procedure below it
+-- at q no handler is open, or the one opened at h, a 160 of the procedure below q
+abbrev pub Open : List ℕ → ℕ → ℕ → Type 0
+Open f q h = (h ≡ none) ⊎ (Opens f q h × (h < q))
+
 pub record Shape (f : List ℕ) (A : Assignment) (q : ℕ) : Type 0 where
   pub within : Within f q (A q)
-  pub third : (A q .inner ≡ none) ⊎ (Opens f q (A q .inner) × (A q .inner < q))
+  pub third : Open f q (A q .inner)
 
 -- the states known at the beginning are those of the first instructions
 firsts-inner : (f : List ℕ) (n q : ℕ) → stateAt (firsts f n) q .inner ≡ none
@@ -314,7 +316,7 @@ module _ (f ps : List ℕ) (B : Bytes f) (e : recordsOf f ≡ starts ps) (H : He
     fine : (p : ℕ) → Mem p (instructions f) → Fine f A p
     got : (q : ℕ) → Mem q (instructions f) → First f q ⊎ Got f A q
 
-  fits : (A : Assignment) (p : ℕ) → Fine f A p → Fits f p (A p) (at A p)
+  fits : (A : Assignment) (p : ℕ) → Fine f A p → Fits f p (A p) (outerAt A p)
   fits A p F = record { targets = F .targets; nexts = F .nexts; depths = F .depths; leaves = F .leaves }
 
   -- from them it follows that depths lie within the procedure's, and that a third number is a 160 of the procedure, below
@@ -340,8 +342,8 @@ module _ (f ps : List ℕ) (B : Bytes f) (e : recordsOf f ≡ starts ps) (H : He
           p : ℕ
           p = g .from
 
-          M : Moves f (g .from) (A (g .from)) (at A (g .from)) q (A q)
-          M = moves f p (A p) (at A p) (fits A p (R .fine p (g .there))) q (A q) (g .state-is)
+          M : Moves f (g .from) (A (g .from)) (outerAt A (g .from)) q (A q)
+          M = moves f p (A p) (outerAt A p) (fits A p (R .fine p (g .there))) q (A q) (g .state-is)
 
           P : Shape f A (g .from)
           P = r p (g .earlier) (g .there)
@@ -351,33 +353,33 @@ module _ (f ps : List ℕ) (B : Bytes f) (e : recordsOf f ≡ starts ps) (H : He
           near (inr d) = rw (M .same-proc, d .0, d .1) (P .within)
 
           -- a handler that is open at an earlier place of the procedure
-          still : (i : ℕ) → i < q → procAt f q ≡ procAt f i → Shape f A i → (h : ℕ) → h ≡ A i .inner → (h ≡ none) ⊎ (Opens f q h × (h < q))
+          still : (i : ℕ) → i < q → procAt f q ≡ procAt f i → Shape f A i → (h : ℕ) → h ≡ A i .inner → Open f q h
           still i l s S h e = pick (S .third)
             where
-              pick : (A i .inner ≡ none) ⊎ (Opens f i (A i .inner) × (A i .inner < i)) → (h ≡ none) ⊎ (Opens f q h × (h < q))
+              pick : Open f i (A i .inner) → Open f q h
               pick (inl z) = inl (e ∙ z)
               pick (inr z) =
                   rw e
                   (inr (record { there = z .0 .there; opens = z .0 .opens; same-proc = z .0 .same-proc ∙ sym s }, omega (arith, z .1)))
 
-          opened : Inner f (g .from) (A (g .from)) (at A (g .from)) (A q) → (A q .inner ≡ none) ⊎ (Opens f q (A q .inner) × (A q .inner < q))
+          opened : Inner f (g .from) (A (g .from)) (outerAt A (g .from)) (A q) → Open f q (A q .inner)
           opened (inl z) = still p (g .earlier) (M .same-proc) P (A q .inner) z
           opened (inr (inl z)) =
               rw (z .0) (inr (record { there = g .there; opens = z .1; same-proc = sym (M .same-proc) }, g .earlier))
           opened (inr (inr z)) = outside (P .third)
             where
-              none-open : A p .inner ≡ none → (A q .inner ≡ none) ⊎ (Opens f q (A q .inner) × (A q .inner < q))
+              none-open : A p .inner ≡ none → Open f q (A q .inner)
               none-open w = inl (z ∙ ap (λ (x : State). x .inner) (outer-none A (A p) w))
 
-              outside : (A p .inner ≡ none) ⊎ (Opens f p (A p .inner) × (A p .inner < p)) →
-                  (A q .inner ≡ none) ⊎ (Opens f q (A q .inner) × (A q .inner < q))
+              outside : Open f p (A p .inner) →
+                  Open f q (A q .inner)
               outside (inl w) = none-open w
               outside (inr w) = pick (ℕ-discrete (A p .inner) none)
                 where
                   below : A p .inner < q
                   below = omega (arith, w .1, g .earlier)
 
-                  pick : Dec (A p .inner ≡ none) → (A q .inner ≡ none) ⊎ (Opens f q (A q .inner) × (A q .inner < q))
+                  pick : Dec (A p .inner ≡ none) → Open f q (A q .inner)
                   pick (yes x) = none-open x
                   pick (no x) =
                       still (A p .inner) below (M .same-proc ∙ sym (w .0 .same-proc)) (r (A p .inner) below (w .0 .there)) (A q .inner)
@@ -392,7 +394,7 @@ module _ (f ps : List ℕ) (B : Bytes f) (e : recordsOf f ≡ starts ps) (H : He
         got = R .got;
       }
     where
-      opens : {p h : ℕ} → (h ≡ none) ⊎ (Opens f p h × (h < p)) → (h ≡ none) ⊎ Opens f p h
+      opens : {p h : ℕ} → Open f p h → (h ≡ none) ⊎ Opens f p h
       opens (inl z) = inl z
       opens (inr z) = inr (z .0)
 
@@ -409,15 +411,15 @@ module _ (f ps : List ℕ) (B : Bytes f) (e : recordsOf f ≡ starts ps) (H : He
       start : (n : ℕ) → n < procs f → Z (entry f n) ≡ first f n .1
       start n l = sym (w (entry f n) (entry-in f ps e n (H n l))) ∙ K .enters n l
 
-      same-outer : (p : ℕ) → Mem p (instructions f) → at A p ≡ at Z p
+      same-outer : (p : ℕ) → Mem p (instructions f) → outerAt A p ≡ outerAt Z p
       same-outer p m = pick (K .third p m)
         where
-          pick : (A p .inner ≡ none) ⊎ Opens f p (A p .inner) → at A p ≡ at Z p
+          pick : (A p .inner ≡ none) ⊎ Opens f p (A p .inner) → outerAt A p ≡ outerAt Z p
           pick (inl z) = rw (← (w p m)) (outer-none A (A p) z ∙ sym (outer-none Z (A p) z))
           pick (inr o) = rw (← (w p m), w (A p .inner) (o .there))
 
       same-passes : (p : ℕ) → Mem p (instructions f) →
-          passes f p (insAt f p) (A p) (at A p) ≡ passes f p (insAt f p) (Z p) (at Z p)
+          passes f p (insAt f p) (A p) (outerAt A p) ≡ passes f p (insAt f p) (Z p) (outerAt Z p)
       same-passes p m = let a = w p m in let b = same-outer p m in cc
 
       good : (p : ℕ) → Mem p (instructions f) → Fine f Z p
@@ -429,8 +431,8 @@ module _ (f ps : List ℕ) (B : Bytes f) (e : recordsOf f ≡ starts ps) (H : He
             depths = rw (same-outer p m, w p m) at (F .depths);
             leaves = rw (w p m) at (F .leaves);
             agrees = λ q t h.
-                let s : Sent q t (passes f p (insAt f p) (A p) (at A p)) = rw (same-passes p m) h in
-                sym (w q (moves f p (A p) (at A p) (fits A p F) q t s .there)) ∙ F .agrees q t s;
+                let s : Sent q t (passes f p (insAt f p) (A p) (outerAt A p)) = rw (same-passes p m) h in
+                sym (w q (moves f p (A p) (outerAt A p) (fits A p F) q t s .there)) ∙ F .agrees q t s;
           }
 
       came : (q : ℕ) → Mem q (instructions f) → First f q ⊎ Got f A q → First f q ⊎ Got f Z q
