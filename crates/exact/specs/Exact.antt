@@ -144,7 +144,7 @@ module _ (f map : List ℕ) where
       }
 
   -- past refusals 1 to 4 the verdict is the pass's
-  flow-verdict : Formed f → mapSize f ≤ length map → verdictOf f map ≡ flowed f map (flow f)
+  pub flow-verdict : Formed f → mapSize f ≤ length map → verdictOf f map ≡ flowed f map (flow f)
   unfolding verdictOf
   flow-verdict F l =
       rw (
@@ -154,6 +154,21 @@ module _ (f map : List ℕ) where
         F .records,
         right-heads f (F .heads),
       )
+
+-- the map of a file that passes, handed in again, passes and stays
+module _ (f map new : List ℕ) (e : verdictOf f map ≡ pass new) where
+  pub passed-length : length new ≡ length map
+  passed-length = let P = passed-as f map new e in ap length (P .is) ∙ finished-length f map (P .known) (P .room)
+
+  pub passed-again : verdictOf f new ≡ pass new
+  passed-again =
+      let P = passed-as f map new e in
+      let l = passed-length in
+      let r = P .room in
+      let w = P .is in
+      flow-verdict f new (P .formed) (omega arith)
+      ∙ ap (flowed f new) (P .flows)
+      ∙ ap pass (ap (λ (x : List ℕ). finished f x (P .known)) w ∙ finished-again f map (P .known) ∙ sym w)
 
 -- what document 01 asks of a file
 pub record Right (f : List ℕ) : Type 0 where
@@ -195,19 +210,6 @@ module _ (f map : List ℕ) (B : Bytes f) where
         let F = keeps-flow f (W .places) B (W .records) (W .heads) A K in
         let w : F .known ≡ P .known = let a = F .passes in let b = P .flows in cc in
         F .same p m ∙ ap (λ (k : Known). stateAt k p) w ∙ known-is p m
-
-    -- the map handed in again passes, and stays
-    pub passed-length : length new ≡ length map
-    passed-length = ap length (P .is) ∙ finished-length f map (P .known) (P .room)
-
-    pub passed-again : verdictOf f new ≡ pass new
-    passed-again =
-        let l = passed-length in
-        let r = P .room in
-        let w = P .is in
-        flow-verdict f new W (omega arith)
-        ∙ ap (flowed f new) (P .flows)
-        ∙ ap pass (ap (λ (x : List ℕ). finished f x (P .known)) w ∙ finished-again f map (P .known) ∙ sym w)
 
   -- a file passes exactly when the rules hold of it
   pub passes-exactly : mapSize f ≤ length map → ((new : List ℕ) × (verdictOf f map ≡ pass new)) ↔ Right f
