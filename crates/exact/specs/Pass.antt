@@ -11,7 +11,7 @@ use native.Mathlib.Omega.{arith}
 use lib.Dec.{eqb}
 use borrow.Author.Tests.{eqb-true, eq-eqb, ne-eqb}
 use Rattle.model.specs.Choice.{if_then_else_, Mem}
-use Rattle.model.specs.Checker.{none, State, state, isSet, sameState, Known, stateAt, outer, Step, bad, next, Result, refused, passed, meet, andThen, goOn, passOne, passAll}
+use Rattle.model.specs.Checker.{none, State, state, unset, isSet, sameState, Known, stateAt, outer, Step, bad, next, Result, passed, meet, andThen, goOn, passOne, passAll}
 
 pub and-true : (a b : Bool) → (a && b) ≡ true → (a ≡ true) × (b ≡ true)
 and-true true b e = (refl, e)
@@ -34,12 +34,6 @@ state-same : (s : State) → sameState s s ≡ true
 state-same s = rw (eq-eqb (s .main) (s .main) refl, eq-eqb (s .ptr) (s .ptr) refl, eq-eqb (s .inner) (s .inner) refl)
 
 -- a refusal is no step, and no pass
-meet-inv : (a b : Bool) (x y m : Known) → meet a b x y ≡ next m →
-    ((a ≡ false) × (y ≡ m)) ⊎ ((a ≡ true) × (b ≡ true) × (x ≡ m))
-meet-inv false b x y m e = inl (refl, cc)
-meet-inv true true x y m e = inr (refl, refl, cc)
-meet-inv true false x y m e = inr (refl, cc, cc)
-
 andThen-inv : (s : Step Known) (k : Known → Step Known) (m : Known) → andThen s k ≡ next m →
     (m′ : Known) × (s ≡ next m′) × (k m′ ≡ next m)
 andThen-inv (bad n) k m e = (m, cc, cc)
@@ -98,13 +92,24 @@ put-old k q s e = record { grown = λ r h. refl; there = λ r t m. put-in r t m;
     put-in : (r : ℕ) (t : State) → Sent r t ((q, s) ∷ []) → stateAt k r ≡ t
     put-in r t (inl p) = ap (λ (x : ℕ × State). stateAt k (x .0)) p ∙ e ∙ sym (ap (λ (x : ℕ × State). x .1) p)
 
-put-one : (k : Known) (q : ℕ) (s : State) (k′ : Known) → passOne k q s ≡ next k′ → Put k ((q, s) ∷ []) k′
-put-one k q s k′ e = pick (meet-inv (isSet (stateAt k q)) (sameState (stateAt k q) s) k ((q, s) ∷ k) k′ e)
+-- one state passed to a place: it is new there, or the same was there
+abbrev Met : Known → ℕ × State → Known → Type 0
+Met k o m = ((isSet (stateAt k (o .0)) ≡ false) × (o ∷ k ≡ m)) ⊎ ((stateAt k (o .0) ≡ o .1) × (k ≡ m))
+
+met : (k : Known) (o : ℕ × State) (m : Known) → passOne k (o .0) (o .1) ≡ next m → Met k o m
+met k o m e = go (isSet (stateAt k (o .0))) (sameState (stateAt k (o .0)) (o .1)) refl refl e
   where
-    pick : ((isSet (stateAt k q) ≡ false) × ((q, s) ∷ k ≡ k′)) ⊎
-        ((isSet (stateAt k q) ≡ true) × (sameState (stateAt k q) s ≡ true) × (k ≡ k′)) → Put k ((q, s) ∷ []) k′
-    pick (inl h) = subst (λ (x : Known). Put k ((q, s) ∷ []) x) (h .1) (put-new k q s (h .0))
-    pick (inr h) = subst (λ (x : Known). Put k ((q, s) ∷ []) x) (h .2) (put-old k q s (same-state (stateAt k q) s (h .1)))
+    go : (a b : Bool) → isSet (stateAt k (o .0)) ≡ a → sameState (stateAt k (o .0)) (o .1) ≡ b → meet a b k (o ∷ k) ≡ next m → Met k o m
+    go false b x y e = inl (x, cc)
+    go true true x y e = inr (same-state (stateAt k (o .0)) (o .1) y, cc)
+    go true false x y e = inr (cc, cc)
+
+put-one : (k : Known) (o : ℕ × State) (m : Known) → passOne k (o .0) (o .1) ≡ next m → Put k (o ∷ []) m
+put-one k o m e = pick (met k o m e)
+  where
+    pick : Met k o m → Put k (o ∷ []) m
+    pick (inl h) = subst (λ (x : Known). Put k (o ∷ []) x) (h .1) (put-new k (o .0) (o .1) (h .0))
+    pick (inr h) = subst (λ (x : Known). Put k (o ∷ []) x) (h .1) (put-old k (o .0) (o .1) (h .0))
 
 abbrev AllSet : List (ℕ × State) → Type 0
 AllSet os = (q : ℕ) (s : State) → Sent q s os → Set s
@@ -115,7 +120,7 @@ put-all [] k k′ g e =
     subst (λ (x : Known). Put k [] x) w (record { grown = λ r h. refl; there = λ q s h. absurd h; from = λ r h. inl h })
 put-all (o ∷ os) k k′ g e =
     let a = andThen-inv (passOne k (o .0) (o .1)) (λ x. passAll os x) k′ e in
-    joined (a .0) (put-one k (o .0) (o .1) (a .0) (a .1)) (put-all os (a .0) k′ (λ q s h. g q s (inr h)) (a .2))
+    joined (a .0) (put-one k o (a .0) (a .1)) (put-all os (a .0) k′ (λ q s h. g q s (inr h)) (a .2))
   where
     joined : (m : Known) → Put k (o ∷ []) m → Put m os k′ → Put k (o ∷ os) k′
     joined m P R =
@@ -139,6 +144,33 @@ put-all (o ∷ os) k k′ g e =
         came : (r : ℕ) → Set (stateAt m r) ⊎ Sent r (stateAt k′ r) os → Set (stateAt k r) ⊎ Sent r (stateAt k′ r) (o ∷ os)
         came r (inl h) = first r h (P .from r h)
         came r (inr h) = inr (inr h)
+
+-- the places with a state have a property In; without one a place is unset
+abbrev pub Places : (ℕ → Type 0) → List (ℕ × State) → Type 0
+Places In k = (q : ℕ) (s : State) → Sent q s k → In q
+
+places-all : (In : ℕ → Type 0) (os : List (ℕ × State)) (k k′ : Known) → Places In os → Places In k → passAll os k ≡ next k′ → Places In k′
+places-all In [] k k′ w v e = let z : k ≡ k′ = cc in subst (λ (x : Known). Places In x) z v
+places-all In (o ∷ os) k k′ w v e =
+    let a = andThen-inv (passOne k (o .0) (o .1)) (λ x. passAll os x) k′ e in
+    places-all In os (a .0) k′ (λ q s h. w q s (inr h))
+    (pick (a .0) (met k o (a .0) (a .1))) (a .2)
+  where
+    one : Places In (o ∷ k)
+    one q s (inl h) = w q s (inl h)
+    one q s (inr h) = v q s h
+
+    pick : (m : Known) → Met k o m → Places In m
+    pick m (inl h) = subst (λ (x : Known). Places In x) (h .1) one
+    pick m (inr h) = subst (λ (x : Known). Places In x) (h .1) v
+
+pub unset-at : (k : Known) (q : ℕ) → ((s : State) → Sent q s k → ⊥) → stateAt k q ≡ unset
+unset-at [] q w = refl
+unset-at (r ∷ k) q w = go (eqb q (r .0)) refl (unset-at k q (λ s h. w s (inr h)))
+  where
+    go : (t : Bool) → eqb q (r .0) ≡ t → stateAt k q ≡ unset → (if t then r .1 else stateAt k q) ≡ unset
+    go true e u = absurd (w (r .1) (inl (pair (eqb-true q (r .0) e) refl)))
+    go false e u = u
 
 -- the innermost open handler is none, or has a known state
 abbrev Held : Known → ℕ → Type 0
@@ -170,9 +202,9 @@ outer-held k s L (inr h) = pick (eqb (s .inner) none)
     pick true = inl refl
     pick false = L (s .inner) h
 
--- the states at p and at its innermost open handler
-abbrev pub at : (ℕ → State) → ℕ → State
-at A p = outer A (A p)
+-- the state at the innermost handler that is open at p
+abbrev pub outerAt : (ℕ → State) → ℕ → State
+outerAt A p = outer A (A p)
 
 -- an instruction set: the tests of the instruction at p with its state and its handler's, what it passes on if they hold, and the pass
 pub record Code : Type 1 where
@@ -190,12 +222,12 @@ module _ (C : Code) where
 
   -- what the instruction at p passes on, by an assignment
   abbrev pub sending : (ℕ → State) → ℕ → List (ℕ × State)
-  sending A p = sends p (A p) (at A p)
+  sending A p = sends p (A p) (outerAt A p)
 
   -- the instruction at p is taken
   pub record Taken (p : ℕ) (k k′ : Known) : Type 0 where
     pub set : Set (stateAt k p)
-    pub fits : Fits p (stateAt k p) (at (stateAt k) p)
+    pub fits : Fits p (stateAt k p) (outerAt (stateAt k) p)
     pub puts : passAll (sending (stateAt k) p) k ≡ next k′
 
   pub record Laws : Type 0 where
@@ -209,7 +241,7 @@ module _ (C : Code) where
 
   -- the rules for the instruction at p, and for what comes to q
   pub record Fine (A : ℕ → State) (p : ℕ) : Type 0 where
-    pub fits : Fits p (A p) (at A p)
+    pub fits : Fits p (A p) (outerAt A p)
     pub agrees : (q : ℕ) (t : State) → Sent q t (sending A p) → A q ≡ t
 
   pub record Got (ps : List ℕ) (A : ℕ → State) (q : ℕ) : Type 0 where
@@ -224,18 +256,15 @@ module _ (C : Code) where
     put : (p : ℕ) (k k′ : Known) → Taken p k k′ → Put k (sending (stateAt k) p) k′
     put p k k′ T =
         put-all (sending (stateAt k) p) k k′
-        (λ q u. sent-set p (stateAt k p) (at (stateAt k) p) q u (T .set) (T .fits)) (T .puts)
+        (λ q u. sent-set p (stateAt k p) (outerAt (stateAt k) p) q u (T .set) (T .fits)) (T .puts)
 
     linked-step : (p : ℕ) (k k′ : Known) → Linked k → Taken p k k′ → Linked k′
     linked-step p k k′ l T r h = go (P .from r h)
       where
-        s : State
-        s = stateAt k p
-
         P : Put k (sending (stateAt k) p) k′
         P = put p k k′ T
 
-        held : (i : ℕ) → (i ≡ stateAt k p .inner) ⊎ ((i ≡ p) ⊎ (i ≡ at (stateAt k) p .inner)) → Held k i
+        held : (i : ℕ) → (i ≡ stateAt k p .inner) ⊎ ((i ≡ p) ⊎ (i ≡ outerAt (stateAt k) p .inner)) → Held k i
         held i (inl e) = rw e (l p (T .set))
         held i (inr (inl e)) = rw e (inr (T .set))
         held i (inr (inr e)) = rw e (outer-held k (stateAt k p) l (l p (T .set)))
@@ -244,7 +273,7 @@ module _ (C : Code) where
         go (inl e) = rw (P .grown r e) (held-grown k k′ (stateAt k r .inner) (P .grown) (l r e))
         go (inr m) =
             held-grown k k′ (stateAt k′ r .inner) (P .grown)
-            (held (stateAt k′ r .inner) (sent-inner p (stateAt k p) (at (stateAt k) p) r (stateAt k′ r) (T .fits) m))
+            (held (stateAt k′ r .inner) (sent-inner p (stateAt k p) (outerAt (stateAt k) p) r (stateAt k′ r) (T .fits) m))
 
     -- what a pass leaves
     pub record Ran (ps : List ℕ) (k k′ : Known) : Type 0 where
@@ -253,7 +282,7 @@ module _ (C : Code) where
       pub got : (q : ℕ) → Mem q ps → Set (stateAt k q) ⊎ Got ps (stateAt k′) q
 
     -- the states that come from an assignment with all that was known when p was taken are those of then
-    at-same : (p : ℕ) (k : Known) (A : ℕ → State) → Linked k → Set (stateAt k p) → Agrees k A → at A p ≡ at (stateAt k) p
+    at-same : (p : ℕ) (k : Known) (A : ℕ → State) → Linked k → Set (stateAt k p) → Agrees k A → outerAt A p ≡ outerAt (stateAt k) p
     at-same p k A l h g = rw (g p h) (outer-same k A (stateAt k p) g (l p h))
 
     sending-same : (p : ℕ) (k : Known) (A : ℕ → State) → Linked k → Set (stateAt k p) → Agrees k A →
@@ -281,7 +310,7 @@ module _ (C : Code) where
             still : stateAt k′ p ≡ stateAt k p
             still = all p (T .set)
 
-            still-at : at (stateAt k′) p ≡ at (stateAt k) p
+            still-at : outerAt (stateAt k′) p ≡ outerAt (stateAt k) p
             still-at = at-same p k (stateAt k′) l (T .set) all
 
             same : sending (stateAt k′) p ≡ sending (stateAt k) p
@@ -294,7 +323,7 @@ module _ (C : Code) where
                   agrees = λ q u h.
                       let h′ : Sent q u (sending (stateAt k) p) = rw same at h in
                       let w = P .there q u h′ in
-                      R .grown q (rw w (sent-set p (stateAt k p) (at (stateAt k) p) q u (T .set) (T .fits) h′)) ∙ w;
+                      R .grown q (rw w (sent-set p (stateAt k p) (outerAt (stateAt k) p) q u (T .set) (T .fits) h′)) ∙ w;
                 }
 
             okay : (q : ℕ) → Mem q (p ∷ ps) → Fine (stateAt k′) q
@@ -316,12 +345,26 @@ module _ (C : Code) where
             came q (inl e) = inl (rw e (T .set))
             came q (inr h) = later q h (R .got q h)
 
+    -- only the places that states are passed to get one
+    pub ran-places : (In : ℕ → Type 0) → ((p : ℕ) (s o : State) → Fits p s o → Places In (sends p s o)) → (ps : List ℕ) (k k′ : Known) →
+        Places In k → run ps k ≡ passed k′ → Places In k′
+    ran-places In w [] k k′ v e = let z : k ≡ k′ = let y = run-none k in cc in subst (λ (x : Known). Places In x) z v
+    ran-places In w (p ∷ ps) k k′ v e =
+        let b = goOn-inv p (step p k) (run ps) k′ (sym (run-more p ps k) ∙ e) in
+        let T = step-taken p k (b .0) (b .1) in
+        ran-places In w ps (b .0) k′
+        (places-all In (sending (stateAt k) p) k (b .0) (w p (stateAt k p) (outerAt (stateAt k) p) (T .fits)) v (T .puts)) (b .2)
+
     meet-ok : (a b : Bool) (x y : Known) → (a ≡ true → b ≡ true) → (m : Known) × (meet a b x y ≡ next m)
     meet-ok false b x y h = (y, refl)
     meet-ok true true x y h = (x, refl)
     meet-ok true false x y h = absurd (true≢false (sym (h refl)))
 
-    put-agrees : (k m : Known) (os : List (ℕ × State)) (A : ℕ → State) → Agrees k A → ((q : ℕ) (s : State) → Sent q s os → A q ≡ s) →
+    -- an assignment has the states that are passed on
+    abbrev Gives : List (ℕ × State) → (ℕ → State) → Type 0
+    Gives os A = (q : ℕ) (s : State) → Sent q s os → A q ≡ s
+
+    put-agrees : (k m : Known) (os : List (ℕ × State)) (A : ℕ → State) → Agrees k A → Gives os A →
         Put k os m → Agrees m A
     put-agrees k m os A g e P x h = pick (P .from x h)
       where
@@ -330,14 +373,14 @@ module _ (C : Code) where
         pick (inr s) = e x (stateAt m x) s
 
     -- states that the assignment has are passed on
-    put-all-ok : (os : List (ℕ × State)) (k : Known) (A : ℕ → State) → Agrees k A → ((q : ℕ) (s : State) → Sent q s os → A q ≡ s) →
+    put-all-ok : (os : List (ℕ × State)) (k : Known) (A : ℕ → State) → Agrees k A → Gives os A →
         (k′ : Known) × (passAll os k ≡ next k′)
     put-all-ok [] k A g e = (k, refl)
     put-all-ok (o ∷ os) k A g e =
         let r =
         meet-ok (isSet (stateAt k (o .0))) (sameState (stateAt k (o .0)) (o .1)) k (o ∷ k)
         (λ h. let w : stateAt k (o .0) ≡ o .1 = sym (g (o .0) h) ∙ e (o .0) (o .1) (inl refl) in rw w (state-same (o .1))) in
-        let g′ = put-agrees k (r .0) (o ∷ []) A g (λ q s. once q s) (put-one k (o .0) (o .1) (r .0) (r .1)) in
+        let g′ = put-agrees k (r .0) (o ∷ []) A g (λ q s. once q s) (put-one k o (r .0) (r .1)) in
         let t = put-all-ok os (r .0) A g′ (λ q s h. e q s (inr h)) in
         (t .0, rw (r .1) (t .1))
       where
@@ -382,7 +425,7 @@ module _ (C : Code) where
         at-p : A p ≡ stateAt k p
         at-p = g p set-p
 
-        sat : at A p ≡ at (stateAt k) p
+        sat : outerAt A p ≡ outerAt (stateAt k) p
         sat = at-same p k A l set-p g
 
         same : sending A p ≡ sending (stateAt k) p
@@ -403,7 +446,7 @@ module _ (C : Code) where
             pick i (inl e) b x =
                 let y : Sent q (A q) (sending A p) = rw e at x in
                 let z : Sent q (A q) (sending (stateAt k) p) = rw same at y in
-                inl (rw (P .there q (A q) z) (sent-set p (stateAt k p) (at (stateAt k) p) q (A q) (T .set) (T .fits) z))
+                inl (rw (P .there q (A q) z) (sent-set p (stateAt k p) (outerAt (stateAt k) p) q (A q) (T .set) (T .fits) z))
             pick i (inr h) b x = inr (record { from = i; there = h; earlier = b; sent = x })
 
         joined : (m : Known) → Taken p k m → Put k (sending (stateAt k) p) m → Found ps m A → Found (p ∷ ps) k A

@@ -1,7 +1,7 @@
 -- The records of a file lie end to end, so their starts rise, and so do the heads and the instructions among them. A place's
 -- procedure counts the heads up to it: behind head n, at the first instruction of procedure n, those are the heads 0 to n.
-use Prim.Native.Nat.{ℕ, zero, suc, _+_, _-_, _<_, _≤_}
-use mathlib.Core.Bool.{Bool, true, false, true≢false, not, _&&_}
+use Prim.Native.Nat.{ℕ, zero, suc, _+_, _<_, _≤_}
+use mathlib.Core.Bool.{Bool, true, false, true≢false, not}
 use mathlib.Core.List.{List, [], _∷_}
 use mathlib.Core.Logic.{_⊎_, inl, inr}
 use mathlib.Core.Path.{_≡_, refl, ap, sym, _∙_, subst}
@@ -9,9 +9,9 @@ use native.Mathlib.Decide.{ℕ-discrete}
 use native.Mathlib.Omega.{arith}
 use lib.Dec.{ltb, leb, eqb}
 use lib.ListN.{length, getD}
-use borrow.Author.Tests.{ltb-true, ltb-false, leb-true, leb-false, eqb-true, eqb-false, not-true, not-false, le-leb, lt-leb, eq-eqb, ne-eqb}
-use Rattle.model.specs.Choice.{if_then_else_, Test, all, All, all-true, true-all, Mem, member}
-use Rattle.model.specs.File.{byteAt, headKind, headSize, bodies, bodyOf, unknown, after, whole?, Records, broken, starts, more, recordsFrom, recordsOf, startsIn, isHead, select, heads, instructions, procs, headOf, entry, upTo, procAt, headTests, Heads, wrong, right, headsFrom, headsOf}
+use borrow.Author.Tests.{ltb-true, ltb-false, leb-true, eqb-true, eqb-false, not-true, le-leb, lt-leb, eq-eqb}
+use Rattle.model.specs.Choice.{if_then_else_, all, All, all-true, true-all, Mem, member}
+use Rattle.model.specs.File.{byteAt, headKind, headSize, bodies, bodyOf, unknown, after, whole?, Records, broken, starts, more, recordsFrom, recordsOf, isHead, select, heads, instructions, procs, headOf, entry, upTo, procAt, headTests, wrong, right, headsFrom, headsOf}
 use Rattle.exact.specs.Pass.{and-true, Rising}
 
 -- members of a list
