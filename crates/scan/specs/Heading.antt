@@ -123,7 +123,8 @@ module _ (f m table : List ℕ) where
         so-far = let z : procs f ≡ procs f - 0 = omega arith in ap (λ (n : ℕ). headsFrom f n 0) z;
         placed = λ n l. rw (M .empty, le-ltb n 0 (omega arith)) (empty-at 64 n);
         shows = M .shows;
-        long = rw (M .empty) (length-replicate {A = ℕ} 64 0) }
+        long = rw (M .empty) (length-replicate {A = ℕ} 64 0);
+      }
 
   module _ (p k : ℕ) (H : Heading f m table p k) (below : p < length f) where
     next-is : (whole? f p ≡ true) × ((qs : List ℕ) × (restOf f (after f p) ≡ starts qs) × (H .rest ≡ p ∷ qs))
@@ -137,7 +138,7 @@ module _ (f m table : List ℕ) where
     unfolding isHead
     heading-skip other =
         let e : select (isHead f) (H .rest) ≡ select (isHead f) (next-is .1 .0) =
-            ap (select (isHead f)) (next-is .1 .2) ∙ rw (ne-eqb (byteAt f p) 240 other) in
+        ap (select (isHead f)) (next-is .1 .2) ∙ rw (ne-eqb (byteAt f p) 240 other) in
         record {
           rest = next-is .1 .0;
           rest-is = next-is .1 .1;
@@ -147,7 +148,8 @@ module _ (f m table : List ℕ) where
           so-far = H .so-far;
           placed = H .placed;
           shows = H .shows;
-          long = H .long }
+          long = H .long;
+        }
 
     module _ (is-head : byteAt f p ≡ 240) where
       heads-are : drop k (heads f) ≡ p ∷ select (isHead f) (next-is .1 .0)
@@ -184,9 +186,11 @@ module _ (f m table : List ℕ) where
           far : (t : Bool) → member (p + 7) (instructions f) ≡ t → length f ≤ p + 7 → false ≡ t
           far true w l = let b = instruction-below f ps e (p + 7) (member-in (p + 7) (instructions f) w) in absurd (omega arith)
           far false w l = refl
+
           flip : (t : Bool) → not (not t) ≡ t
           flip true = refl
           flip false = refl
+
           go : Dec (p + 7 < length f) →
               (if ltb (p + 7) (length f) then not (eqb (getD m (3 * (p + 7)) 0) 65535) else false) ≡ member (p + 7) (instructions f)
           go (yes l) = rw (lt-ltb (p + 7) (length f) l, starts-here f (firsts f k) m (H .shows) (p + 7) l) (flip (member (p + 7) (instructions f)))
@@ -243,7 +247,7 @@ module _ (f m table : List ℕ) where
             let fits = heading-fits e in
             let one = one-more in
             let same-head : state (head .a) (head .b) none ≡ state (paramsMain f k) (paramsPtr f k) none =
-                ap (λ (v : Head). state (v .a) (v .b) none) (h-is .is ∙ head-of f k p (sym head-is)) in
+            ap (λ (v : Head). state (v .a) (v .b) none) (h-is .is ∙ head-of f k p (sym head-is)) in
             rw s
             (record {
               rest = next-is .1 .0;
@@ -254,14 +258,16 @@ module _ (f m table : List ℕ) where
               so-far = come ∙ rw (sym ok-all ∙ e);
               placed = λ n l. place n l (ℕ-discrete n k);
               shows = rw (me, entry-is, ← same-head)
-                (put-shows f (firsts f k) m (H .shows) (p + 7) (state (head .a) (head .b) none)
-                (rw (ne-eqb (head .a) none (let a = h-is .a-small in omega arith))) (in-file e) (fits .0));
-              long = rw (te, length-set table k p) (H .long) })
+                  (put-shows f (firsts f k) m (H .shows) (p + 7) (state (head .a) (head .b) none)
+                  (rw (ne-eqb (head .a) none (let a = h-is .a-small in omega arith))) (in-file e) (fits .0));
+              long = rw (te, length-set table k p) (H .long);
+            })
           where
             drops : drop (suc k) (heads f) ≡ select (isHead f) (next-is .1 .0)
             drops =
                 let z : suc k ≡ k + 1 = omega arith in
                 rw z (sym (drop-drop 1 k (heads f)) ∙ ap (drop 1) heads-are)
+
             place : (n : ℕ) → n < 64 → Dec (n ≡ k) → getD table′ n 0 ≡ (if ltb n (suc k) then headOf f n else 0)
             place n l (yes z) =
                 let b = H .long in
@@ -277,11 +283,10 @@ module _ (f m table : List ℕ) where
   unfolding headOf procs headsFrom
   heading-end p k H h =
       let none-left : drop k (heads f) ≡ [] =
-          H .to-come ∙ ap (select (isHead f)) (let w : starts (H .rest) ≡ starts [] = sym (H .rest-is) ∙ rest-end f p h in let v : H .rest ≡ [] = cc in v) in
+      H .to-come ∙ ap (select (isHead f)) (let w : starts (H .rest) ≡ starts [] = sym (H .rest-is) ∙ rest-end f p h in let v : H .rest ≡ [] = cc in v) in
       let a : length (heads f) - k ≡ 0 = sym (length-drop k (heads f)) ∙ ap length none-left in
       let b = H .most-k in
-      let all-done : k ≡ length (heads f) = omega arith in
-      (
+      let all-done : k ≡ length (heads f) = omega arith in (
         H .so-far ∙ rw a,
         record { count = all-done; few = H .few; heads = λ n l. H .placed n l ∙ at n (decLt n k) all-done },
         H .shows,
@@ -291,6 +296,7 @@ module _ (f m table : List ℕ) where
       beyond [] n w = refl
       beyond (x ∷ l) zero w = absurd (omega arith)
       beyond (x ∷ l) (suc n) w = beyond l n (omega arith)
+
       at : (n : ℕ) → Dec (n < k) → k ≡ length (heads f) → (if ltb n k then getD (heads f) n 0 else 0) ≡ getD (heads f) n 0
       at n (yes b) e = rw (lt-ltb n k b)
       at n (no b) e = rw (le-ltb n k (omega arith)) (sym (beyond (heads f) n (omega arith)))

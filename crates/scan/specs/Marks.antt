@@ -50,14 +50,14 @@ module _ (m : List ℕ) (q : ℕ) (s : State) where
       let la : length a ≡ length m = length-set m (3 * q) (s .main) in
       let lb : length b ≡ length m = length-set a (3 * q + 1) (s .ptr) ∙ la in
       let e0 : getD (set b (3 * q + 2) (s .inner)) (3 * q) none ≡ s .main =
-          getD-set-other b (3 * q + 2) (3 * q) (s .inner) none (omega arith)
-          ∙ getD-set-other a (3 * q + 1) (3 * q) (s .ptr) none (omega arith)
-          ∙ getD-set-same m (3 * q) (s .main) none (omega arith) in
+      getD-set-other b (3 * q + 2) (3 * q) (s .inner) none (omega arith)
+      ∙ getD-set-other a (3 * q + 1) (3 * q) (s .ptr) none (omega arith)
+      ∙ getD-set-same m (3 * q) (s .main) none (omega arith) in
       let e1 : getD (set b (3 * q + 2) (s .inner)) (3 * q + 1) none ≡ s .ptr =
-          getD-set-other b (3 * q + 2) (3 * q + 1) (s .inner) none (omega arith)
-          ∙ getD-set-same a (3 * q + 1) (s .ptr) none (omega arith) in
+      getD-set-other b (3 * q + 2) (3 * q + 1) (s .inner) none (omega arith)
+      ∙ getD-set-same a (3 * q + 1) (s .ptr) none (omega arith) in
       let e2 : getD (set b (3 * q + 2) (s .inner)) (3 * q + 2) none ≡ s .inner =
-          getD-set-same b (3 * q + 2) (s .inner) none (omega arith) in
+      getD-set-same b (3 * q + 2) (s .inner) none (omega arith) in
       λ i. state (e0 i) (e1 i) (e2 i)
 
   pub putIn-other : (r : ℕ) → (r ≡ q → ⊥) → stateIn (putIn m q s) r ≡ stateIn m r
@@ -67,12 +67,12 @@ module _ (m : List ℕ) (q : ℕ) (s : State) where
       let b : List ℕ = set a (3 * q + 1) (s .ptr) in
       let far : (j : ℕ) → j < 3 → (j′ : ℕ) → j′ < 3 → 3 * r + j ≡ 3 * q + j′ → ⊥ = λ j lj j′ lj′ e. h (omega arith) in
       let at : (j : ℕ) → j < 3 → getD (set b (3 * q + 2) (s .inner)) (3 * r + j) none ≡ getD m (3 * r + j) none = λ j lj.
-          getD-set-other b (3 * q + 2) (3 * r + j) (s .inner) none (far j lj 2 (omega arith))
-          ∙ getD-set-other a (3 * q + 1) (3 * r + j) (s .ptr) none (far j lj 1 (omega arith))
-          ∙ getD-set-other m (3 * q) (3 * r + j) (s .main) none (λ e. far j lj 0 (omega arith) (omega arith)) in
+      getD-set-other b (3 * q + 2) (3 * r + j) (s .inner) none (far j lj 2 (omega arith))
+      ∙ getD-set-other a (3 * q + 1) (3 * r + j) (s .ptr) none (far j lj 1 (omega arith))
+      ∙ getD-set-other m (3 * q) (3 * r + j) (s .main) none (λ e. far j lj 0 (omega arith) (omega arith)) in
       let z : 3 * r ≡ 3 * r + 0 = omega arith in
       let e0 : getD (set b (3 * q + 2) (s .inner)) (3 * r) none ≡ getD m (3 * r) none =
-          ap (λ (x : ℕ). getD (set b (3 * q + 2) (s .inner)) x none) z ∙ at 0 (omega arith) ∙ ap (λ (x : ℕ). getD m x none) (sym z) in
+      ap (λ (x : ℕ). getD (set b (3 * q + 2) (s .inner)) x none) z ∙ at 0 (omega arith) ∙ ap (λ (x : ℕ). getD m x none) (sym z) in
       λ i. state (e0 i) (at 1 (omega arith) i) (at 2 (omega arith) i)
 
 -- one number written: the mark of an instruction start
@@ -121,8 +121,8 @@ marks-at f (p ∷ ps) m q h = go (isHead f p) refl (λ m′ l. marks-at f ps m�
   where
     here : Dec (q ≡ p) → (t : Bool) →
         (if t
-          then state unreached (stateIn (set m (3 * p) unreached) q .ptr) (stateIn (set m (3 * p) unreached) q .inner)
-          else stateIn (set m (3 * p) unreached) q)
+        then state unreached (stateIn (set m (3 * p) unreached) q .ptr) (stateIn (set m (3 * p) unreached) q .inner)
+        else stateIn (set m (3 * p) unreached) q)
         ≡ (if (if eqb q p then true else t) then state unreached (stateIn m q .ptr) (stateIn m q .inner) else stateIn m q)
     here (yes z) true = rw (eq-eqb q p z, z, mark-same m p unreached (h p (inl refl)))
     here (yes z) false = rw (eq-eqb q p z, z, mark-same m p unreached (h p (inl refl)))
@@ -131,7 +131,7 @@ marks-at f (p ∷ ps) m q h = go (isHead f p) refl (λ m′ l. marks-at f ps m�
     go : (t : Bool) → isHead f p ≡ t → ((m′ : List ℕ) → length m′ ≡ length m → At-marked f ps m′ q) →
         stateIn (marked f (if isHead f p then m else set m (3 * p) unreached) ps) q
         ≡ (if member q (if not (isHead f p) then p ∷ select (λ r. not (isHead f r)) ps else select (λ r. not (isHead f r)) ps)
-          then state unreached (stateIn m q .ptr) (stateIn m q .inner) else stateIn m q)
+        then state unreached (stateIn m q .ptr) (stateIn m q .inner) else stateIn m q)
     go true e r = rw e (r m refl)
     go false e r =
         rw e (r (set m (3 * p) unreached) (length-set m (3 * p) unreached)
@@ -157,9 +157,10 @@ marked-shows f ps e h =
     record {
       long = length-marked f ps m ∙ length-replicate n none;
       at = λ q l.
-        marks-at f ps m q (λ p i. let a = h p i in rw (length-replicate n none) (omega arith))
-        ∙ rw (blank n q, e);
-      only = λ q z. absurd (true≢false (sym z)) }
+          marks-at f ps m q (λ p i. let a = h p i in rw (length-replicate n none) (omega arith))
+          ∙ rw (blank n q, e);
+      only = λ q z. absurd (true≢false (sym z));
+    }
 
 -- reading a number with another default
 pub getD-any : (l : List ℕ) (i d d′ : ℕ) → i < length l → getD l i d ≡ getD l i d′
@@ -193,12 +194,14 @@ module _ (f : List ℕ) (k : Known) (m : List ℕ) (S : Shows f k m) where
       record {
         long = length-putIn m q s ∙ l;
         at = λ r w. here r w (ℕ-discrete r q);
-        only = λ r z. there r z (ℕ-discrete r q) }
+        only = λ r z. there r z (ℕ-discrete r q);
+      }
     where
       here : (r : ℕ) → r < length f → Dec (r ≡ q) →
           stateIn (putIn m q s) r ≡ shown (member r (instructions f)) (if eqb r q then s else stateAt k r)
       here r w (yes e) = let l = S .long in rw (e, eq-eqb q q refl, set?) (putIn-same m q s (omega arith))
       here r w (no e) = rw (ne-eqb r q e) (putIn-other m q s r e ∙ S .at r w)
+
       there : (r : ℕ) → isSet (if eqb r q then s else stateAt k r) ≡ true → Dec (r ≡ q) → member r (instructions f) ≡ true
       there r z (yes e) = rw e in?
       there r z (no e) = S .only r (rw (ne-eqb r q e) at z)

@@ -52,8 +52,9 @@ going-next f m₀ m p G h w =
       long = length-mark (eqb (byteAt f p) 240) m (3 * p) unreached ∙ G .long;
       broke = λ q b. G .broke q (e ∙ ap (more p) b);
       went = λ ps b.
-        let g = G .went (p ∷ ps) (e ∙ ap (more p) b) in
-        (g .0, g .1, g .2 ∙ (unfold marked isHead in refl)) }
+          let g = G .went (p ∷ ps) (e ∙ ap (more p) b) in
+          (g .0, g .1, g .2 ∙ (unfold marked isHead in refl));
+    }
 
 pub going-broken : (f m₀ m : List ℕ) (p : ℕ) → Going f m₀ m p → p < length f → whole? f p ≡ false → Scanned f m₀ m (Broken p)
 going-broken f m₀ m p G h w =

@@ -7,14 +7,15 @@ ghost use Rattle.model.specs.Checker.{state};
 ghost use Rattle.scan.specs.Marks.{putIn};
 ghost use Rattle.scan.specs.Scanning.{Scanned, markOf};
 ghost use Rattle.scan.specs.Heading.{headOk, numberOk, startsAt, Marked, Headed};
-
 use code::Head;
 
 // No instruction, no handler.
 const NONE: u16 = 65535;
 // An instruction starts here that no state has reached yet; depths are at most 255.
 const UNREACHED: u16 = 65534;
+
 const HEAD: u8 = 240;
+
 const UNKNOWN: usize = 255;
 
 // What the records of a file come to.

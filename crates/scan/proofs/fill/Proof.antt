@@ -33,8 +33,7 @@ loop-less c = omega arith
 
 loop-again : tie.Need-loop-again Inv-loop μ-loop
 loop-again c =
-    let L = c .before .loop in
-    (
+    let L = c .before .loop in (
       omega arith,
       ap (λ (l : List ℕ). set l (L .i) 65535) (L .inv .1) ∙ fill-more (L .i) 65535 (c .before .before .args .m .now) (omega arith),
       length-set (L .m) (L .i) 65535 ∙ L .inv .2,
