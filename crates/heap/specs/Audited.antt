@@ -198,6 +198,7 @@ heap-mark-fault h (inr e) = rw (lt-leb (markOf h) (length h) e) (go (leb firstOb
     go false = refl
 
 pub clean-heap : (h os : List ℕ) → Heap h os → heapOf h ≡ clean os
+unfolding zeroAt
 clean-heap h os H =
     let W = objects-walk (length h) h firstObject (markOf h) os (H .objects) (omega (arith, H .high)) in
     heap-judged h os (H .low) (H .high) W
@@ -218,6 +219,7 @@ Says h (clean os) = Heap h os
 Says h (fault q) = 2 ≤ length h → q < length h
 
 heap-says : (h : List ℕ) → Says h (heapOf h)
+unfolding zeroAt
 heap-says h = go (decLt (markOf h) firstObject) (decLt (length h) (markOf h))
   where
     pointers : (os : List ℕ) → firstObject ≤ markOf h → markOf h ≤ length h → Objects h firstObject (markOf h) os →

@@ -37,7 +37,7 @@ orAudit (Fault i) b = fault i
 abbrev pub pointerAt : List ℕ → List ℕ → ℕ → Bool
 pointerAt h os i = isPointer os (wordAt h i)
 
-abbrev pub zeroAt : List ℕ → ℕ → Bool
+unfoldable pub zeroAt : List ℕ → ℕ → Bool
 zeroAt h i = eqb (wordAt h i) 0
 
 pub pointers-first : (h os is : List ℕ) (rest : Audit) → pointersFirst h os is rest ≡ orAudit (firstBad (pointerAt h os) is) rest
@@ -51,7 +51,7 @@ pointers-first h os (i ∷ is) rest = go (isPointer os (wordAt h i)) (pointers-f
     go false e = refl
 
 pub zeros-first : (h is : List ℕ) (rest : Audit) → zerosFirst h is rest ≡ orAudit (firstBad (zeroAt h) is) rest
-unfolding zerosFirst firstBad
+unfolding zerosFirst firstBad zeroAt
 zeros-first h [] rest = refl
 zeros-first h (i ∷ is) rest = go (eqb (wordAt h i) 0) (zeros-first h is rest)
   where

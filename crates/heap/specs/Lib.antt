@@ -1,3 +1,5 @@
 pub mod First
 pub mod Objects
 pub mod Audited
+pub mod Table
+pub mod Turns
