@@ -1,22 +1,22 @@
 -- The audit is the statement: `heapOf` answers the objects exactly of a sound heap (`heap-clean`, `clean-heap`), and otherwise a word
 -- of a heap that is not sound (`fault-is-fault`). The walk finds the only objects that there can be, and each later test is a
 -- field of `Heap`.
-use Prim.Native.Nat.{ℕ, zero, suc, _+_, _-_, _*_, _/_, _%_, _<_, _≤_}
-use mathlib.Core.Path.{_≡_, refl, ap, sym, _∙_}
+use Prim.Native.Nat.{ℕ, zero, suc, _+_, _-_, _<_, _≤_}
+use mathlib.Core.Path.{_≡_, refl, sym, _∙_}
 use mathlib.Core.Bool.{Bool, true, false, not, _&&_, _||_, true≢false}
-use mathlib.Core.List.{List, [], _∷_, _++_}
+use mathlib.Core.List.{List, [], _∷_}
 use mathlib.Core.Logic.{_⊎_, inl, inr}
-use native.Mathlib.Decide.{ℕ-discrete, decLt}
+use native.Mathlib.Decide.{decLt}
 use native.Mathlib.Omega.{arith}
 use lib.Dec.{eqb, leb, ltb}
 use lib.ListN.{length, List·getD-eq-default}
-use borrow.Author.Tests.{eq-eqb, ne-eqb, eqb-true, eqb-false, leb-true, leb-false, le-leb, lt-leb, ltb-true, ltb-false, lt-ltb, le-ltb, not-true, not-false}
+use borrow.Author.Tests.{eq-eqb, eqb-true, leb-true, leb-false, le-leb, lt-leb, ltb-false, le-ltb, not-false}
 use Rattle.model.specs.Choice.{if_then_else_, Mem, member}
 use Rattle.model.specs.Words.{wordAt}
-use Rattle.model.specs.Heap.{markOf, rootOf, firstObject, kindAt, ptrsAt, sizeAt, viewKind, Object, Objects, Pointer, Heap, Audit, fault, clean, andObject, badHeader, badSize, walk, isPointer, range, pointerWords, pointersFirst, zerosFirst, judge, heapOf, objectsIn, objectsOf}
+use Rattle.model.specs.Heap.{markOf, rootOf, firstObject, kindAt, ptrsAt, sizeAt, viewKind, Object, Objects, Pointer, Heap, Audit, fault, clean, andObject, badHeader, badSize, walk, isPointer, range, pointerWords, zerosFirst, judge, heapOf, objectsOf}
 use Rattle.heap.specs.declared.HeapAudit.{HeapAudit}
 use Rattle.heap.specs.declared.HeapAudit.the-variants.{Clean, Fault}
-use Rattle.heap.specs.First.{firstBad, told, orElse, orAudit, pointerAt, zeroAt, pointers-first, zeros-first, all-good, none-bad, bad-in, range-mem, mem-range}
+use Rattle.heap.specs.First.{firstBad, walked, freeWords, orAudit, pointerAt, zeroAt, pointers-first, zeros-first, all-good, none-bad, bad-in, range-mem, mem-range, mem-append, mem-more, mem-right}
 use Rattle.heap.specs.Objects.{object-of}
 
 -- The walk
@@ -137,23 +137,6 @@ record Inside (h os : List ℕ) (i : ℕ) : Type 0 where
   to : k < 2 + ptrsAt h q
   is : i ≡ q + k
 
-mem-append : (i : ℕ) (l r : List ℕ) → Mem i (l ++ r) → Mem i l ⊎ Mem i r
-mem-append i [] r m = inr m
-mem-append i (a ∷ l) r (inl e) = inl (inl e)
-mem-append i (a ∷ l) r (inr m) = go (mem-append i l r m)
-  where
-    go : Mem i l ⊎ Mem i r → Mem i (a ∷ l) ⊎ Mem i r
-    go (inl m) = inl (inr m)
-    go (inr m) = inr m
-
-mem-left : (i : ℕ) (l r : List ℕ) → Mem i l → Mem i (l ++ r)
-mem-left i (a ∷ l) r (inl e) = inl e
-mem-left i (a ∷ l) r (inr m) = inr (mem-left i l r m)
-
-mem-right : (i : ℕ) (l r : List ℕ) → Mem i r → Mem i (l ++ r)
-mem-right i [] r m = m
-mem-right i (a ∷ l) r m = inr (mem-right i l r m)
-
 words-inside : (h os : List ℕ) (i : ℕ) → Mem i (pointerWords h os) → Inside h os i
 unfolding pointerWords
 words-inside h (q ∷ os) i m = go (mem-append i (range (q + 2) (ptrsAt h q)) (pointerWords h os) m) (words-inside h os i)
@@ -170,21 +153,27 @@ inside-words : (h os : List ℕ) (q k : ℕ) → Mem q os → 2 ≤ k → k < 2 
 unfolding pointerWords
 inside-words h (o ∷ os) q k (inl e) a b =
     let b′ : k < 2 + ptrsAt h o = rw e at b in
-    mem-left (q + k) (range (o + 2) (ptrsAt h o)) (pointerWords h os) (mem-range (o + 2) (ptrsAt h o) (q + k) (omega arith) (omega arith))
+    mem-more (q + k) (range (o + 2) (ptrsAt h o)) (pointerWords h os) (mem-range (o + 2) (ptrsAt h o) (q + k) (omega arith) (omega arith))
 inside-words h (o ∷ os) q k (inr m) a b = mem-right (q + k) (range (o + 2) (ptrsAt h o)) (pointerWords h os) (inside-words h os q k m a b)
 
 -- The whole audit
 
 -- the audit of a heap whose mark is in range and whose objects the walk found
-pub heap-judged : (h os : List ℕ) → firstObject ≤ markOf h → markOf h ≤ length h → walk (length h) h firstObject (markOf h) ≡ clean os →
+pub heap-judged : (h os : List ℕ) → firstObject ≤ markOf h → markOf h ≤ length h → walked h ≡ clean os →
     heapOf h
-    ≡ orAudit (firstBad (pointerAt h os) (1 ∷ pointerWords h os)) (orAudit (firstBad (zeroAt h) (range (markOf h) (length h - markOf h))) (clean os))
+    ≡ orAudit (firstBad (pointerAt h os) (1 ∷ pointerWords h os)) (orAudit (firstBad (zeroAt h) (freeWords h)) (clean os))
 unfolding heapOf judge
 heap-judged h os a b e =
-    rw (le-leb firstObject (markOf h) a, le-leb (markOf h) (length h) b, e, pointers-first h os (1 ∷ pointerWords h os) (zerosFirst h (range (markOf h) (length h - markOf h)) (clean os)), zeros-first h (range (markOf h) (length h - markOf h)) (clean os))
+    rw (
+      le-leb firstObject (markOf h) a,
+      le-leb (markOf h) (length h) b,
+      e,
+      pointers-first h os (1 ∷ pointerWords h os) (zerosFirst h (freeWords h) (clean os)),
+      zeros-first h (freeWords h) (clean os),
+    )
 
 -- the walk's fault is the audit's
-pub heap-walk-fault : (h : List ℕ) (q : ℕ) → firstObject ≤ markOf h → markOf h ≤ length h → walk (length h) h firstObject (markOf h) ≡ fault q → heapOf h ≡ fault q
+pub heap-walk-fault : (h : List ℕ) (q : ℕ) → firstObject ≤ markOf h → markOf h ≤ length h → walked h ≡ fault q → heapOf h ≡ fault q
 unfolding heapOf judge
 heap-walk-fault h q a b e = rw (le-leb firstObject (markOf h) a, le-leb (markOf h) (length h) b, e)
 
@@ -193,7 +182,7 @@ unfolding heapOf
 heap-mark-fault h (inl e) = rw (lt-leb firstObject (markOf h) e)
 heap-mark-fault h (inr e) = rw (lt-leb (markOf h) (length h) e) (go (leb firstObject (markOf h)))
   where
-    go : (t : Bool) → (if t && false then judge h (walk (length h) h firstObject (markOf h)) else fault 0) ≡ fault 0
+    go : (t : Bool) → (if t && false then judge h (walked h) else fault 0) ≡ fault 0
     go true = refl
     go false = refl
 
@@ -202,7 +191,7 @@ unfolding zeroAt
 clean-heap h os H =
     let W = objects-walk (length h) h firstObject (markOf h) os (H .objects) (omega (arith, H .high)) in
     heap-judged h os (H .low) (H .high) W
-    ∙ rw (none-bad (pointerAt h os) (1 ∷ pointerWords h os) right, none-bad (zeroAt h) (range (markOf h) (length h - markOf h)) zero-at)
+    ∙ rw (none-bad (pointerAt h os) (1 ∷ pointerWords h os) right, none-bad (zeroAt h) (freeWords h) zero-at)
   where
     right : (i : ℕ) → Mem i (1 ∷ pointerWords h os) → pointerAt h os i ≡ true
     right i (inl e) = rw e (pointer-is os (rootOf h) (H .root))
@@ -210,7 +199,7 @@ clean-heap h os H =
         let r = words-inside h os i m in
         rw (r .is) (pointer-is os (wordAt h (r .q + r .k)) (H .inside (r .q) (r .k) (r .mem) (r .from) (r .to)))
 
-    zero-at : (i : ℕ) → Mem i (range (markOf h) (length h - markOf h)) → zeroAt h i ≡ true
+    zero-at : (i : ℕ) → Mem i (freeWords h) → zeroAt h i ≡ true
     zero-at i m = eq-eqb (wordAt h i) 0 (H .free i (range-mem (markOf h) (length h - markOf h) i m .0))
 
 -- what an answer of the audit shows
@@ -224,10 +213,10 @@ heap-says h = go (decLt (markOf h) firstObject) (decLt (length h) (markOf h))
   where
     pointers : (os : List ℕ) → firstObject ≤ markOf h → markOf h ≤ length h → Objects h firstObject (markOf h) os →
         (a : HeapAudit) → firstBad (pointerAt h os) (1 ∷ pointerWords h os) ≡ a →
-        (b : HeapAudit) → firstBad (zeroAt h) (range (markOf h) (length h - markOf h)) ≡ b → Says h (orAudit a (orAudit b (clean os)))
+        (b : HeapAudit) → firstBad (zeroAt h) (freeWords h) ≡ b → Says h (orAudit a (orAudit b (clean os)))
     pointers os l g W Clean e Clean f =
         let good = all-good (pointerAt h os) (1 ∷ pointerWords h os) e in
-        let zeros = all-good (zeroAt h) (range (markOf h) (length h - markOf h)) f in
+        let zeros = all-good (zeroAt h) (freeWords h) f in
         record {
           low = l;
           high = g;
@@ -237,10 +226,11 @@ heap-says h = go (decLt (markOf h) firstObject) (decLt (length h) (markOf h))
           free = λ i a. free i a zeros (decLt i (length h));
         }
       where
-        free : (i : ℕ) → markOf h ≤ i → ((j : ℕ) → Mem j (range (markOf h) (length h - markOf h)) → zeroAt h j ≡ true) → Dec (i < length h) → wordAt h i ≡ 0
+        free : (i : ℕ) → markOf h ≤ i → ((j : ℕ) → Mem j (freeWords h) → zeroAt h j ≡ true) → Dec (i < length h) → wordAt h i ≡ 0
         free i a zeros (yes b) = eqb-true (wordAt h i) 0 (zeros i (mem-range (markOf h) (length h - markOf h) i a (omega arith)))
         free i a zeros (no b) = let c : length h ≤ i = omega arith in List·getD-eq-default h 0 c
-    pointers os l g W Clean e (Fault q) f = λ t. let r = range-mem (markOf h) (length h - markOf h) q (bad-in (zeroAt h) (range (markOf h) (length h - markOf h)) q f) in omega arith
+    pointers os l g W Clean e (Fault q) f = λ t.
+        let r = range-mem (markOf h) (length h - markOf h) q (bad-in (zeroAt h) (freeWords h) q f) in omega arith
     pointers os l g W (Fault q) e b f = λ t. place (bad-in (pointerAt h os) (1 ∷ pointerWords h os) q e) t
       where
         place : Mem q (1 ∷ pointerWords h os) → 2 ≤ length h → q < length h
@@ -250,9 +240,11 @@ heap-says h = go (decLt (markOf h) firstObject) (decLt (length h) (markOf h))
             let O = object-of h firstObject (markOf h) os (r .q) W (r .mem) .1 in
             omega (arith, O .holds, O .ends, r .to, r .is)
 
-    walked : firstObject ≤ markOf h → markOf h ≤ length h → (r : Audit) → walk (length h) h firstObject (markOf h) ≡ r → Shows h firstObject (markOf h) r → Says h (heapOf h)
-    walked l g (fault q) e s = rw (heap-walk-fault h q l g e) (λ t. omega arith)
-    walked l g (clean os) e s = rw (heap-judged h os l g e) (pointers os l g s (firstBad (pointerAt h os) (1 ∷ pointerWords h os)) refl (firstBad (zeroAt h) (range (markOf h) (length h - markOf h))) refl)
+    after-walk : firstObject ≤ markOf h → markOf h ≤ length h → (r : Audit) → walked h ≡ r → Shows h firstObject (markOf h) r → Says h (heapOf h)
+    after-walk l g (fault q) e s = rw (heap-walk-fault h q l g e) (λ t. omega arith)
+    after-walk l g (clean os) e s =
+        rw (heap-judged h os l g e)
+        (pointers os l g s (firstBad (pointerAt h os) (1 ∷ pointerWords h os)) refl (firstBad (zeroAt h) (freeWords h)) refl)
 
     go : Dec (markOf h < firstObject) → Dec (length h < markOf h) → Says h (heapOf h)
     go (yes a) b = rw (heap-mark-fault h (inl a)) (λ t. omega arith)
@@ -260,7 +252,7 @@ heap-says h = go (decLt (markOf h) firstObject) (decLt (length h) (markOf h))
     go (no a) (no b) =
         let l : firstObject ≤ markOf h = omega arith in
         let g : markOf h ≤ length h = omega arith in
-        walked l g (walk (length h) h firstObject (markOf h)) refl (walk-shows (length h) h firstObject (markOf h) l (omega arith))
+        after-walk l g (walked h) refl (walk-shows (length h) h firstObject (markOf h) l (omega arith))
 
 pub heap-clean : (h os : List ℕ) → heapOf h ≡ clean os → Heap h os
 heap-clean h os e = rw e at (heap-says h)

@@ -1,15 +1,16 @@
 -- A new view at the mark keeps a sound heap sound, with one object more at the end. It reaches the mark and the free words only, so the
 -- older objects and the free words behind it stay.
-use Prim.Native.Nat.{ℕ, zero, suc, _+_, _-_, _*_, _/_, _%_, _<_, _≤_}
+use Prim.Native.Nat.{ℕ, zero, suc, _+_, _-_, _*_, _<_, _≤_}
 use mathlib.Core.Path.{_≡_, refl, ap, sym, _∙_}
 use mathlib.Core.List.{List, [], _∷_, _++_}
 use mathlib.Core.Logic.{_⊎_, inl, inr}
 use native.Mathlib.Omega.{arith}
-use lib.ListN.{length, getD, set, length-set, length-append, List·getD-append}
+use lib.ListN.{length, set, length-set, length-append, List·getD-append}
 use lib.Seq.{sets, length-sets, getD-set-same, getD-set-other}
 use Rattle.model.specs.Choice.{Mem}
 use Rattle.model.specs.Words.{wordAt}
 use Rattle.model.specs.Heap.{markOf, rootOf, firstObject, kindAt, ptrsAt, sizeAt, viewKind, viewOf, formed, Object, Objects, Pointer, Heap}
+use Rattle.heap.specs.First.{mem-append, mem-more, mem-right}
 use Rattle.heap.specs.Objects.{Alike, ptrs-alike, size-alike, objects-alike}
 use Rattle.heap.specs.Stores.{object-lies}
 
@@ -29,29 +30,19 @@ sets-at (v ∷ vs) l a (suc k) h w =
     rw e (sets-at vs (set l a v) (suc a) k (rw (length-set l a v) (omega arith)) (omega arith))
 
 -- one object more
-pub mem-more : (q : ℕ) (os more : List ℕ) → Mem q os → Mem q (os ++ more)
-mem-more q (o ∷ os) more (inl e) = inl e
-mem-more q (o ∷ os) more (inr i) = inr (mem-more q os more i)
-
 pub pointer-more : (v : ℕ) (os more : List ℕ) → Pointer os v → Pointer (os ++ more) v
 pointer-more v os more (inl e) = inl e
 pointer-more v os more (inr i) = inr (mem-more v os more i)
 
-pub mem-new : (m : ℕ) (os : List ℕ) → Mem m (os ++ m ∷ [])
-mem-new m [] = inl refl
-mem-new m (o ∷ os) = inr (mem-new m os)
-
 pub pointer-new : (m : ℕ) (os : List ℕ) → Pointer (os ++ m ∷ []) m
-pointer-new m os = inr (mem-new m os)
+pointer-new m os = inr (mem-right m os (m ∷ []) (inl refl))
 
 pub mem-last : (q m : ℕ) (os : List ℕ) → Mem q (os ++ m ∷ []) → Mem q os ⊎ (q ≡ m)
-mem-last q m [] (inl e) = inr e
-mem-last q m (o ∷ os) (inl e) = inl (inl e)
-mem-last q m (o ∷ os) (inr i) = go (mem-last q m os i)
+mem-last q m os i = go (mem-append q os (m ∷ []) i)
   where
-    go : Mem q os ⊎ (q ≡ m) → Mem q (o ∷ os) ⊎ (q ≡ m)
-    go (inl i) = inl (inr i)
-    go (inr e) = inr e
+    go : Mem q os ⊎ Mem q (m ∷ []) → Mem q os ⊎ (q ≡ m)
+    go (inl i) = inl i
+    go (inr (inl e)) = inr e
 
 objects-snoc : (h : List ℕ) (p mark mark′ : ℕ) (os : List ℕ) → Objects h p mark os → Object h mark mark′ → mark + sizeAt h mark ≡ mark′ →
     Objects h p mark′ (os ++ mark ∷ [])
@@ -73,7 +64,8 @@ pub record Grown (h h′ os ps ws : List ℕ) : Type 0 where
   pub new-ptrs : ptrsAt h′ (markOf h) ≡ length ps
   pub new-size : sizeAt h′ (markOf h) ≡ 2 + (length ps + length ws)
 
-module _ {h os : List ℕ} (H : Heap h os) (ps ws : List ℕ) (few : length ps < 16777216) (room : markOf h + (2 + (length ps + length ws)) ≤ length h) where
+module _ {h os : List ℕ} (H : Heap h os) (ps ws : List ℕ) (few : length ps < 16777216)
+    (room : markOf h + (2 + (length ps + length ws)) ≤ length h) where
   abbrev new : ℕ
   new = 2 + (length ps + length ws)
 

@@ -3,6 +3,7 @@ pub mod Objects
 pub mod Audited
 pub mod Table
 pub mod Turns
+pub mod Answers
 pub mod Stores
 pub mod Formed
 pub mod Stack

@@ -1,11 +1,11 @@
 -- The test of a pointer stack, word by word: `pointers` passes a list exactly where each of its words, those past its end too, is a
 -- pointer.
 use Prim.Native.Nat.{ℕ, zero, suc}
-use mathlib.Core.Path.{_≡_, refl, sym}
-use mathlib.Core.Bool.{Bool, true, false, true≢false}
+use mathlib.Core.Path.{_≡_, refl}
+use mathlib.Core.Bool.{true}
 use mathlib.Core.List.{List, [], _∷_}
 use mathlib.Core.Logic.{inl}
-use Rattle.model.specs.Choice.{if_then_else_, if-both}
+use Rattle.model.specs.Choice.{if-both}
 use Rattle.model.specs.Words.{wordAt}
 use Rattle.model.specs.Heap.{Pointer, isPointer}
 use Rattle.model.specs.Sound.{pointers}

@@ -1,10 +1,10 @@
 -- Reads and stores in a sound heap. An object's words lie below the mark and each in one object, so a store there reaches no header,
 -- neither the mark nor the root, and no pointer word but the one written.
-use Prim.Native.Nat.{ℕ, zero, suc, _+_, _-_, _*_, _/_, _%_, _<_, _≤_}
-use mathlib.Core.Path.{_≡_, refl, ap, sym, _∙_}
+use Prim.Native.Nat.{ℕ, _+_, _<_, _≤_}
+use mathlib.Core.Path.{_≡_, refl, sym, _∙_}
 use mathlib.Core.Bool.{Bool, true, false, _&&_, true≢false}
-use mathlib.Core.List.{List, [], _∷_, _++_}
-use mathlib.Core.Logic.{_⊎_, inl, inr, _≢_}
+use mathlib.Core.List.{List}
+use mathlib.Core.Logic.{inl, inr}
 use native.Mathlib.Decide.{ℕ-discrete}
 use native.Mathlib.Omega.{arith}
 use lib.Dec.{leb, ltb}
@@ -13,7 +13,7 @@ use lib.Seq.{getD-set-same, getD-set-other}
 use borrow.Author.Tests.{leb-true, ltb-true}
 use Rattle.model.specs.Choice.{Mem}
 use Rattle.model.specs.Words.{wordAt}
-use Rattle.model.specs.Heap.{markOf, rootOf, firstObject, ptrsAt, sizeAt, inPtrs, inPlain, Object, Objects, Pointer, Heap}
+use Rattle.model.specs.Heap.{markOf, firstObject, ptrsAt, sizeAt, inPtrs, inPlain, Pointer, Heap}
 use Rattle.heap.specs.Objects.{object-of, one-object, Alike, ptrs-alike, size-alike, objects-alike}
 
 and-both : (s t : Bool) → s && t ≡ true → (s ≡ true) × (t ≡ true)
@@ -76,15 +76,18 @@ module _ {h os : List ℕ} (H : Heap h os) (o k v : ℕ) (m : Mem o os) (from : 
   abbrev stored : List ℕ
   stored = set h (o + k) v
 
+  -- the word written and a word of an object at q: one object
+  same-object : (q i : ℕ) → Mem q os → o + k ≡ i → q ≤ i → i < q + sizeAt h q → o ≡ q
+  same-object q i n e a b = one-object h firstObject (markOf h) os o q i (H .objects) m n (omega arith) (omega arith) a b
+
   -- no header is reached
   alike : (q : ℕ) → Mem q os → Alike h stored q
   alike q i =
       let n = object-lies H q i .holds in
       record {
-        first = getD-set-other h (o + k) q v 0 (λ e.
-            let w = one-object h firstObject (markOf h) os o q q (H .objects) m i (omega arith) (omega arith) (omega arith) (omega arith) in absurd (omega arith));
+        first = getD-set-other h (o + k) q v 0 (λ e. let w = same-object q q i (sym e) (omega arith) (omega arith) in absurd (omega arith));
         second = getD-set-other h (o + k) (q + 1) v 0 (λ e.
-            let w = one-object h firstObject (markOf h) os o q (q + 1) (H .objects) m i (omega arith) (omega arith) (omega arith) (omega arith) in absurd (omega arith));
+            let w = same-object q (q + 1) i (sym e) (omega arith) (omega arith) in absurd (omega arith));
       }
 
   -- the heap is kept where the word written is right for each pointer word that it is
@@ -116,7 +119,7 @@ module _ {h os : List ℕ} (H : Heap h os) (o k v : ℕ) (m : Mem o os) (from : 
   plain-apart : 2 + ptrsAt h o ≤ k → (q j : ℕ) → Mem q os → j < 2 + ptrsAt h q → q + j ≡ o + k → ⊥
   plain-apart w q j i b e =
       let n = object-lies H q i .holds in
-      let same : o ≡ q = one-object h firstObject (markOf h) os o q (o + k) (H .objects) m i (omega arith) (omega arith) (omega arith) (omega arith) in
+      let same : o ≡ q = same-object q (o + k) i refl (omega arith) (omega arith) in
       let b′ : j < 2 + ptrsAt h o = rw same b in
       omega arith
 
@@ -144,7 +147,9 @@ store-root {h} {os} H v p =
         high = rw (e0, length-set h 1 v) g;
         objects = rw e0 (objects-alike h (set h 1 v) firstObject (markOf h) os (H .objects) alike-root);
         root = rw (getD-set-same h 1 v 0 (omega arith)) p;
-        inside = λ q j i a b. let w = object-lies H q i .low in rw (far (q + j) (omega arith)) (H .inside q j i a (rw (ptrs-alike (alike-root q i)) at b));
+        inside = λ q j i a b.
+            let w = object-lies H q i .low in
+            rw (far (q + j) (omega arith)) (H .inside q j i a (rw (ptrs-alike (alike-root q i)) at b));
         free = rw e0 (λ i w. far i (omega arith) ∙ H .free i w);
       };
       long = length-set h 1 v;

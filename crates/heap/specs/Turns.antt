@@ -1,25 +1,24 @@
 -- What a turn of each loop of the audit shows. A loop's invariant says that the definition gives for the whole what it gives for the
 -- part still to come; each turn takes one step of the definition.
 use Prim.Native.Nat.{ℕ, zero, suc, _+_, _-_, _<_, _≤_}
-use mathlib.Core.Path.{_≡_, refl, ap, sym, _∙_}
+use mathlib.Core.Path.{_≡_, refl, sym, _∙_}
 use mathlib.Core.Bool.{Bool, true, false, not, _&&_, _||_}
 use mathlib.Core.List.{List, [], _∷_, _++_}
-use mathlib.Core.Logic.{_⊎_, inl, inr, _≢_}
+use mathlib.Core.Logic.{_≢_}
 use native.Mathlib.Decide.{ℕ-discrete, decLt}
 use native.Mathlib.Omega.{arith}
-use lib.Dec.{eqb, ltb, leb}
+use lib.Dec.{eqb, ltb}
 use lib.ListN.{length, getD, set, length-set, List·getD-eq-default}
 use lib.Seq.{getD-set-same, getD-set-other, set-out}
 use borrow.Author.Tests.{eq-eqb, ne-eqb, le-leb, lt-leb, le-ltb, lt-ltb, not-true, not-false}
-use Rattle.model.specs.Choice.{if_then_else_, Mem, member}
+use Rattle.model.specs.Choice.{if_then_else_, member}
 use Rattle.model.specs.Words.{wordAt}
-use Rattle.model.specs.Heap.{markOf, firstObject, kindAt, ptrsAt, sizeAt, viewKind, Object, Objects, Audit, fault, clean, andObject, badHeader, badSize, walk, range, pointerWords, isPointer, objectsIn, heapOf, objectsOf}
-use Rattle.model.specs.Sound.{pointers}
+use Rattle.model.specs.Heap.{markOf, firstObject, kindAt, ptrsAt, sizeAt, viewKind, Object, Objects, Audit, fault, clean, andObject, badHeader, badSize, walk, range, pointerWords}
 use Rattle.heap.specs.declared.HeapAudit.{HeapAudit}
 use Rattle.heap.specs.declared.HeapAudit.the-variants.{Clean, Fault}
-use Rattle.heap.specs.First.{firstBad, told, orElse, orAudit, pointerAt, zeroAt, bad-append}
-use Rattle.heap.specs.Audited.{heap-judged, heap-walk-fault, heap-mark-fault, good-object, walk-shows}
-use Rattle.heap.specs.Table.{Small, marked, Marks, isMarked, markedAt, marked-pointer, Range, judged, found, Walked, Audited}
+use Rattle.heap.specs.First.{firstBad, walked, orElse, orAudit, zeroAt, bad-append}
+use Rattle.heap.specs.Audited.{good-object}
+use Rattle.heap.specs.Table.{Small, marked, Marks, isMarked, markedAt, Range, judged, found, Walked}
 
 -- A range of words
 
@@ -81,7 +80,8 @@ module _ (h : List ℕ) (q mark : ℕ) where
       go true = refl
       go false = refl
 
-  pub judged-size : (r : Bool) → r ≡ eqb (kindAt h q) viewKind → not r ≡ false → q + 1 < mark → judged h q mark ≡ (if badSize h q mark then Fault (q + 1) else Clean)
+  pub judged-size : (r : Bool) → r ≡ eqb (kindAt h q) viewKind → not r ≡ false → q + 1 < mark →
+      judged h q mark ≡ (if badSize h q mark then Fault (q + 1) else Clean)
   unfolding judged badHeader
   judged-size r e f a = rw (← e, not-false r f, lt-leb mark (q + 1) a)
 
@@ -115,7 +115,8 @@ module _ (h : List ℕ) (q mark : ℕ) where
   unfolding judged
   judged-object e = go (badHeader h q mark) refl (badSize h q mark) refl e
     where
-      go : (s : Bool) → badHeader h q mark ≡ s → (t : Bool) → badSize h q mark ≡ t → (if s then Fault q else if t then Fault (q + 1) else Clean) ≡ Clean → Object h q mark
+      go : (s : Bool) → badHeader h q mark ≡ s → (t : Bool) → badSize h q mark ≡ t →
+          (if s then Fault q else if t then Fault (q + 1) else Clean) ≡ Clean → Object h q mark
       go true f t g e = let z : _≡_ {A = ℕ} 0 1 = cc in absurd (omega arith)
       go false f true g e = let z : _≡_ {A = ℕ} 0 1 = cc in absurd (omega arith)
       go false f false g e = good-object h q mark f g
@@ -124,7 +125,8 @@ module _ (h : List ℕ) (q mark : ℕ) where
   unfolding walk judged
   walk-step n a = rw (lt-leb mark q a) (go (badHeader h q mark) (badSize h q mark) (andObject q (walk n h (q + sizeAt h q) mark)))
     where
-      go : (s t : Bool) (r : Audit) → (if s then fault q else if t then fault (q + 1) else r) ≡ orAudit (if s then Fault q else if t then Fault (q + 1) else Clean) r
+      go : (s t : Bool) (r : Audit) →
+          (if s then fault q else if t then fault (q + 1) else r) ≡ orAudit (if s then Fault q else if t then Fault (q + 1) else Clean) r
       go true t r = refl
       go false true r = refl
       go false false r = refl
@@ -221,7 +223,7 @@ objects-last (p ∷ os) o r = rw (objects-last os o r)
 pub record Marking (h : List ℕ) (q : ℕ) (t : List Bool) : Type 0 where
   done : List ℕ
   left : ℕ
-  same : walk (length h) h firstObject (markOf h) ≡ andObjects done (walk left h q (markOf h))
+  same : walked h ≡ andObjects done (walk left h q (markOf h))
   marks : Marks done t
   enough : markOf h ≤ q + left
   pub reach : q ≤ markOf h
@@ -233,7 +235,8 @@ marking-none h t R l M =
 
 module _ (h : List ℕ) (q mark b : ℕ) (t : List Bool) (M : Marking h q t) (S : Small b (markOf h) mark) where
   -- one step of the walk
-  step-of : q < mark → (n : ℕ) → (markOf h ≤ q + n) → walk n h q (markOf h) ≡ orAudit (judged h q mark) (andObject q (walk (n - 1) h (q + sizeAt h q) (markOf h)))
+  step-of : q < mark → (n : ℕ) → markOf h ≤ q + n →
+      walk n h q (markOf h) ≡ orAudit (judged h q mark) (andObject q (walk (n - 1) h (q + sizeAt h q) (markOf h)))
   step-of a zero e = let z = S .is in absurd (omega arith)
   step-of a (suc n) e =
       let z = S .is in
@@ -244,7 +247,7 @@ module _ (h : List ℕ) (q mark b : ℕ) (t : List Bool) (M : Marking h q t) (S 
   pub marking-fault : (a : HeapAudit) (p : ℕ) (t′ : List Bool) → q < mark → a ≡ judged h q mark → a ≡ Fault p → Walked h (Fault p) t′
   marking-fault a p t′ w e f =
       let g : judged h q mark ≡ Fault p = sym e ∙ f in
-      let k : walk (length h) h firstObject (markOf h) ≡ fault p = M .same ∙ rw (step-of w (M .left) (M .enough), g) (objects-fault (M .done) p) in
+      let k : walked h ≡ fault p = M .same ∙ rw (step-of w (M .left) (M .enough), g) (objects-fault (M .done) p) in
       record {
         is = rw k;
         marks = λ c. let z : _≡_ {A = ℕ} 0 1 = cc in absurd (omega arith);
@@ -253,7 +256,8 @@ module _ (h : List ℕ) (q mark b : ℕ) (t : List Bool) (M : Marking h q t) (S 
   pub marking-object : (a : HeapAudit) → a ≡ judged h q mark → a ≡ Clean → Object h q mark
   marking-object a e f = judged-object h q mark (sym e ∙ f)
 
-  pub marking-more : (a : HeapAudit) (size d : ℕ) → Range h → q < mark → a ≡ judged h q mark → a ≡ Clean → Small d (sizeAt h q) size → Marking h (q + size) (set t q true)
+  pub marking-more : (a : HeapAudit) (size d : ℕ) → Range h → q < mark → a ≡ judged h q mark → a ≡ Clean →
+      Small d (sizeAt h q) size → Marking h (q + size) (set t q true)
   marking-more a size d R w e f D =
       let g : judged h q mark ≡ Clean = sym e ∙ f in
       let O = judged-object h q mark g in
@@ -274,14 +278,14 @@ module _ (h : List ℕ) (q mark b : ℕ) (t : List Bool) (M : Marking h q t) (S 
   marking-end w =
       let z = S .is in
       let r : markOf h ≤ q = omega arith in
-      let e : walk (length h) h firstObject (markOf h) ≡ clean (M .done) = M .same ∙ rw (ends (M .left) r) (objects-clean (M .done)) in
+      let e : walked h ≡ clean (M .done) = M .same ∙ rw (ends (M .left) r) (objects-clean (M .done)) in
       record { is = rw e; marks = λ c. all-done e }
     where
       ends : (n : ℕ) → markOf h ≤ q → walk n h q (markOf h) ≡ clean []
       ends zero r = refl
       ends (suc n) r = rw (le-leb (markOf h) q r)
 
-      all-done : walk (length h) h firstObject (markOf h) ≡ clean (M .done) → Marks (found h) t
+      all-done : walked h ≡ clean (M .done) → Marks (found h) t
       all-done e = rw e (M .marks)
 
 -- The walk that tests pointer words
@@ -313,7 +317,8 @@ module _ (h : List ℕ) (q mark b : ℕ) (t : List Bool) (M : Pointing h q t) (S
   next : q < mark → Next
   next w = go (M .rest) (M .objects) (M .same)
     where
-      go : (os : List ℕ) → Objects h q (markOf h) os → firstBad (markedAt t h) (pointerWords h (found h)) ≡ firstBad (markedAt t h) (pointerWords h os) → Next
+      go : (os : List ℕ) → Objects h q (markOf h) os →
+          firstBad (markedAt t h) (pointerWords h (found h)) ≡ firstBad (markedAt t h) (pointerWords h os) → Next
       go [] W e = absurd (omega (arith, S .is))
       go (o ∷ os) W e = record {
         object = W .1;
@@ -331,7 +336,8 @@ module _ (h : List ℕ) (q mark b : ℕ) (t : List Bool) (M : Pointing h q t) (S
   own ptrs d a D e = let z : ptrsAt h q ≡ q + 2 + ptrs - (q + 2) = omega (arith, D .is) in rw z (sym e)
 
   pub pointing-bad : (ptrs d : ℕ) (a : HeapAudit) (p : ℕ) → q < mark → Small d (ptrsAt h q) ptrs →
-      a ≡ firstBad (markedAt t h) (range (q + 2) (q + 2 + ptrs - (q + 2))) → a ≡ Fault p → Fault p ≡ firstBad (markedAt t h) (pointerWords h (found h))
+      a ≡ firstBad (markedAt t h) (range (q + 2) (q + 2 + ptrs - (q + 2))) → a ≡ Fault p →
+      Fault p ≡ firstBad (markedAt t h) (pointerWords h (found h))
   pointing-bad ptrs d a p w D e f = sym (next w .words ∙ rw (own ptrs d a D e, f))
 
   pub pointing-more : (ptrs d : ℕ) (a : HeapAudit) (size g : ℕ) → q < mark → Small d (ptrsAt h q) ptrs →
@@ -352,135 +358,3 @@ module _ (h : List ℕ) (q mark b : ℕ) (t : List Bool) (M : Pointing h q t) (S
       none : (os : List ℕ) → Objects h q (markOf h) os → firstBad (markedAt t h) (pointerWords h os) ≡ Clean
       none [] W = refl
       none (o ∷ os) W = absurd (omega (arith, S .is, W .1 .holds, W .1 .ends))
-
--- The whole
-
--- the walk found the objects
-pub walked-objects : (h : List ℕ) (t : List Bool) (r : HeapAudit) → Range h → Walked h r t → r ≡ Clean → walk (length h) h firstObject (markOf h) ≡ clean (found h)
-unfolding found
-walked-objects h t r R W e = go (walk (length h) h firstObject (markOf h)) refl (sym (W .is) ∙ e)
-  where
-    go : (a : Audit) → walk (length h) h firstObject (markOf h) ≡ a → told a ≡ Clean → a ≡ clean (objectsIn a)
-    go (clean os) f g = refl
-    go (fault q) f g = cc
-
-pub walked-right : (h : List ℕ) (t : List Bool) (r : HeapAudit) → Range h → Walked h r t → r ≡ Clean → Objects h firstObject (markOf h) (found h)
-walked-right h t r R W e = rw (walked-objects h t r R W e) at (walk-shows (length h) h firstObject (markOf h) (R .low) (omega (arith, R .high)))
-
-bad-same : (P Q : ℕ → Bool) (is : List ℕ) → ((i : ℕ) → P i ≡ Q i) → firstBad P is ≡ firstBad Q is
-unfolding firstBad
-bad-same P Q [] f = refl
-bad-same P Q (i ∷ is) f = rw (f i, bad-same P Q is f)
-
--- in the table or among the objects, the same words are pointers
-pub table-same : (h os : List ℕ) (t : List Bool) (is : List ℕ) → Marks os t → firstBad (pointerAt h os) is ≡ firstBad (markedAt t h) is
-unfolding markedAt
-table-same h os t is M = bad-same (pointerAt h os) (markedAt t h) is (λ i. sym (marked-pointer os t (wordAt h i) M))
-
-told-or : (a : HeapAudit) (b : Audit) → told (orAudit a b) ≡ orElse a (told b)
-told-or Clean b = refl
-told-or (Fault i) b = refl
-
-pub audited-mark : (h : List ℕ) (t : List Bool) (mark b : ℕ) → Small b (markOf h) mark → (mark < 2) ⊎ (length h < mark) → Audited h (Fault 0) t
-audited-mark h t mark b S e = record {
-  is = rw (heap-mark-fault h (go e));
-  marks = λ c. let z : _≡_ {A = ℕ} 0 1 = cc in absurd (omega arith);
-}
-  where
-    go : (mark < 2) ⊎ (length h < mark) → (markOf h < firstObject) ⊎ (length h < markOf h)
-    go (inl e) = inl (rw (S .is) at e)
-    go (inr e) = inr (rw (S .is) at e)
-
-pub audited-walk : (h : List ℕ) (t t′ : List Bool) (r : HeapAudit) (q : ℕ) → Range h → Walked h r t → r ≡ Fault q → Audited h (Fault q) t′
-audited-walk h t t′ r q R W e = go (walk (length h) h firstObject (markOf h)) refl (sym (W .is) ∙ e)
-  where
-    go : (a : Audit) → walk (length h) h firstObject (markOf h) ≡ a → told a ≡ Fault q → Audited h (Fault q) t′
-    go (clean os) f g = let z : _≡_ {A = ℕ} 0 1 = cc in absurd (omega arith)
-    go (fault p) f g = record {
-      is = rw (heap-walk-fault h p (R .low) (R .high) f) (sym g);
-      marks = λ c. let z : _≡_ {A = ℕ} 0 1 = cc in absurd (omega arith);
-    }
-
-module _ (h : List ℕ) (t : List Bool) (w : HeapAudit) (R : Range h) (W : Walked h w t) (e : w ≡ Clean) where
-  -- the three tests that are left: the root, the pointer words, the free words
-  audited-is : (a b c r : HeapAudit) → firstBad (markedAt t h) (1 ∷ []) ≡ a → firstBad (markedAt t h) (pointerWords h (found h)) ≡ b →
-      firstBad (zeroAt h) (range (markOf h) (length h - markOf h)) ≡ c → r ≡ orElse a (orElse b c) → Audited h r t
-  unfolding objectsOf
-  audited-is a b c r f g k l =
-      let M = W .marks e in
-      let s : firstBad (pointerAt h (found h)) (1 ∷ pointerWords h (found h)) ≡ orElse a b =
-      table-same h (found h) t (1 ∷ pointerWords h (found h)) M ∙ bad-append (markedAt t h) (1 ∷ []) (pointerWords h (found h)) ∙ rw (f, g) in
-      let J : heapOf h ≡ orAudit (orElse a b) (orAudit c (clean (found h))) = heap-judged h (found h) (R .low) (R .high) (walked-objects h t w R W e) ∙ rw (s, k) in
-      record {
-        is = l ∙ rw J (all-told a b c);
-        marks = λ u. same a b c J (sym l ∙ u) M;
-      }
-    where
-      all-told : (a b c : HeapAudit) → orElse a (orElse b c) ≡ told (orAudit (orElse a b) (orAudit c (clean (found h))))
-      all-told Clean Clean Clean = refl
-      all-told Clean Clean (Fault i) = refl
-      all-told Clean (Fault i) c = refl
-      all-told (Fault i) b c = refl
-
-      same : (a b c : HeapAudit) → heapOf h ≡ orAudit (orElse a b) (orAudit c (clean (found h))) → orElse a (orElse b c) ≡ Clean → Marks (found h) t → Marks (objectsOf h) t
-      same Clean Clean Clean J u M = rw J M
-      same Clean Clean (Fault i) J u M = let z : _≡_ {A = ℕ} 0 1 = cc in absurd (omega arith)
-      same Clean (Fault i) c J u M = let z : _≡_ {A = ℕ} 0 1 = cc in absurd (omega arith)
-      same (Fault i) b c J u M = let z : _≡_ {A = ℕ} 0 1 = cc in absurd (omega arith)
-
-  root-test : (v : Bool) → v ≡ isMarked t (wordAt h 1) → firstBad (markedAt t h) (1 ∷ []) ≡ (if v then Clean else Fault 1)
-  unfolding firstBad markedAt
-  root-test v f = rw (← f)
-
-  pub audited-root : (v : Bool) → v ≡ isMarked t (wordAt h 1) → not v ≡ true → Audited h (Fault 1) t
-  audited-root v f g = audited-is (Fault 1) _ _ (Fault 1) (root-test v f ∙ rw (not-true v g)) refl refl refl
-
-  pub audited-pointer : (v : Bool) (b : HeapAudit) (q : ℕ) → v ≡ isMarked t (wordAt h 1) → not v ≡ false →
-      b ≡ firstBad (markedAt t h) (pointerWords h (found h)) → b ≡ Fault q → Audited h (Fault q) t
-  audited-pointer v b q f g k l = audited-is Clean (Fault q) _ (Fault q) (root-test v f ∙ rw (not-false v g)) (sym k ∙ l) refl refl
-
-  pub audited-free : (v : Bool) (b c : HeapAudit) → v ≡ isMarked t (wordAt h 1) → not v ≡ false →
-      b ≡ firstBad (markedAt t h) (pointerWords h (found h)) → b ≡ Clean →
-      c ≡ firstBad (zeroAt h) (range (markOf h) (length h - markOf h)) → Audited h c t
-  audited-free v b c f g k l m = audited-is Clean Clean c c (root-test v f ∙ rw (not-false v g)) (sym k ∙ l) (sym m) refl
-
--- A list of words that are all to be pointers
-
-abbrev pub passes : HeapAudit → Bool
-passes Clean = true
-passes (Fault i) = false
-
-passes-later : (P Q : ℕ → Bool) (i n : ℕ) → ((j : ℕ) → P (suc j) ≡ Q j) → passes (firstBad P (range (suc i) n)) ≡ passes (firstBad Q (range i n))
-unfolding firstBad
-passes-later P Q i zero f = refl
-passes-later P Q i (suc n) f = rw (f i) (go (Q i) (passes-later P Q (suc i) n f))
-  where
-    go : (t : Bool) → passes (firstBad P (range (suc (suc i)) n)) ≡ passes (firstBad Q (range (suc i) n)) →
-        passes (if t then firstBad P (range (suc (suc i)) n) else Fault (suc i)) ≡ passes (if t then firstBad Q (range (suc i) n) else Fault i)
-    go true e = e
-    go false e = refl
-
-pub words-pointers : (os l : List ℕ) → pointers os l ≡ passes (firstBad (pointerAt l os) (range 0 (length l)))
-unfolding firstBad
-words-pointers os [] = refl
-words-pointers os (v ∷ l) =
-    go (isPointer os v) (words-pointers os l ∙ sym (passes-later (pointerAt (v ∷ l) os) (pointerAt l os) 0 (length l) (λ j. refl)))
-  where
-    go : (t : Bool) → pointers os l ≡ passes (firstBad (pointerAt (v ∷ l) os) (range 1 (length l))) →
-        (if t then pointers os l else false) ≡ passes (if t then firstBad (pointerAt (v ∷ l) os) (range 1 (length l)) else Fault 0)
-    go true e = e
-    go false e = refl
-
-pub pointers-told : (l : List ℕ) (t : List Bool) (a : HeapAudit) → a ≡ firstBad (markedAt t l) (range 0 (length l - 0)) →
-    (os : List ℕ) → Marks os t → passes a ≡ pointers os l
-pointers-told l t a e os M =
-    let z : length l - 0 ≡ length l = omega arith in
-    rw (e, z, ← (table-same l os t (range 0 (length l)) M)) (sym (words-pointers os l))
-
-pub pointers-clean : (l : List ℕ) (t : List Bool) (a : HeapAudit) → a ≡ firstBad (markedAt t l) (range 0 (length l - 0)) → a ≡ Clean →
-    (os : List ℕ) → Marks os t → true ≡ pointers os l
-pointers-clean l t a e f os M = rw f at (pointers-told l t a e os M)
-
-pub pointers-fault : (l : List ℕ) (t : List Bool) (a : HeapAudit) (q : ℕ) → a ≡ firstBad (markedAt t l) (range 0 (length l - 0)) → a ≡ Fault q →
-    (os : List ℕ) → Marks os t → false ≡ pointers os l
-pointers-fault l t a q e f os M = rw f at (pointers-told l t a e os M)

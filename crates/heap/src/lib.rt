@@ -1,14 +1,13 @@
 // The heap: its audit for refusal 11, and reads of its objects. Document 01, Memory, second paragraph.
 // The audit walks the objects and marks in a table where they start; a pointer is then looked up there.
 ghost use mathlib.Core.Path.{_≡_};
-ghost use mathlib.Core.Bool.{Bool};
 ghost use Prim.Native.Nat.{ℕ, _+_, _-_, _≤_, _<_};
-ghost use mathlib.Core.List.{List, [], _∷_};
+ghost use mathlib.Core.List.{List, []};
 ghost use lib.Dec.{eqb};
 ghost use lib.ListN.{length};
 ghost use Rattle.model.specs.Heap.{markOf, kindAt, ptrsAt, sizeAt, viewKind, inPtrs, inPlain, Objects, range, pointerWords};
 ghost use Rattle.model.specs.Sound.{pointers};
-ghost use Rattle.heap.specs.First.{firstBad, zeroAt};
+ghost use Rattle.heap.specs.First.{firstBad, zeroAt, freeWords};
 ghost use Rattle.heap.specs.Table.{Small, Marks, isMarked, markedAt, found, Range, judged, Walked, Audited};
 
 // What the audit answers: the heap is sound, or the index of the word at fault.
@@ -140,7 +139,7 @@ fn bad_pointer(words: &[u32], marks: &[bool; 16384], from: usize, end: usize) ->
     HeapAudit::Clean
 }
 
-// The root, then the objects' pointer words.
+// The first of the objects' pointer words that is no pointer.
 fn pointers_right(heap: &[u32], marks: &[bool; 16384]) -> HeapAudit
     requires { ⌜ Range (now heap) × Objects (now heap) 2 (markOf (now heap)) (found (now heap)) ⌝ }
     ensures { λ r. ⌜ r ≡ firstBad (markedAt (now (marks .entry)) (now (heap .entry))) (pointerWords (now (heap .entry)) (found (now (heap .entry)))) ⌝ }
@@ -159,10 +158,10 @@ fn pointers_right(heap: &[u32], marks: &[bool; 16384]) -> HeapAudit
     HeapAudit::Clean
 }
 
-// The words from the mark on are 0.
+// The first word from the mark on that is not 0.
 fn free_zero(heap: &[u32]) -> HeapAudit
     requires { ⌜ Range (now heap) ⌝ }
-    ensures { λ r. ⌜ r ≡ firstBad (zeroAt (now (heap .entry))) (range (markOf (now (heap .entry))) (length (now (heap .entry)) - markOf (now (heap .entry)))) ⌝ }
+    ensures { λ r. ⌜ r ≡ firstBad (zeroAt (now (heap .entry))) (freeWords (now (heap .entry))) ⌝ }
 {
     let mark = wide(heap[0]);
     let mut i = mark;

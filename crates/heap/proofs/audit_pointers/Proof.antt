@@ -1,6 +1,6 @@
 -- The words are pointers of the marked objects exactly if none is at fault in the table.
 use borrow.Author.Needs.{needs}
-use Rattle.heap.specs.Turns.{pointers-clean, pointers-fault}
+use Rattle.heap.specs.Answers.{pointers-clean, pointers-fault}
 use Rattle.heap.proofs.audit_pointers.Statement.{statement}
 use Rattle.heap.proofs.audit_pointers.Tie as tie
 
