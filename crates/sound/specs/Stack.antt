@@ -9,20 +9,13 @@ use native.Mathlib.Omega.{arith}
 use lib.ListN.{length}
 use lib.Dec.{eqb}
 use borrow.Author.Tests.{eq-eqb, ne-eqb, eqb-true, eqb-false}
-use Rattle.model.specs.Choice.{if_then_else_, if-both, Test, all, All, all-true, true-all}
+use Rattle.model.specs.Choice.{All, all-true, true-all}
 use Rattle.model.specs.File.{procAt, operand, paramsMain, paramsPtr}
 use Rattle.model.specs.Checker.{none}
 use Rattle.model.specs.Control.{Rec, recAt, recOf, down}
 use Rattle.model.specs.Sound.{mainAt, ptrAt, innerAt, isIns, isCall, callSize, frameTests, firstTests, callerTests, handlerTests, stack?}
+use Rattle.sound.specs.Tests.{if-cases, if-all}
 use Rattle.sound.specs.Lists.{down-length}
-
-if-cases : (t a b : Bool) {C : Type 0} → (t ≡ true → a ≡ true → C) → (t ≡ false → b ≡ true → C) → (if t then a else b) ≡ true → C
-if-cases true a b k l e = k refl e
-if-cases false a b k l e = l refl e
-
--- tests, and then more
-if-all : (ts : List Test) (b : Bool) {C : Type 0} → (All ts → b ≡ true → C) → (if all ts then b else false) ≡ true → C
-if-all ts b k e = let g = if-both (all ts) b e in k (all-true ts (g .0)) (g .1)
 
 module _ (f map : List ℕ) (lm lp : ℕ) where
   -- the records, topmost first; the numbers are those of `stack?`. c: the call that the frame below waits for; i′, j′: its bases
