@@ -3,3 +3,4 @@ pub mod Lists
 pub mod Stack
 pub mod Laws
 pub mod Sound
+pub mod Keep
