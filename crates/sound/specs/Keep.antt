@@ -18,11 +18,12 @@ use Rattle.model.specs.Instructions.{mtop, ptop, callTests}
 use Rattle.model.specs.Step.{called, returned, finished, opened, closed, caught, applyInto}
 use Rattle.model.specs.Sound.{mainAt, ptrAt, innerAt, isIns, isCall}
 use Rattle.model.specs.Calls.{Lent, started}
+use Rattle.model.specs.declared.Into.{Into}
 use Rattle.model.specs.declared.Into.the-variants.{Frame, Return, Handler, Close}
 use Rattle.model.specs.declared.Put.{Put}
 use Rattle.sound.specs.Lists.{Zero, Each, length-cut, cut-zero, cut-each, set-zero, length-put, put-zero, down-put, down-cut, down-length}
 use Rattle.sound.specs.Stack.{Stack, first, frame, handler, stack-here, stack-move, stack-some, stack-frame, Found, find}
-use Rattle.sound.specs.Laws.{Is, CodeLaws, stateIn, at-entry, at-call, at-return, at-enter, at-exit, inner-opens, call-byte, byte-call, call-after}
+use Rattle.sound.specs.Laws.{Is, CodeLaws, at-entry, no-params, at-call, at-return, at-enter, at-exit, inner-opens, call-byte, byte-call, call-after}
 use Rattle.sound.specs.Sound.{Words, Running, Finished, Sound}
 
 -- what a call writes, as `planOf` has it
@@ -35,6 +36,10 @@ framePut f m k =
 abbrev pub returnPut : Machine → Put
 returnPut m =
     record { into = Return; place = recOf (m .ctl) (m .regs .frame) .w3; mtop = mtop m; ptop = ptop m; at = 0; word = 0 }
+
+-- a 160 and a 161
+abbrev pub behindPut : Into → List ℕ → Machine → Put
+behindPut into f m = record { into = into; place = after f (m .regs .place); mtop = mtop m; ptop = ptop m; at = 0; word = 0 }
 
 module _ (f map : List ℕ) where
   pub running-here : (Ptr : ℕ → Type 0) (m : Machine) (n i j : ℕ) → Running f map Ptr m n i j → isIns f (m .regs .place) ≡ true
@@ -149,3 +154,130 @@ module _ (f map : List ℕ) where
                   zero-main = R .words .zero-main; zero-ptr = R .words .zero-ptr;
                   zero-ctl = cut-zero (m .regs .ctop - recordWords) (m .ctl); pointers = R .words .pointers } }))
         go (handler u T S) = absurd (u (E .inner))
+
+    -- 160: a handler's record on top
+    pub keep-enter : (n i j s : ℕ) → Running f map Ptr m n i j → insAt f (m .regs .place) ≡ enter s →
+        m .regs .ctop + recordWords ≤ length (m .ctl) → Running f map Ptr (opened (behindPut Handler f m) m) (suc n) i j
+    keep-enter n i j s R e fits =
+        let p = m .regs .place in
+        let h = running-here Ptr m n i j R in
+        let I = at-enter f map L p s h e .behind in
+        let small = L .small p h in
+        let e3 = R .ctl-top in
+        let c : records m ≡ n = omega arith in
+        let w = rec p (mtop m) (ptop m) (m .regs .frame) (m .regs .handler) in
+        record {
+          main-top = rw (I .main) (R .main-top); ptr-top = rw (I .ptr) (R .ptr-top); ctl-top = omega arith; state-is = R .state-is;
+          room = rw (length-put (m .ctl) (records m) w) fits;
+          stack =
+            rw (down-put (m .ctl) (records m) n w c (omega arith), I .inner)
+            (handler {w = w} {rs = down (m .ctl) n} {t = p} {n = m .regs .frame} {h = suc (records m)} {i = i} {j = j} (omega arith)
+            (omega (arith, down-length (m .ctl) n), (refl, (R .main-top, (R .ptr-top, (refl, tt)))))
+            (stack-move f map (length (m .main)) (length (m .ptr)) (after f p) (I .here) (I .proc) (R .stack)));
+          words =
+            record {
+              zero-main = R .words .zero-main; zero-ptr = R .words .zero-ptr;
+              zero-ctl = put-zero (m .ctl) (records m) (m .regs .ctop) w (omega arith) (R .words .zero-ctl);
+              pointers = R .words .pointers } }
+
+    -- 161: the topmost record goes, a handler's, since one is open
+    pub keep-exit : (n i j : ℕ) → Running f map Ptr m n i j → insAt f (m .regs .place) ≡ exit →
+        Running f map Ptr (closed (behindPut Close f m) m) (n - 1) i j
+    keep-exit zero i j R e = absurd (omega (arith, stack-some f map (length (m .main)) (length (m .ptr)) (R .stack)))
+    keep-exit (suc n) i j R e = go (R .stack)
+      where
+        X : (innerAt map (m .regs .place) ≢ none)
+            × Is f map (after f (m .regs .place)) (procAt f (m .regs .place))
+            (state (mainAt map (m .regs .place)) (ptrAt map (m .regs .place)) (innerAt map (innerAt map (m .regs .place))))
+        X = at-exit f map L (m .regs .place) (running-here Ptr m (suc n) i j R) e
+        go : Stack f map (length (m .main)) (length (m .ptr)) (down (m .ctl) (suc n)) (innerAt map (m .regs .place)) (m .regs .place)
+            (m .regs .frame) (m .regs .handler) i j → Running f map Ptr (closed (behindPut Close f m) m) (suc n - 1) i j
+        go (first z u F T) = absurd (X .0 z)
+        go (frame z u F T ei ej S) = absurd (X .0 z)
+        go (handler u T S) =
+            let I = X .1 in
+            let e3 = R .ctl-top in
+            let e4 = R .room in
+            let less : suc n - 1 ≡ n = omega arith in
+            let top : m .regs .handler - 1 ≡ n = omega (arith, down-length (m .ctl) n) in
+            rw less
+            (record {
+              main-top = rw (I .main) (R .main-top); ptr-top = rw (I .ptr) (R .ptr-top); ctl-top = omega arith; state-is = R .state-is;
+              room = rw (length-cut (m .regs .ctop - recordWords) (m .ctl)) (omega arith);
+              stack =
+                rw (top, I .inner, down-cut (m .ctl) n (m .regs .ctop - recordWords) (omega arith))
+                (stack-move f map (length (m .main)) (length (m .ptr)) (after f (m .regs .place)) (I .here) (I .proc) S);
+              words =
+                record {
+                  zero-main = R .words .zero-main; zero-ptr = R .words .zero-ptr;
+                  zero-ctl = cut-zero (m .regs .ctop - recordWords) (m .ctl); pointers = R .words .pointers } })
+
+    -- a raise: the handler found takes the code, and all records from its own on go
+    pub keep-raise : (n i j code : ℕ) → Ptr 0 → Running f map Ptr m n i j → m .regs .handler ≢ 0 →
+        Sound f map Ptr (caught f m (m .regs .handler - 1) (recOf (m .ctl) (m .regs .handler)) code)
+    unfolding caught handlerAt
+    keep-raise n i j code nil R ne =
+        go (find f map (length (m .main)) (length (m .ptr)) (m .ctl) n refl (R .stack))
+      where
+        go : (m .regs .handler ≡ 0) ⊎ Found f map (length (m .main)) (length (m .ptr)) (m .ctl) n (m .regs .handler) →
+            Sound f map Ptr (caught f m (m .regs .handler - 1) (recOf (m .ctl) (m .regs .handler)) code)
+        go (inl z) = absurd (ne z)
+        go (inr F) =
+            let q = F .q in
+            let o = innerAt map q in
+            let k = F .under in
+            let w = recAt (m .ctl) k in
+            let lm = length (m .main) in
+            let lp = length (m .ptr) in
+            let N = inner-opens f map L q (stack-here f map lm lp (F .stack)) (F .some) in
+            let I = N .opens .target in
+            let T = F .tests in
+            let G = stack-frame f map lm lp (m .ctl) k (F .stack) in
+            let top : m .regs .handler - 1 ≡ k = omega (arith, down-length (m .ctl) k) in
+            let to : headOf f (recOf (m .ctl) (w .w3) .w2) + operand f (w .w0) ≡ handlerAt f o (operand f o) =
+            rw (T .1 .0, T .1 .1 .1 .1 .0, G .1 .1 .1 .1 .0, N .proc) in
+            let e1 : w .w1 ≡ F .i + mainAt map o = T .1 .1 .0 in
+            let e2 : w .w2 ≡ F .j + ptrAt map o = T .1 .1 .1 .0 in
+            let e3 = R .ctl-top in
+            let e4 = R .room in
+            let e5 = F .below in
+            rw top
+            (inl (k, F .i, F .j, record {
+              main-top = rw (to, I .main) (omega arith); ptr-top = rw (to, I .ptr) e2; ctl-top = refl; state-is = R .state-is;
+              room = rw (length-cut (recordWords * k) (m .ctl)) (omega arith);
+              stack =
+                rw (to, length-set, length-cut (w .w1) (m .main), length-cut (w .w2) (m .ptr), I .inner,
+                  down-cut (m .ctl) k (recordWords * k) (omega arith), T .1 .1 .1 .1 .0)
+                (stack-move f map lm lp (handlerAt f o (operand f o)) (I .here) (I .proc ∙ N .proc) (F .stack));
+              words =
+                record {
+                  zero-main =
+                    set-zero (w .w1 + 1) (cut (w .w1) (m .main)) (w .w1) code (omega arith)
+                    (λ u z. cut-zero (w .w1) (m .main) u (omega arith));
+                  zero-ptr = cut-zero (w .w2) (m .ptr); zero-ctl = cut-zero (recordWords * k) (m .ctl);
+                  pointers = cut-each Ptr (w .w2) (m .ptr) nil (R .words .pointers) } }))
+
+-- a start: the first frame alone, at procedure 0's first instruction
+pub start-sound : (Ptr : ℕ → Type 0) (l : Lent) → CodeLaws (l .file) (l .map) → Ptr 0 →
+    mostMain (l .file) 0 ≤ length (l .main) → mostPtr (l .file) 0 ≤ length (l .ptr) → recordWords ≤ length (l .ctl) →
+    Running (l .file) (l .map) Ptr (started l) 1 0 0
+unfolding started
+start-sound Ptr l L nil fm fp fc =
+    let f = l .file in
+    let I = at-entry f (l .map) L 0 (L .some) in
+    let H = no-params f (l .map) L in
+    let w = rec 0 0 0 0 0 in
+    let c : recordWords * 0 + recordWords ≤ length (cut 0 (l .ctl)) = rw (length-cut 0 (l .ctl)) fc in
+    record {
+      main-top = rw (I .main) (omega arith); ptr-top = rw (I .ptr) (omega arith); ctl-top = refl; state-is = refl;
+      room = rw (length-put (cut 0 (l .ctl)) 0 w) c;
+      stack =
+        rw (length-cut 0 (l .main), length-cut 0 (l .ptr), down-put (cut 0 (l .ctl)) 0 0 w refl c)
+        (first {w = w} {rs = []} {p = entry f 0} {n = 1} {h = 0} {i = 0} {j = 0} (I .inner) refl
+        (I .here, (refl, (refl, (refl, (sym (I .proc), (rw (I .proc) (omega arith), (rw (I .proc) (omega arith), tt)))))))
+        (I .proc, (refl, (refl, (refl, (refl, (refl, tt)))))));
+      words =
+        record {
+          zero-main = cut-zero 0 (l .main); zero-ptr = cut-zero 0 (l .ptr);
+          zero-ctl = put-zero (cut 0 (l .ctl)) 0 0 w refl (cut-zero 0 (l .ctl));
+          pointers = λ i. rw (cut-zero 0 (l .ptr) i (omega arith)) nil } }

@@ -136,6 +136,11 @@ module _ (f map : List ℕ) (L : CodeLaws f map) where
         here = L .heads n h .1 .1 .1 .1 .0; proc = L .entered n h; main = ap (λ s. s .main) e; ptr = ap (λ s. s .ptr) e;
         inner = ap (λ s. s .inner) e }
 
+  -- procedure 0 has no parameters
+  pub no-params : (paramsMain f 0 ≡ 0) × (paramsPtr f 0 ≡ 0)
+  unfolding headTests
+  no-params = let H = L .heads 0 (L .some) in (H .1 .1 .1 .1 .1 .1 .0, H .1 .1 .1 .1 .1 .1 .1 .0)
+
   -- where the instruction at p leads
   pub passed-on : (p q : ℕ) (t : State) → isIns f p ≡ true → Passes f (stateIn map) p q t → Is f map q (procAt f p) t
   unfolding isIns own
