@@ -23,7 +23,7 @@ use Rattle.model.specs.declared.Into.the-variants.{Frame, Return, Handler, Clos
 use Rattle.model.specs.declared.Put.{Put}
 use Rattle.sound.specs.Lists.{Zero, Each, length-cut, cut-zero, cut-each, set-zero, length-put, put-zero, down-put, down-cut, down-length}
 use Rattle.sound.specs.Stack.{Stack, first, frame, handler, stack-here, stack-move, stack-some, stack-frame, Found, find}
-use Rattle.sound.specs.Laws.{Is, CodeLaws, at-entry, no-params, at-call, at-return, at-enter, at-exit, inner-opens, call-byte, byte-call, call-after}
+use Rattle.sound.specs.Laws.{Is, CodeLaws, at-entry, no-params, at-call, at-return, at-enter, at-exit, inner-opens, depth-most, call-byte, byte-call, call-after}
 use Rattle.sound.specs.Sound.{Words, Running, Finished, Sound}
 
 -- what a call writes, as `planOf` has it
@@ -59,6 +59,15 @@ module _ (f map : List ℕ) where
         words = record { zero-main = zm; zero-ptr = zp; zero-ctl = R .words .zero-ctl; pointers = each } }
 
   module _ (L : CodeLaws f map) (Ptr : ℕ → Type 0) (m : Machine) where
+    -- the tops lie within the stacks
+    pub running-fits : (n i j : ℕ) → Running f map Ptr m n i j → (mtop m ≤ length (m .main)) × (ptop m ≤ length (m .ptr))
+    running-fits n i j R =
+        let F = stack-frame f map (length (m .main)) (length (m .ptr)) (m .ctl) n (R .stack) in
+        let D = depth-most f map L (m .regs .place) (F .0) in
+        let e1 = R .main-top in
+        let e2 = R .ptr-top in
+        (omega arith, omega arith)
+
     -- 72: the callee's frame on top
     pub keep-call : (n i j k : ℕ) → Running f map Ptr m n i j → insAt f (m .regs .place) ≡ call k → All (callTests f m k) →
         Running f map Ptr (called f (framePut f m k) m) (suc n) (mtop m - paramsMain f k) (ptop m - paramsPtr f k)

@@ -4,3 +4,4 @@ pub mod Stack
 pub mod Laws
 pub mod Sound
 pub mod Keep
+pub mod Plan

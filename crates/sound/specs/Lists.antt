@@ -7,8 +7,8 @@ use mathlib.Core.List.{List, [], _∷_, _++_}
 use mathlib.Core.Logic.{_⊎_, inl, inr}
 use native.Mathlib.Omega.{arith}
 use native.Mathlib.Decide.{ℕ-discrete, decLt}
-use lib.ListN.{length, getD, drop, set, length-set}
-use lib.Seq.{sets, length-sets, getD-set-same, getD-set-other, set-out}
+use lib.ListN.{length, getD, take, drop, set, length-set}
+use lib.Seq.{sets, length-sets, getD-set-same, getD-set-other, set-out, getD-drop, slice}
 use lib.Dec.{eqb}
 use borrow.Author.Tests.{eqb-true, eq-eqb}
 use Rattle.model.specs.Choice.{if_then_else_, if-both}
@@ -64,6 +64,16 @@ set-each P l j v pv h i = go (ℕ-discrete i j) (decLt j (length l))
     go (yes e) (yes k) = rw (e, getD-set-same l j v 0 k) pv
     go (yes e) (no k) = let w : length l ≤ j = omega arith in rw (set-out l j v w) (h i)
     go (no e) d = rw (getD-set-other l j i v 0 e) (h i)
+
+-- the words from a on, up to b
+pub slice-each : (P : ℕ → Type 0) (a b : ℕ) (l : List ℕ) → P 0 → Each P l → Each P (slice a b l)
+slice-each P a b l z h i = rw (getD-drop a (take b l) i 0) (below b l h (a + i))
+  where
+    below : (b : ℕ) (l : List ℕ) → Each P l → Each P (take b l)
+    below zero l h i = z
+    below (suc b) [] h i = z
+    below (suc b) (w ∷ l) h zero = h 0
+    below (suc b) (w ∷ l) h (suc i) = below b l (λ k. h (suc k)) i
 
 -- the tests of the audit, and what they say
 pub zeros-true : (t : ℕ) (l : List ℕ) → zeros (drop t l) ≡ true → Zero t l
