@@ -10,14 +10,14 @@ use lib.ListN.{length, set, drop, take, getD}
 use lib.Seq.{slice, length-slice, getD-drop, getD-take}
 use lib.Dec.{ltb, leb, eqb}
 use borrow.Author.Tests.{eqb-true, eqb-false, leb-true, ltb-true}
-use Rattle.model.specs.Choice.{if_then_else_, All, Mem}
+use Rattle.model.specs.Choice.{if_then_else_, all, All, all-true, Mem}
 use Rattle.model.specs.Words.{wordAt, truth, operate, operate1}
-use Rattle.model.specs.File.{Side, onMain, onPtr, Aside, keepMain, keepPtr, keepNone, Basic, local, assign, field, setField, form, literal, nil, root, setRoot, retract, binary, samePtr, unary, Ins, basic, jump, branch, branchKeep, after, insAt, procAt}
+use Rattle.model.specs.File.{Side, onMain, onPtr, Aside, keepMain, keepPtr, keepNone, Basic, local, assign, field, setField, form, literal, nil, root, setRoot, retract, binary, samePtr, unary, Ins, basic, jump, branch, branchKeep, call, return, enter, exit, raise, after, entry, insAt, procAt}
 use Rattle.model.specs.Checker.{State, state, Effect, effect, basicEffect, effectOf, moved, outer, passes, depthTests}
 use Rattle.model.specs.Heap.{Heap, Pointer, markOf, rootOf, inPtrs, inPlain, ptrsAt, formed}
-use Rattle.model.specs.Control.{Machine, mainBase, ptrBase}
-use Rattle.model.specs.Instructions.{mtop, ptop, mainWord, ptrWord, onObject, onValue, write, basicPlan, planOf}
-use Rattle.model.specs.Step.{formedFrom}
+use Rattle.model.specs.Control.{Machine, recordWords, mainBase, ptrBase}
+use Rattle.model.specs.Instructions.{mtop, ptop, mainWord, ptrWord, onObject, onValue, write, callTests, basicPlan, planOf, planAt}
+use Rattle.model.specs.Step.{formedFrom, settle, raised}
 use Rattle.model.specs.Sound.{mainAt, ptrAt, innerAt, isIns}
 use Rattle.model.specs.declared.Value.{Value}
 use Rattle.model.specs.declared.Value.the-variants.{Word, Outside}
@@ -31,7 +31,7 @@ use Rattle.sound.specs.Lists.{Each, slice-each}
 use Rattle.sound.specs.Stack.{stack-frame}
 use Rattle.sound.specs.Laws.{Is, CodeLaws, stateIn, leads, pops, rules}
 use Rattle.sound.specs.Sound.{Words, Running}
-use Rattle.sound.specs.Keep.{running-here, running-fits}
+use Rattle.sound.specs.Keep.{framePut, returnPut, behindPut, running-here, running-fits}
 
 -- a view in the place of free words of the heap h: h′ with its objects, the old pointers, and the new one
 pub record Formed (h os h′ : List ℕ) : Type 0 where
@@ -70,32 +70,37 @@ module _ (f map : List ℕ) (m : Machine) (os : List ℕ) (i j : ℕ) where
   Written into.Handler put = ⊥
   Written into.Close put = ⊥
 
-  unfoldable pub Fits : Plan → Type 0
-  Fits (Write put) = Moves put × Written (put .into) put
-  Fits Overflow = Unit {0}
-  Fits NilObject = Unit {0}
-  Fits BadField = Unit {0}
-  Fits HeapFull = Unit {0}
-  Fits NoRoom = Unit {0}
-  Fits Thrown = Unit {0}
+  -- a plan that is right for the instruction: a plain write, one on the control stack, or an exception
+  pub data Fits : Plan → Type 0 where
+    plain : {put : Put} → Moves put → Written (put .into) put → Fits (Write put)
+    calls : (k : ℕ) → insAt f (m .regs .place) ≡ call k → All (callTests f m k) → Fits (Write (framePut f m k))
+    leaves : insAt f (m .regs .place) ≡ return → Fits (Write (returnPut m))
+    opens : (s : ℕ) → insAt f (m .regs .place) ≡ enter s → m .regs .ctop + recordWords ≤ length (m .ctl) →
+        Fits (Write (behindPut into.Handler f m))
+    closes : insAt f (m .regs .place) ≡ exit → Fits (Write (behindPut into.Close f m))
+    raises : {plan : Plan} (code : ℕ) → settle f m plan ≡ raised f m code → Fits plan
 
   fits : {put : Put} → Moves put → Written (put .into) put → Fits (Write put)
-  unfolding Fits
-  fits M W = (M, W)
+  fits M W = plain M W
 
   on-object : (o : ℕ) (t : Bool) (plan : Plan) → (o ≢ 0 → t ≡ true → Fits plan) → Fits (onObject o t plan)
-  unfolding Fits
+  unfolding settle
   on-object o t plan k = go (eqb o 0) refl t refl
     where
       go : (u : Bool) → eqb o 0 ≡ u → (v : Bool) → t ≡ v → Fits (if u then NilObject else if v then plan else BadField)
-      go true e v d = tt
+      go true e v d = raises 2 refl
       go false e true d = k (eqb-false o 0 e) d
-      go false e false d = tt
+      go false e false d = raises 3 refl
 
   on-value : (v : Value) (plan : ℕ → Plan) → ((w : ℕ) → Fits (plan w)) → Fits (onValue v plan)
-  unfolding Fits
+  unfolding settle
   on-value (Word w) plan k = k w
-  on-value Outside plan k = tt
+  on-value Outside plan k = raises 1 refl
+
+  on-test : (t : Bool) (plan other : Plan) (code : ℕ) → settle f m other ≡ raised f m code → (t ≡ true → Fits plan) →
+      Fits (if t then plan else other)
+  on-test true plan other code e k = k refl
+  on-test false plan other code e k = raises code e
 
   module _ (n : ℕ) (L : CodeLaws f map) (H : HeapLaws) (R : Running f map (Pointer os) m n i j) (K : Heap (m .heap) os)
       (small : length (m .heap) < 16777216) where
@@ -109,21 +114,25 @@ module _ (f map : List ℕ) (m : Machine) (os : List ℕ) (i j : ℕ) where
         let e2 = R .ptr-top in
         (omega arith, omega arith)
 
+    -- to a place that the instruction passes a state on to
+    moves : (x : Ins) (t : State) (put : Put) → insAt f (m .regs .place) ≡ x →
+        Mem (put .place, t) (passes f (m .regs .place) x (stateIn map (m .regs .place)) (outer (stateIn map) (stateIn map (m .regs .place)))) →
+        t .inner ≡ innerAt map (m .regs .place) → put .mtop ≡ i + t .main → put .ptop ≡ j + t .ptr → Moves put
+    moves x t put e to same em ep =
+        record {
+          to = t; is = leads f map L (m .regs .place) x (put .place) t (running-here f map (Pointer os) m n i j R) e to;
+          inner-same = same; main-top = em; ptr-top = ep }
+
     -- on to the next instruction
     onwards : (b : Basic) (put : Put) → insAt f (m .regs .place) ≡ basic b → put .place ≡ after f (m .regs .place) →
         put .mtop ≡ mtop m - basicEffect b .popMain + basicEffect b .pushMain →
         put .ptop ≡ ptop m - basicEffect b .popPtr + basicEffect b .pushPtr → Moves put
     unfolding passes effectOf
-    onwards b put e ep em eq =
-        let p = m .regs .place in
-        let h = running-here f map (Pointer os) m n i j R in
-        let k = pops f map L p (basic b) h e in
+    onwards b put e eq em ep =
+        let k = pops f map L (m .regs .place) (basic b) (running-here f map (Pointer os) m n i j R) e in
         let e1 = R .main-top in
         let e2 = R .ptr-top in
-        record {
-          to = moved (basicEffect b) (stateIn map p);
-          is = rw ep (leads f map L p (basic b) (after f p) _ h e (inl refl));
-          inner-same = refl; main-top = omega arith; ptr-top = omega arith }
+        moves (basic b) (moved (basicEffect b) (stateIn map (m .regs .place))) put e (inl (ap (λ (q : ℕ). (q, moved (basicEffect b) (stateIn map (m .regs .place)))) eq)) refl (omega arith) (omega arith)
 
     pointer : (k : ℕ) → Pointer os (wordAt (m .ptr) k)
     pointer k = R .words .pointers k
@@ -149,28 +158,20 @@ module _ (f map : List ℕ) (m : Machine) (os : List ℕ) (i j : ℕ) where
     assign-ptr s e = let D = depths (assign onPtr s) e in let B = bases in let e2 = R .ptr-top in omega (arith, D .1 .1 .1 .1 .0)
 
     -- the view of the words popped
-    form-fits : (k l : ℕ) → insAt f (m .regs .place) ≡ basic (form k l) →
-        Fits (if leb (markOf (m .heap) + (2 + k + l)) (length (m .heap))
-          then write into.View (after f (m .regs .place)) (mtop m - k) (ptop m - l + 1) (ptop m - l) (markOf (m .heap))
-          else HeapFull)
-    unfolding basicEffect Fits
-    form-fits k l e = go (leb (markOf (m .heap) + (2 + k + l)) (length (m .heap))) refl
-      where
-        go : (t : Bool) → leb (markOf (m .heap) + (2 + k + l)) (length (m .heap)) ≡ t →
-            Fits (if t
-              then write into.View (after f (m .regs .place)) (mtop m - k) (ptop m - l + 1) (ptop m - l) (markOf (m .heap))
-              else HeapFull)
-        go false u = tt
-        go true u =
-            let a = above (form k l) e in
-            let t = running-fits f map L (Pointer os) m n i j R in
-            let room = leb-true (markOf (m .heap) + (2 + k + l)) (length (m .heap)) u in
-            let lp = length-slice (ptop m - l) (ptop m) (m .ptr) (t .1) in
-            let lm = length-slice (mtop m - k) (mtop m) (m .main) (t .0) in
-            fits (onwards (form k l) _ e refl (omega arith) (omega arith))
-            (omega arith, refl,
-             H .forms (m .heap) os (slice (ptop m - l) (ptop m) (m .ptr)) (slice (mtop m - k) (mtop m) (m .main)) K (omega arith) small
-             (slice-each (Pointer os) (ptop m - l) (ptop m) (m .ptr) (inl refl) (R .words .pointers)))
+    form-fits : (k l : ℕ) → insAt f (m .regs .place) ≡ basic (form k l) → Fits (basicPlan m (after f (m .regs .place)) (form k l))
+    unfolding basicPlan basicEffect settle
+    form-fits k l e =
+        let a = above (form k l) e in
+        let t = running-fits f map L (Pointer os) m n i j R in
+        let lp = length-slice (ptop m - l) (ptop m) (m .ptr) (t .1) in
+        let lm = length-slice (mtop m - k) (mtop m) (m .main) (t .0) in
+        on-test (leb (markOf (m .heap) + (2 + k + l)) (length (m .heap)))
+        (write into.View (after f (m .regs .place)) (mtop m - k) (ptop m - l + 1) (ptop m - l) (markOf (m .heap))) HeapFull 4 refl
+        (λ u. let room = leb-true (markOf (m .heap) + (2 + k + l)) (length (m .heap)) u in
+          fits (onwards (form k l) _ e refl (omega arith) (omega arith))
+          (omega arith, refl,
+           H .forms (m .heap) os (slice (ptop m - l) (ptop m) (m .ptr)) (slice (mtop m - k) (mtop m) (m .main)) K (omega arith) small
+           (slice-each (Pointer os) (ptop m - l) (ptop m) (m .ptr) (inl refl) (R .words .pointers))))
 
     pub basic-fits : (b : Basic) → insAt f (m .regs .place) ≡ basic b → Fits (basicPlan m (after f (m .regs .place)) b)
     unfolding basicPlan basicEffect inPtrs
@@ -222,3 +223,64 @@ module _ (f map : List ℕ) (m : Machine) (os : List ℕ) (i j : ℕ) where
         let a = above (unary o) e in
         on-value (operate1 o (mainWord m 1)) (λ w. write into.Main (after f (m .regs .place)) (mtop m) (ptop m) (mtop m - 1) w)
         (λ w. fits (onwards (unary o) _ e refl (omega arith) (omega arith)) (omega arith))
+
+    -- a jump to q, which gets the state t
+    to-place : (x : Ins) (t : State) (q mt : ℕ) → insAt f (m .regs .place) ≡ x →
+        Mem (q, t) (passes f (m .regs .place) x (stateIn map (m .regs .place)) (outer (stateIn map) (stateIn map (m .regs .place)))) →
+        t .inner ≡ innerAt map (m .regs .place) → mt ≡ i + t .main → ptop m ≡ j + t .ptr → Fits (write into.Nothing q mt (ptop m) 0 0)
+    to-place x t q mt e to same em ep = fits (moves x t _ e to same em ep) tt
+
+    -- a jump that pops a word
+    popped : (x : Ins) (q : ℕ) → insAt f (m .regs .place) ≡ x → 1 ≤ mainAt map (m .regs .place) →
+        Mem (q, moved (effect 1 0 0 0) (stateIn map (m .regs .place)))
+        (passes f (m .regs .place) x (stateIn map (m .regs .place)) (outer (stateIn map) (stateIn map (m .regs .place)))) →
+        Fits (write into.Nothing q (mtop m - 1) (ptop m) 0 0)
+    popped x q e one to =
+        let e1 = R .main-top in
+        let e2 = R .ptr-top in
+        to-place x (moved (effect 1 0 0 0) (stateIn map (m .regs .place))) q (mtop m - 1) e to refl (omega arith) (omega arith)
+
+    both : (g : Bool → Plan) → Fits (g true) → Fits (g false) → (t : Bool) → Fits (g t)
+    both g a b true = a
+    both g a b false = b
+
+    ins-fits : (x : Ins) → insAt f (m .regs .place) ≡ x → Fits (planOf f m (after f (m .regs .place)) x)
+    unfolding planOf settle passes effectOf
+    ins-fits (basic b) e = basic-fits b e
+    ins-fits (jump t) e = to-place (jump t) (stateIn map (m .regs .place)) t (mtop m) e (inl refl) refl (R .main-top) (R .ptr-top)
+    ins-fits (branch false t) e =
+        let k = pops f map L (m .regs .place) (branch false t) (running-here f map (Pointer os) m n i j R) e .0 in
+        both (λ u. write into.Nothing (if u then after f (m .regs .place) else t) (mtop m - 1) (ptop m) 0 0)
+        (popped (branch false t) _ e k (inl refl)) (popped (branch false t) _ e k (inr (inl refl))) (truth (mainWord m 1))
+    ins-fits (branch true t) e =
+        let k = pops f map L (m .regs .place) (branch true t) (running-here f map (Pointer os) m n i j R) e .0 in
+        both (λ u. write into.Nothing (if u then t else after f (m .regs .place)) (mtop m - 1) (ptop m) 0 0)
+        (popped (branch true t) _ e k (inr (inl refl))) (popped (branch true t) _ e k (inl refl)) (truth (mainWord m 1))
+    ins-fits (branchKeep false t) e =
+        let k = pops f map L (m .regs .place) (branchKeep false t) (running-here f map (Pointer os) m n i j R) e .0 in
+        both
+        (λ u. if u then write into.Nothing (after f (m .regs .place)) (mtop m - 1) (ptop m) 0 0
+          else write into.Nothing t (mtop m) (ptop m) 0 0)
+        (popped (branchKeep false t) _ e k (inl refl))
+        (to-place (branchKeep false t) (stateIn map (m .regs .place)) t (mtop m) e (inr (inl refl)) refl (R .main-top) (R .ptr-top))
+        (truth (mainWord m 1))
+    ins-fits (branchKeep true t) e =
+        let k = pops f map L (m .regs .place) (branchKeep true t) (running-here f map (Pointer os) m n i j R) e .0 in
+        both
+        (λ u. if u then write into.Nothing t (mtop m) (ptop m) 0 0
+          else write into.Nothing (after f (m .regs .place)) (mtop m - 1) (ptop m) 0 0)
+        (to-place (branchKeep true t) (stateIn map (m .regs .place)) t (mtop m) e (inr (inl refl)) refl (R .main-top) (R .ptr-top))
+        (popped (branchKeep true t) _ e k (inl refl))
+        (truth (mainWord m 1))
+    ins-fits (call k) e =
+        on-test (all (callTests f m k)) (Write (framePut f m k)) NoRoom 5 refl (λ u. calls k e (all-true (callTests f m k) u))
+    ins-fits return e = leaves e
+    ins-fits (enter s) e =
+        on-test (leb (m .regs .ctop + recordWords) (length (m .ctl))) (Write (behindPut into.Handler f m)) NoRoom 5 refl
+        (λ u. opens s e (leb-true (m .regs .ctop + recordWords) (length (m .ctl)) u))
+    ins-fits exit e = closes e
+    ins-fits raise e = raises (mainWord m 1) refl
+
+    pub plan-fits : Fits (planAt f m)
+    unfolding planAt
+    plan-fits = ins-fits (insAt f (m .regs .place)) refl
