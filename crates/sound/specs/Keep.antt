@@ -30,7 +30,13 @@ use Rattle.sound.specs.Sound.{Words, Running, Finished, Sound}
 abbrev pub framePut : List ℕ → Machine → ℕ → Put
 framePut f m k =
     record {
-      into = Frame; place = entry f k; mtop = mtop m; ptop = ptop m; at = mtop m - paramsMain f k; word = ptop m - paramsPtr f k }
+      into = Frame;
+      place = entry f k;
+      mtop = mtop m;
+      ptop = ptop m;
+      at = mtop m - paramsMain f k;
+      word = ptop m - paramsPtr f k;
+    }
 
 -- and a return
 abbrev pub returnPut : Machine → Put
@@ -54,9 +60,14 @@ module _ (f map : List ℕ) where
       (machine (regs q (m .regs .frame) (m .regs .handler) mt pt (m .regs .ctop) (m .regs .state)) main ptr (m .ctl) heap) n i j
   keep-plain Old Ptr m n i j q mt pt s main ptr heap R I e em ep lm lp zm zp each =
       record {
-        main-top = rw (I .main) em; ptr-top = rw (I .ptr) ep; ctl-top = R .ctl-top; state-is = R .state-is; room = R .room;
+        main-top = rw (I .main) em;
+        ptr-top = rw (I .ptr) ep;
+        ctl-top = R .ctl-top;
+        state-is = R .state-is;
+        room = R .room;
         stack = rw (lm, lp, I .inner, e) (stack-move f map (length (m .main)) (length (m .ptr)) q (I .here) (I .proc) (R .stack));
-        words = record { zero-main = zm; zero-ptr = zp; zero-ctl = R .words .zero-ctl; pointers = each } }
+        words = record { zero-main = zm; zero-ptr = zp; zero-ctl = R .words .zero-ctl; pointers = each };
+      }
 
   module _ (L : CodeLaws f map) (Ptr : ℕ → Type 0) (m : Machine) where
     -- the tops lie within the stacks
@@ -89,27 +100,33 @@ module _ (f map : List ℕ) where
         let w = rec (mtop m - paramsMain f k) (ptop m - paramsPtr f k) (operand f p) (after f p) (m .regs .frame) in
         let d = down-put (m .ctl) (records m) n w c (omega arith) in
         record {
-          main-top = rw (I .main) (omega arith); ptr-top = rw (I .ptr) (omega arith); ctl-top = omega arith; state-is = R .state-is;
+          main-top = rw (I .main) (omega arith);
+          ptr-top = rw (I .ptr) (omega arith);
+          ctl-top = omega arith;
+          state-is = R .state-is;
           room = rw (length-put (m .ctl) (records m) w) (T .1 .1 .0);
           stack =
-            rw d
-            (frame {w = w} {rs = down (m .ctl) n} {p = entry f k} {n = suc (records m)} {i = mtop m - paramsMain f k}
-            {j = ptop m - paramsPtr f k}
-            {c = p}
-            {i′ = i}
-            {j′ = j}
-            (I .inner)
-            (omega arith)
-            (I .here, (omega arith, (refl, (refl, (o ∙ sym (I .proc), (rw (I .proc) (T .0), (rw (I .proc) (T .1 .0), tt)))))))
-            (eq-eqb _ 72 b, (o ∙ sym (I .proc), (call-after f p b, (rw (I .proc) (omega arith), (rw (I .proc) (omega arith), tt)))))
-            (rw (I .proc) (omega arith))
-            (rw (I .proc) (omega arith))
-            (R .stack));
+              rw d
+              (frame {w = w} {rs = down (m .ctl) n} {p = entry f k} {n = suc (records m)} {i = mtop m - paramsMain f k}
+              {j = ptop m - paramsPtr f k}
+              {c = p}
+              {i′ = i}
+              {j′ = j}
+              (I .inner)
+              (omega arith)
+              (I .here, (omega arith, (refl, (refl, (o ∙ sym (I .proc), (rw (I .proc) (T .0), (rw (I .proc) (T .1 .0), tt)))))))
+              (eq-eqb _ 72 b, (o ∙ sym (I .proc), (call-after f p b, (rw (I .proc) (omega arith), (rw (I .proc) (omega arith), tt)))))
+              (rw (I .proc) (omega arith))
+              (rw (I .proc) (omega arith))
+              (R .stack));
           words =
-            record {
-              zero-main = R .words .zero-main; zero-ptr = R .words .zero-ptr;
-              zero-ctl = put-zero (m .ctl) (records m) (m .regs .ctop) w (omega arith) (R .words .zero-ctl);
-              pointers = R .words .pointers } }
+              record {
+                zero-main = R .words .zero-main;
+                zero-ptr = R .words .zero-ptr;
+                zero-ctl = put-zero (m .ctl) (records m) (m .regs .ctop) w (omega arith) (R .words .zero-ctl);
+                pointers = R .words .pointers;
+              };
+        }
 
     -- 73: the topmost record goes, a frame's, since a return has no handler open
     pub keep-return : (n i j : ℕ) → Running f map Ptr m n i j → insAt f (m .regs .place) ≡ return →
@@ -121,6 +138,7 @@ module _ (f map : List ℕ) where
         E : Is f map (m .regs .place) (procAt f (m .regs .place))
             (state (resultsMain f (procAt f (m .regs .place))) (resultsPtr f (procAt f (m .regs .place))) none)
         E = at-return f map L (m .regs .place) (running-here Ptr m (suc n) i j R) e
+
         go : Stack f map (length (m .main)) (length (m .ptr)) (down (m .ctl) (suc n)) (innerAt map (m .regs .place)) (m .regs .place)
             (m .regs .frame) (m .regs .handler) i j →
             Sound f map Ptr (if eqb (m .regs .frame) 1 then finished m else returned (returnPut m) m)
@@ -129,12 +147,21 @@ module _ (f map : List ℕ) where
             let e2 = R .ptr-top ∙ ap (λ (d : ℕ). j + d) (E .ptr ∙ ap (resultsPtr f) (T .0)) in
             rw (eq-eqb (m .regs .frame) 1 u)
             (inr (record {
-              state-is = refl; place-is = refl; frame-is = refl; handler-is = refl; ctl-top = refl; main-top = omega arith;
+              state-is = refl;
+              place-is = refl;
+              frame-is = refl;
+              handler-is = refl;
+              ctl-top = refl;
+              main-top = omega arith;
               ptr-top = omega arith;
               words =
-                record {
-                  zero-main = R .words .zero-main; zero-ptr = R .words .zero-ptr; zero-ctl = cut-zero 0 (m .ctl);
-                  pointers = R .words .pointers } }))
+                  record {
+                    zero-main = R .words .zero-main;
+                    zero-ptr = R .words .zero-ptr;
+                    zero-ctl = cut-zero 0 (m .ctl);
+                    pointers = R .words .pointers;
+                  };
+            }))
         go (frame {c = c} {i′ = i′} {j′ = j′} z u F T ei ej S) =
             let p = m .regs .place in
             let b = eqb-true _ 72 (T .0) in
@@ -152,16 +179,28 @@ module _ (f map : List ℕ) where
             let a2 = K .ptr-takes in
             let c1 : m .regs .ctop - recordWords ≡ recordWords * n = omega arith in
             rw (ne-eqb (m .regs .frame) 1 u)
-            (inl (n, i′, j′, record {
-              main-top = rw (top, back, I .main) (omega arith); ptr-top = rw (top, back, I .ptr) (omega arith); ctl-top = c1;
-              state-is = R .state-is; room = rw (length-cut (m .regs .ctop - recordWords) (m .ctl)) (omega arith);
-              stack =
-                rw (top, back, I .inner, down-cut (m .ctl) n (m .regs .ctop - recordWords) (omega arith))
-                (stack-move f map (length (m .main)) (length (m .ptr)) (after f c) (I .here) (I .proc) S);
-              words =
-                record {
-                  zero-main = R .words .zero-main; zero-ptr = R .words .zero-ptr;
-                  zero-ctl = cut-zero (m .regs .ctop - recordWords) (m .ctl); pointers = R .words .pointers } }))
+            (inl (
+              n,
+              i′,
+              j′,
+              record {
+                main-top = rw (top, back, I .main) (omega arith);
+                ptr-top = rw (top, back, I .ptr) (omega arith);
+                ctl-top = c1;
+                state-is = R .state-is;
+                room = rw (length-cut (m .regs .ctop - recordWords) (m .ctl)) (omega arith);
+                stack =
+                    rw (top, back, I .inner, down-cut (m .ctl) n (m .regs .ctop - recordWords) (omega arith))
+                    (stack-move f map (length (m .main)) (length (m .ptr)) (after f c) (I .here) (I .proc) S);
+                words =
+                    record {
+                      zero-main = R .words .zero-main;
+                      zero-ptr = R .words .zero-ptr;
+                      zero-ctl = cut-zero (m .regs .ctop - recordWords) (m .ctl);
+                      pointers = R .words .pointers;
+                    };
+              },
+            ))
         go (handler u T S) = absurd (u (E .inner))
 
     -- 160: a handler's record on top
@@ -176,18 +215,24 @@ module _ (f map : List ℕ) where
         let c : records m ≡ n = omega arith in
         let w = rec p (mtop m) (ptop m) (m .regs .frame) (m .regs .handler) in
         record {
-          main-top = rw (I .main) (R .main-top); ptr-top = rw (I .ptr) (R .ptr-top); ctl-top = omega arith; state-is = R .state-is;
+          main-top = rw (I .main) (R .main-top);
+          ptr-top = rw (I .ptr) (R .ptr-top);
+          ctl-top = omega arith;
+          state-is = R .state-is;
           room = rw (length-put (m .ctl) (records m) w) fits;
           stack =
-            rw (down-put (m .ctl) (records m) n w c (omega arith), I .inner)
-            (handler {w = w} {rs = down (m .ctl) n} {t = p} {n = m .regs .frame} {h = suc (records m)} {i = i} {j = j} (omega arith)
-            (omega (arith, down-length (m .ctl) n), (refl, (R .main-top, (R .ptr-top, (refl, tt)))))
-            (stack-move f map (length (m .main)) (length (m .ptr)) (after f p) (I .here) (I .proc) (R .stack)));
+              rw (down-put (m .ctl) (records m) n w c (omega arith), I .inner)
+              (handler {w = w} {rs = down (m .ctl) n} {t = p} {n = m .regs .frame} {h = suc (records m)} {i = i} {j = j} (omega arith)
+              (omega (arith, down-length (m .ctl) n), (refl, (R .main-top, (R .ptr-top, (refl, tt)))))
+              (stack-move f map (length (m .main)) (length (m .ptr)) (after f p) (I .here) (I .proc) (R .stack)));
           words =
-            record {
-              zero-main = R .words .zero-main; zero-ptr = R .words .zero-ptr;
-              zero-ctl = put-zero (m .ctl) (records m) (m .regs .ctop) w (omega arith) (R .words .zero-ctl);
-              pointers = R .words .pointers } }
+              record {
+                zero-main = R .words .zero-main;
+                zero-ptr = R .words .zero-ptr;
+                zero-ctl = put-zero (m .ctl) (records m) (m .regs .ctop) w (omega arith) (R .words .zero-ctl);
+                pointers = R .words .pointers;
+              };
+        }
 
     -- 161: the topmost record goes, a handler's, since one is open
     pub keep-exit : (n i j : ℕ) → Running f map Ptr m n i j → insAt f (m .regs .place) ≡ exit →
@@ -199,6 +244,7 @@ module _ (f map : List ℕ) where
             × Is f map (after f (m .regs .place)) (procAt f (m .regs .place))
             (state (mainAt map (m .regs .place)) (ptrAt map (m .regs .place)) (innerAt map (innerAt map (m .regs .place))))
         X = at-exit f map L (m .regs .place) (running-here Ptr m (suc n) i j R) e
+
         go : Stack f map (length (m .main)) (length (m .ptr)) (down (m .ctl) (suc n)) (innerAt map (m .regs .place)) (m .regs .place)
             (m .regs .frame) (m .regs .handler) i j → Running f map Ptr (closed (behindPut Close f m) m) (suc n - 1) i j
         go (first z u F T) = absurd (X .0 z)
@@ -211,15 +257,22 @@ module _ (f map : List ℕ) where
             let top : m .regs .handler - 1 ≡ n = omega (arith, down-length (m .ctl) n) in
             rw less
             (record {
-              main-top = rw (I .main) (R .main-top); ptr-top = rw (I .ptr) (R .ptr-top); ctl-top = omega arith; state-is = R .state-is;
+              main-top = rw (I .main) (R .main-top);
+              ptr-top = rw (I .ptr) (R .ptr-top);
+              ctl-top = omega arith;
+              state-is = R .state-is;
               room = rw (length-cut (m .regs .ctop - recordWords) (m .ctl)) (omega arith);
               stack =
-                rw (top, I .inner, down-cut (m .ctl) n (m .regs .ctop - recordWords) (omega arith))
-                (stack-move f map (length (m .main)) (length (m .ptr)) (after f (m .regs .place)) (I .here) (I .proc) S);
+                  rw (top, I .inner, down-cut (m .ctl) n (m .regs .ctop - recordWords) (omega arith))
+                  (stack-move f map (length (m .main)) (length (m .ptr)) (after f (m .regs .place)) (I .here) (I .proc) S);
               words =
-                record {
-                  zero-main = R .words .zero-main; zero-ptr = R .words .zero-ptr;
-                  zero-ctl = cut-zero (m .regs .ctop - recordWords) (m .ctl); pointers = R .words .pointers } })
+                  record {
+                    zero-main = R .words .zero-main;
+                    zero-ptr = R .words .zero-ptr;
+                    zero-ctl = cut-zero (m .regs .ctop - recordWords) (m .ctl);
+                    pointers = R .words .pointers;
+                  };
+            })
 
     -- a raise: the handler found takes the code, and all records from its own on go
     pub keep-raise : (n i j code : ℕ) → Ptr 0 → Running f map Ptr m n i j → m .regs .handler ≢ 0 →
@@ -251,20 +304,38 @@ module _ (f map : List ℕ) where
             let e4 = R .room in
             let e5 = F .below in
             rw top
-            (inl (k, F .i, F .j, record {
-              main-top = rw (to, I .main) (omega arith); ptr-top = rw (to, I .ptr) e2; ctl-top = refl; state-is = R .state-is;
-              room = rw (length-cut (recordWords * k) (m .ctl)) (omega arith);
-              stack =
-                rw (to, length-set, length-cut (w .w1) (m .main), length-cut (w .w2) (m .ptr), I .inner,
-                  down-cut (m .ctl) k (recordWords * k) (omega arith), T .1 .1 .1 .1 .0)
-                (stack-move f map lm lp (handlerAt f o (operand f o)) (I .here) (I .proc ∙ N .proc) (F .stack));
-              words =
-                record {
-                  zero-main =
-                    set-zero (w .w1 + 1) (cut (w .w1) (m .main)) (w .w1) code (omega arith)
-                    (λ u z. cut-zero (w .w1) (m .main) u (omega arith));
-                  zero-ptr = cut-zero (w .w2) (m .ptr); zero-ctl = cut-zero (recordWords * k) (m .ctl);
-                  pointers = cut-each Ptr (w .w2) (m .ptr) nil (R .words .pointers) } }))
+            (inl (
+              k,
+              F .i,
+              F .j,
+              record {
+                main-top = rw (to, I .main) (omega arith);
+                ptr-top = rw (to, I .ptr) e2;
+                ctl-top = refl;
+                state-is = R .state-is;
+                room = rw (length-cut (recordWords * k) (m .ctl)) (omega arith);
+                stack =
+                    rw (
+                      to,
+                      length-set,
+                      length-cut (w .w1) (m .main),
+                      length-cut (w .w2) (m .ptr),
+                      I .inner,
+                      down-cut (m .ctl) k (recordWords * k) (omega arith),
+                      T .1 .1 .1 .1 .0,
+                    )
+                    (stack-move f map lm lp (handlerAt f o (operand f o)) (I .here) (I .proc ∙ N .proc) (F .stack));
+                words =
+                    record {
+                      zero-main =
+                          set-zero (w .w1 + 1) (cut (w .w1) (m .main)) (w .w1) code (omega arith)
+                          (λ u z. cut-zero (w .w1) (m .main) u (omega arith));
+                      zero-ptr = cut-zero (w .w2) (m .ptr);
+                      zero-ctl = cut-zero (recordWords * k) (m .ctl);
+                      pointers = cut-each Ptr (w .w2) (m .ptr) nil (R .words .pointers);
+                    };
+              },
+            ))
 
 -- a start: the first frame alone, at procedure 0's first instruction
 pub start-sound : (Ptr : ℕ → Type 0) (l : Lent) → CodeLaws (l .file) (l .map) → Ptr 0 →
@@ -278,15 +349,21 @@ start-sound Ptr l L nil fm fp fc =
     let w = rec 0 0 0 0 0 in
     let c : recordWords * 0 + recordWords ≤ length (cut 0 (l .ctl)) = rw (length-cut 0 (l .ctl)) fc in
     record {
-      main-top = rw (I .main) (omega arith); ptr-top = rw (I .ptr) (omega arith); ctl-top = refl; state-is = refl;
+      main-top = rw (I .main) (omega arith);
+      ptr-top = rw (I .ptr) (omega arith);
+      ctl-top = refl;
+      state-is = refl;
       room = rw (length-put (cut 0 (l .ctl)) 0 w) c;
       stack =
-        rw (length-cut 0 (l .main), length-cut 0 (l .ptr), down-put (cut 0 (l .ctl)) 0 0 w refl c)
-        (first {w = w} {rs = []} {p = entry f 0} {n = 1} {h = 0} {i = 0} {j = 0} (I .inner) refl
-        (I .here, (refl, (refl, (refl, (sym (I .proc), (rw (I .proc) (omega arith), (rw (I .proc) (omega arith), tt)))))))
-        (I .proc, (refl, (refl, (refl, (refl, (refl, tt)))))));
+          rw (length-cut 0 (l .main), length-cut 0 (l .ptr), down-put (cut 0 (l .ctl)) 0 0 w refl c)
+          (first {w = w} {rs = []} {p = entry f 0} {n = 1} {h = 0} {i = 0} {j = 0} (I .inner) refl
+          (I .here, (refl, (refl, (refl, (sym (I .proc), (rw (I .proc) (omega arith), (rw (I .proc) (omega arith), tt)))))))
+          (I .proc, (refl, (refl, (refl, (refl, (refl, tt)))))));
       words =
-        record {
-          zero-main = cut-zero 0 (l .main); zero-ptr = cut-zero 0 (l .ptr);
-          zero-ctl = put-zero (cut 0 (l .ctl)) 0 0 w refl (cut-zero 0 (l .ctl));
-          pointers = λ i. rw (cut-zero 0 (l .ptr) i (omega arith)) nil } }
+          record {
+            zero-main = cut-zero 0 (l .main);
+            zero-ptr = cut-zero 0 (l .ptr);
+            zero-ctl = put-zero (cut 0 (l .ctl)) 0 0 w refl (cut-zero 0 (l .ctl));
+            pointers = λ i. rw (cut-zero 0 (l .ptr) i (omega arith)) nil;
+          };
+    }

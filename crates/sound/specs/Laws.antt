@@ -133,8 +133,12 @@ module _ (f map : List ℕ) (L : CodeLaws f map) where
   at-entry n h =
       let e = L .keeps .enters n h in
       record {
-        here = L .heads n h .1 .1 .1 .1 .0; proc = L .entered n h; main = ap (λ s. s .main) e; ptr = ap (λ s. s .ptr) e;
-        inner = ap (λ s. s .inner) e }
+        here = L .heads n h .1 .1 .1 .1 .0;
+        proc = L .entered n h;
+        main = ap (λ s. s .main) e;
+        ptr = ap (λ s. s .ptr) e;
+        inner = ap (λ s. s .inner) e;
+      }
 
   -- procedure 0 has no parameters
   pub no-params : (paramsMain f 0 ≡ 0) × (paramsPtr f 0 ≡ 0)
@@ -149,8 +153,12 @@ module _ (f map : List ℕ) (L : CodeLaws f map) where
       let e = F .agrees q t P in
       let g = and-both _ _ (passes-own f p (insAt f p) _ _ q t (F .targets) (F .nexts) P) in
       record {
-        here = g .0; proc = eqb-true (procAt f q) (procAt f p) (g .1); main = ap (λ s. s .main) e; ptr = ap (λ s. s .ptr) e;
-        inner = ap (λ s. s .inner) e }
+        here = g .0;
+        proc = eqb-true (procAt f q) (procAt f p) (g .1);
+        main = ap (λ s. s .main) e;
+        ptr = ap (λ s. s .ptr) e;
+        inner = ap (λ s. s .inner) e;
+      }
 
   pub leads : (p : ℕ) (i : Ins) (q : ℕ) (t : State) → isIns f p ≡ true → insAt f p ≡ i →
       Mem (q, t) (passes f p i (stateIn map p) (outer (stateIn map) (stateIn map p))) → Is f map q (procAt f p) t
@@ -176,8 +184,11 @@ module _ (f map : List ℕ) (L : CodeLaws f map) where
       let T = rw e at (rules p h .targets) in
       let k = pops p (call n) h e in
       record {
-        enters = at-entry n (T .0); main-takes = k .0; ptr-takes = k .1;
-        gives = leads p (call n) (after f p) _ h e (inl refl) }
+        enters = at-entry n (T .0);
+        main-takes = k .0;
+        ptr-takes = k .1;
+        gives = leads p (call n) (after f p) _ h e (inl refl);
+      }
 
   pub at-return : (p : ℕ) → isIns f p ≡ true → insAt f p ≡ return →
       Is f map p (procAt f p) (state (resultsMain f (procAt f p)) (resultsPtr f (procAt f p)) none)
@@ -196,7 +207,8 @@ module _ (f map : List ℕ) (L : CodeLaws f map) where
   at-enter p s h e =
       record {
         behind = leads p (enter s) (after f p) _ h e (inl refl);
-        target = leads p (enter s) (handlerAt f p s) _ h e (inr (inl refl)) }
+        target = leads p (enter s) (handlerAt f p s) _ h e (inr (inl refl));
+      }
 
   pub at-exit : (p : ℕ) → isIns f p ≡ true → insAt f p ≡ exit →
       (innerAt map p ≢ none) × Is f map (after f p) (procAt f p) (state (mainAt map p) (ptrAt map p) (innerAt map (innerAt map p)))
@@ -221,7 +233,10 @@ module _ (f map : List ℕ) (L : CodeLaws f map) where
       go (inr O) =
           let k = mem-member (innerAt map p) (instructions f) (O .there) in
           record {
-            here = k; opens = at-enter (innerAt map p) _ k (byte-enter f (innerAt map p) (O .opens)); proc = O .same-proc }
+            here = k;
+            opens = at-enter (innerAt map p) _ k (byte-enter f (innerAt map p) (O .opens));
+            proc = O .same-proc;
+          }
 
   -- what holds at the entries, and is handed on from an earlier instruction, holds at every instruction
   module _ (P : ℕ → Type 0) (start : (n : ℕ) → n < procs f → P (entry f n))

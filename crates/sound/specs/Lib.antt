@@ -5,3 +5,4 @@ pub mod Laws
 pub mod Sound
 pub mod Keep
 pub mod Plan
+pub mod Steps

@@ -104,35 +104,51 @@ module _ (f map : List ℕ) (m : Machine) (os : List ℕ) (i j : ℕ) where
 
   module _ (n : ℕ) (L : CodeLaws f map) (H : HeapLaws) (R : Running f map (Pointer os) m n i j) (K : Heap (m .heap) os)
       (small : length (m .heap) < 16777216) where
+    here : isIns f (m .regs .place) ≡ true
+    here = running-here f map (Pointer os) m n i j R
+
+    abbrev now : State
+    now = stateIn map (m .regs .place)
+
+    abbrev next : ℕ
+    next = after f (m .regs .place)
+
+    abbrev passed : Ins → List (ℕ × State)
+    passed x = passes f (m .regs .place) x now (outer (stateIn map) now)
+
     -- the words that the instruction pops are there, above the bases
     above : (b : Basic) → insAt f (m .regs .place) ≡ basic b →
         (basicEffect b .popMain + i ≤ mtop m) × (basicEffect b .popPtr + j ≤ ptop m)
     unfolding effectOf
     above b e =
-        let k = pops f map L (m .regs .place) (basic b) (running-here f map (Pointer os) m n i j R) e in
+        let k = pops f map L (m .regs .place) (basic b) (here) e in
         let e1 = R .main-top in
         let e2 = R .ptr-top in
         (omega arith, omega arith)
 
     -- to a place that the instruction passes a state on to
     moves : (x : Ins) (t : State) (put : Put) → insAt f (m .regs .place) ≡ x →
-        Mem (put .place, t) (passes f (m .regs .place) x (stateIn map (m .regs .place)) (outer (stateIn map) (stateIn map (m .regs .place)))) →
+        Mem (put .place, t) (passed x) →
         t .inner ≡ innerAt map (m .regs .place) → put .mtop ≡ i + t .main → put .ptop ≡ j + t .ptr → Moves put
     moves x t put e to same em ep =
         record {
-          to = t; is = leads f map L (m .regs .place) x (put .place) t (running-here f map (Pointer os) m n i j R) e to;
-          inner-same = same; main-top = em; ptr-top = ep }
+          to = t;
+          is = leads f map L (m .regs .place) x (put .place) t (here) e to;
+          inner-same = same;
+          main-top = em;
+          ptr-top = ep;
+        }
 
     -- on to the next instruction
-    onwards : (b : Basic) (put : Put) → insAt f (m .regs .place) ≡ basic b → put .place ≡ after f (m .regs .place) →
+    onwards : (b : Basic) (put : Put) → insAt f (m .regs .place) ≡ basic b → put .place ≡ next →
         put .mtop ≡ mtop m - basicEffect b .popMain + basicEffect b .pushMain →
         put .ptop ≡ ptop m - basicEffect b .popPtr + basicEffect b .pushPtr → Moves put
     unfolding passes effectOf
     onwards b put e eq em ep =
-        let k = pops f map L (m .regs .place) (basic b) (running-here f map (Pointer os) m n i j R) e in
+        let k = pops f map L (m .regs .place) (basic b) (here) e in
         let e1 = R .main-top in
         let e2 = R .ptr-top in
-        moves (basic b) (moved (basicEffect b) (stateIn map (m .regs .place))) put e (inl (ap (λ (q : ℕ). (q, moved (basicEffect b) (stateIn map (m .regs .place)))) eq)) refl (omega arith) (omega arith)
+        moves (basic b) (moved (basicEffect b) now) put e (inl (ap (λ (q : ℕ). (q, moved (basicEffect b) now)) eq)) refl (omega arith) (omega arith)
 
     pointer : (k : ℕ) → Pointer os (wordAt (m .ptr) k)
     pointer k = R .words .pointers k
@@ -146,8 +162,8 @@ module _ (f map : List ℕ) (m : Machine) (os : List ℕ) (i j : ℕ) where
     bases = let F = stack-frame f map (length (m .main)) (length (m .ptr)) (m .ctl) n (R .stack) in (F .1 .1 .0, F .1 .1 .1 .0)
 
     depths : (b : Basic) → insAt f (m .regs .place) ≡ basic b →
-        All (depthTests f (m .regs .place) (basic b) (stateIn map (m .regs .place)) (outer (stateIn map) (stateIn map (m .regs .place))))
-    depths b e = rw e at (rules f map L (m .regs .place) (running-here f map (Pointer os) m n i j R) .depths)
+        All (depthTests f (m .regs .place) (basic b) now (outer (stateIn map) now))
+    depths b e = rw e at (rules f map L (m .regs .place) (here) .depths)
 
     assign-main : (s : ℕ) → insAt f (m .regs .place) ≡ basic (assign onMain s) → mainBase m + s < mtop m - 1
     unfolding depthTests
@@ -158,7 +174,7 @@ module _ (f map : List ℕ) (m : Machine) (os : List ℕ) (i j : ℕ) where
     assign-ptr s e = let D = depths (assign onPtr s) e in let B = bases in let e2 = R .ptr-top in omega (arith, D .1 .1 .1 .1 .0)
 
     -- the view of the words popped
-    form-fits : (k l : ℕ) → insAt f (m .regs .place) ≡ basic (form k l) → Fits (basicPlan m (after f (m .regs .place)) (form k l))
+    form-fits : (k l : ℕ) → insAt f (m .regs .place) ≡ basic (form k l) → Fits (basicPlan m next (form k l))
     unfolding basicPlan basicEffect settle
     form-fits k l e =
         let a = above (form k l) e in
@@ -166,14 +182,16 @@ module _ (f map : List ℕ) (m : Machine) (os : List ℕ) (i j : ℕ) where
         let lp = length-slice (ptop m - l) (ptop m) (m .ptr) (t .1) in
         let lm = length-slice (mtop m - k) (mtop m) (m .main) (t .0) in
         on-test (leb (markOf (m .heap) + (2 + k + l)) (length (m .heap)))
-        (write into.View (after f (m .regs .place)) (mtop m - k) (ptop m - l + 1) (ptop m - l) (markOf (m .heap))) HeapFull 4 refl
+        (write into.View next (mtop m - k) (ptop m - l + 1) (ptop m - l) (markOf (m .heap))) HeapFull 4 refl
         (λ u. let room = leb-true (markOf (m .heap) + (2 + k + l)) (length (m .heap)) u in
-          fits (onwards (form k l) _ e refl (omega arith) (omega arith))
-          (omega arith, refl,
-           H .forms (m .heap) os (slice (ptop m - l) (ptop m) (m .ptr)) (slice (mtop m - k) (mtop m) (m .main)) K (omega arith) small
-           (slice-each (Pointer os) (ptop m - l) (ptop m) (m .ptr) (inl refl) (R .words .pointers))))
+        fits (onwards (form k l) _ e refl (omega arith) (omega arith)) (
+          omega arith,
+          refl,
+          H .forms (m .heap) os (slice (ptop m - l) (ptop m) (m .ptr)) (slice (mtop m - k) (mtop m) (m .main)) K (omega arith) small
+              (slice-each (Pointer os) (ptop m - l) (ptop m) (m .ptr) (inl refl) (R .words .pointers)),
+        ))
 
-    pub basic-fits : (b : Basic) → insAt f (m .regs .place) ≡ basic b → Fits (basicPlan m (after f (m .regs .place)) b)
+    basic-fits : (b : Basic) → insAt f (m .regs .place) ≡ basic b → Fits (basicPlan m next b)
     unfolding basicPlan basicEffect inPtrs
     basic-fits (local onMain s) e = fits (onwards (local onMain s) _ e refl (omega arith) (omega arith)) (omega arith)
     basic-fits (local onPtr s) e = fits (onwards (local onPtr s) _ e refl (omega arith) (omega arith)) (omega arith, pointer _)
@@ -181,25 +199,25 @@ module _ (f map : List ℕ) (m : Machine) (os : List ℕ) (i j : ℕ) where
     basic-fits (assign onPtr s) e = fits (onwards (assign onPtr s) _ e refl (omega arith) (omega arith)) (assign-ptr s e, pointer _)
     basic-fits (field onMain s) e =
         on-object (ptrWord m 1) (inPlain (m .heap) (ptrWord m 1) s)
-        (write into.Main (after f (m .regs .place)) (mtop m + 1) (ptop m - 1) (mtop m) (wordAt (m .heap) (ptrWord m 1 + s)))
+        (write into.Main next (mtop m + 1) (ptop m - 1) (mtop m) (wordAt (m .heap) (ptrWord m 1 + s)))
         (λ u v. fits (onwards (field onMain s) _ e refl (omega arith) (omega arith)) (omega arith))
     basic-fits (field onPtr s) e =
         let a = above (field onPtr s) e in
         on-object (ptrWord m 1) (inPtrs (m .heap) (ptrWord m 1) s)
-        (write into.Pointer (after f (m .regs .place)) (mtop m) (ptop m) (ptop m - 1) (wordAt (m .heap) (ptrWord m 1 + s)))
+        (write into.Pointer next (mtop m) (ptop m) (ptop m - 1) (wordAt (m .heap) (ptrWord m 1 + s)))
         (λ u v. let w = and-both _ _ v in
-          fits (onwards (field onPtr s) _ e refl (omega arith) (omega arith))
-          (omega arith, K .inside (ptrWord m 1) s (object _ u (pointer _)) (leb-true _ _ (w .0)) (ltb-true _ _ (w .1))))
+        fits (onwards (field onPtr s) _ e refl (omega arith) (omega arith))
+        (omega arith, K .inside (ptrWord m 1) s (object _ u (pointer _)) (leb-true _ _ (w .0)) (ltb-true _ _ (w .1))))
     basic-fits (setField onMain s) e =
         on-object (ptrWord m 1) (inPlain (m .heap) (ptrWord m 1) s)
-        (write into.Heap (after f (m .regs .place)) (mtop m - 1) (ptop m - 1) (ptrWord m 1 + s) (mainWord m 1))
+        (write into.Heap next (mtop m - 1) (ptop m - 1) (ptrWord m 1 + s) (mainWord m 1))
         (λ u v. fits (onwards (setField onMain s) _ e refl (omega arith) (omega arith))
-          (H .plain-store (m .heap) os (ptrWord m 1) s _ K (object _ u (pointer _)) v))
+        (H .plain-store (m .heap) os (ptrWord m 1) s _ K (object _ u (pointer _)) v))
     basic-fits (setField onPtr s) e =
         on-object (ptrWord m 1) (inPtrs (m .heap) (ptrWord m 1) s)
-        (write into.Heap (after f (m .regs .place)) (mtop m) (ptop m - 2) (ptrWord m 1 + s) (ptrWord m 2))
+        (write into.Heap next (mtop m) (ptop m - 2) (ptrWord m 1 + s) (ptrWord m 2))
         (λ u v. fits (onwards (setField onPtr s) _ e refl (omega arith) (omega arith))
-          (H .ptr-store (m .heap) os (ptrWord m 1) s _ K (object _ u (pointer _)) v (pointer _)))
+        (H .ptr-store (m .heap) os (ptrWord m 1) s _ K (object _ u (pointer _)) v (pointer _)))
     basic-fits (form k l) e = form-fits k l e
     basic-fits (literal w) e = fits (onwards (literal w) _ e refl (omega arith) (omega arith)) (omega arith)
     basic-fits nil e = fits (onwards nil _ e refl (omega arith) (omega arith)) (omega arith, inl refl)
@@ -216,60 +234,59 @@ module _ (f map : List ℕ) (m : Machine) (os : List ℕ) (i j : ℕ) where
     basic-fits (binary o) e =
         let a = above (binary o) e in
         on-value (operate o (mainWord m 2) (mainWord m 1))
-        (λ w. write into.Main (after f (m .regs .place)) (mtop m - 1) (ptop m) (mtop m - 2) w)
+        (λ w. write into.Main next (mtop m - 1) (ptop m) (mtop m - 2) w)
         (λ w. fits (onwards (binary o) _ e refl (omega arith) (omega arith)) (omega arith))
     basic-fits samePtr e = fits (onwards samePtr _ e refl (omega arith) (omega arith)) (omega arith)
     basic-fits (unary o) e =
         let a = above (unary o) e in
-        on-value (operate1 o (mainWord m 1)) (λ w. write into.Main (after f (m .regs .place)) (mtop m) (ptop m) (mtop m - 1) w)
+        on-value (operate1 o (mainWord m 1)) (λ w. write into.Main next (mtop m) (ptop m) (mtop m - 1) w)
         (λ w. fits (onwards (unary o) _ e refl (omega arith) (omega arith)) (omega arith))
 
     -- a jump to q, which gets the state t
     to-place : (x : Ins) (t : State) (q mt : ℕ) → insAt f (m .regs .place) ≡ x →
-        Mem (q, t) (passes f (m .regs .place) x (stateIn map (m .regs .place)) (outer (stateIn map) (stateIn map (m .regs .place)))) →
+        Mem (q, t) (passed x) →
         t .inner ≡ innerAt map (m .regs .place) → mt ≡ i + t .main → ptop m ≡ j + t .ptr → Fits (write into.Nothing q mt (ptop m) 0 0)
     to-place x t q mt e to same em ep = fits (moves x t _ e to same em ep) tt
 
     -- a jump that pops a word
     popped : (x : Ins) (q : ℕ) → insAt f (m .regs .place) ≡ x → 1 ≤ mainAt map (m .regs .place) →
-        Mem (q, moved (effect 1 0 0 0) (stateIn map (m .regs .place)))
-        (passes f (m .regs .place) x (stateIn map (m .regs .place)) (outer (stateIn map) (stateIn map (m .regs .place)))) →
+        Mem (q, moved (effect 1 0 0 0) now) (passed x) →
         Fits (write into.Nothing q (mtop m - 1) (ptop m) 0 0)
     popped x q e one to =
         let e1 = R .main-top in
         let e2 = R .ptr-top in
-        to-place x (moved (effect 1 0 0 0) (stateIn map (m .regs .place))) q (mtop m - 1) e to refl (omega arith) (omega arith)
+        to-place x (moved (effect 1 0 0 0) now) q (mtop m - 1) e to refl (omega arith) (omega arith)
 
     both : (g : Bool → Plan) → Fits (g true) → Fits (g false) → (t : Bool) → Fits (g t)
     both g a b true = a
     both g a b false = b
 
-    ins-fits : (x : Ins) → insAt f (m .regs .place) ≡ x → Fits (planOf f m (after f (m .regs .place)) x)
+    ins-fits : (x : Ins) → insAt f (m .regs .place) ≡ x → Fits (planOf f m next x)
     unfolding planOf settle passes effectOf
     ins-fits (basic b) e = basic-fits b e
-    ins-fits (jump t) e = to-place (jump t) (stateIn map (m .regs .place)) t (mtop m) e (inl refl) refl (R .main-top) (R .ptr-top)
+    ins-fits (jump t) e = to-place (jump t) now t (mtop m) e (inl refl) refl (R .main-top) (R .ptr-top)
     ins-fits (branch false t) e =
-        let k = pops f map L (m .regs .place) (branch false t) (running-here f map (Pointer os) m n i j R) e .0 in
-        both (λ u. write into.Nothing (if u then after f (m .regs .place) else t) (mtop m - 1) (ptop m) 0 0)
+        let k = pops f map L (m .regs .place) (branch false t) (here) e .0 in
+        both (λ u. write into.Nothing (if u then next else t) (mtop m - 1) (ptop m) 0 0)
         (popped (branch false t) _ e k (inl refl)) (popped (branch false t) _ e k (inr (inl refl))) (truth (mainWord m 1))
     ins-fits (branch true t) e =
-        let k = pops f map L (m .regs .place) (branch true t) (running-here f map (Pointer os) m n i j R) e .0 in
-        both (λ u. write into.Nothing (if u then t else after f (m .regs .place)) (mtop m - 1) (ptop m) 0 0)
+        let k = pops f map L (m .regs .place) (branch true t) (here) e .0 in
+        both (λ u. write into.Nothing (if u then t else next) (mtop m - 1) (ptop m) 0 0)
         (popped (branch true t) _ e k (inr (inl refl))) (popped (branch true t) _ e k (inl refl)) (truth (mainWord m 1))
     ins-fits (branchKeep false t) e =
-        let k = pops f map L (m .regs .place) (branchKeep false t) (running-here f map (Pointer os) m n i j R) e .0 in
+        let k = pops f map L (m .regs .place) (branchKeep false t) (here) e .0 in
         both
-        (λ u. if u then write into.Nothing (after f (m .regs .place)) (mtop m - 1) (ptop m) 0 0
-          else write into.Nothing t (mtop m) (ptop m) 0 0)
+        (λ u. if u then write into.Nothing next (mtop m - 1) (ptop m) 0 0
+        else write into.Nothing t (mtop m) (ptop m) 0 0)
         (popped (branchKeep false t) _ e k (inl refl))
-        (to-place (branchKeep false t) (stateIn map (m .regs .place)) t (mtop m) e (inr (inl refl)) refl (R .main-top) (R .ptr-top))
+        (to-place (branchKeep false t) now t (mtop m) e (inr (inl refl)) refl (R .main-top) (R .ptr-top))
         (truth (mainWord m 1))
     ins-fits (branchKeep true t) e =
-        let k = pops f map L (m .regs .place) (branchKeep true t) (running-here f map (Pointer os) m n i j R) e .0 in
+        let k = pops f map L (m .regs .place) (branchKeep true t) (here) e .0 in
         both
         (λ u. if u then write into.Nothing t (mtop m) (ptop m) 0 0
-          else write into.Nothing (after f (m .regs .place)) (mtop m - 1) (ptop m) 0 0)
-        (to-place (branchKeep true t) (stateIn map (m .regs .place)) t (mtop m) e (inr (inl refl)) refl (R .main-top) (R .ptr-top))
+        else write into.Nothing next (mtop m - 1) (ptop m) 0 0)
+        (to-place (branchKeep true t) now t (mtop m) e (inr (inl refl)) refl (R .main-top) (R .ptr-top))
         (popped (branchKeep true t) _ e k (inl refl))
         (truth (mainWord m 1))
     ins-fits (call k) e =

@@ -57,14 +57,20 @@ Audited m v = isPointer (objectsOf (m .heap)) v ≡ true
 words-true : (m : Machine) → All (stackTests m) → Words (Audited m) m
 words-true m T =
     record {
-      zero-main = zeros-true (m .regs .mtop) (m .main) (T .0); zero-ptr = zeros-true (m .regs .ptop) (m .ptr) (T .1 .0);
+      zero-main = zeros-true (m .regs .mtop) (m .main) (T .0);
+      zero-ptr = zeros-true (m .regs .ptop) (m .ptr) (T .1 .0);
       zero-ctl = zeros-true (m .regs .ctop) (m .ctl) (T .1 .1 .0);
-      pointers = pointers-true (objectsOf (m .heap)) (m .ptr) (T .1 .1 .1 .0) }
+      pointers = pointers-true (objectsOf (m .heap)) (m .ptr) (T .1 .1 .1 .0);
+    }
 
 true-words : (m : Machine) → Words (Audited m) m → All (stackTests m)
-true-words m W =
-    (true-zeros (m .regs .mtop) (m .main) (W .zero-main), (true-zeros (m .regs .ptop) (m .ptr) (W .zero-ptr),
-     (true-zeros (m .regs .ctop) (m .ctl) (W .zero-ctl), (true-pointers (objectsOf (m .heap)) (m .ptr) (W .pointers), tt))))
+true-words m W = (
+  true-zeros (m .regs .mtop) (m .main) (W .zero-main),
+  (
+    true-zeros (m .regs .ptop) (m .ptr) (W .zero-ptr),
+    (true-zeros (m .regs .ctop) (m .ctl) (W .zero-ctl), (true-pointers (objectsOf (m .heap)) (m .ptr) (W .pointers), tt)),
+  ),
+)
 
 module _ (f map : List ℕ) (m : Machine) where
   pub sound?-true : sound? f map m ≡ true → Sound f map (Audited m) m
@@ -72,15 +78,32 @@ module _ (f map : List ℕ) (m : Machine) where
   sound?-true e =
       if-cases (eqb (m .regs .state) 1) _ _
       (λ u v. let T = all-true (finishedTests f m) v in
-        inr (record {
-          state-is = eqb-true (m .regs .state) 1 u; place-is = T .0; frame-is = T .1 .0; handler-is = T .1 .1 .0; ctl-top = T .1 .1 .1 .0;
-          main-top = T .1 .1 .1 .1 .0; ptr-top = T .1 .1 .1 .1 .1 .0; words = words-true m (T .1 .1 .1 .1 .1 .1) }))
+      inr (record {
+        state-is = eqb-true (m .regs .state) 1 u;
+        place-is = T .0;
+        frame-is = T .1 .0;
+        handler-is = T .1 .1 .0;
+        ctl-top = T .1 .1 .1 .0;
+        main-top = T .1 .1 .1 .1 .0;
+        ptr-top = T .1 .1 .1 .1 .1 .0;
+        words = words-true m (T .1 .1 .1 .1 .1 .1);
+      }))
       (λ u v. let T = all-true (runningTests f map m) v in
-        inl (records m, m .regs .mtop - mainAt map (m .regs .place), m .regs .ptop - ptrAt map (m .regs .place), record {
-          main-top = omega arith; ptr-top = omega arith; ctl-top = T .1 .0; state-is = T .0; room = T .1 .1 .0;
+      inl (
+        records m,
+        m .regs .mtop - mainAt map (m .regs .place),
+        m .regs .ptop - ptrAt map (m .regs .place),
+        record {
+          main-top = omega arith;
+          ptr-top = omega arith;
+          ctl-top = T .1 .0;
+          state-is = T .0;
+          room = T .1 .1 .0;
           stack = stack?-true f map (length (m .main)) (length (m .ptr)) (down (m .ctl) (records m)) (innerAt map (m .regs .place))
-            (m .regs .place) (m .regs .frame) (m .regs .handler) _ _ (T .1 .1 .1 .1 .1 .0);
-          words = words-true m (T .1 .1 .1 .1 .1 .1) }))
+              (m .regs .place) (m .regs .frame) (m .regs .handler) _ _ (T .1 .1 .1 .1 .1 .0);
+          words = words-true m (T .1 .1 .1 .1 .1 .1);
+        },
+      ))
       e
 
   pub true-sound? : Sound f map (Audited m) m → sound? f map m ≡ true
@@ -94,9 +117,22 @@ module _ (f map : List ℕ) (m : Machine) where
       let i : m .regs .mtop - mainAt map (m .regs .place) ≡ S .1 = omega arith in
       let j : m .regs .ptop - ptrAt map (m .regs .place) ≡ S .2 = omega arith in
       rw (ne-eqb (m .regs .state) 1 (let e = R .state-is in omega arith))
-      (true-all (runningTests f map m)
-      (R .state-is, (omega arith, (R .room, (omega arith, (omega arith,
-       (rw (n, i, j) (true-stack? f map (length (m .main)) (length (m .ptr)) (R .stack)), true-words m (R .words))))))))
+      (true-all (runningTests f map m) (
+        R .state-is,
+        (
+          omega arith,
+          (
+            R .room,
+            (
+              omega arith,
+              (
+                omega arith,
+                (rw (n, i, j) (true-stack? f map (length (m .main)) (length (m .ptr)) (R .stack)), true-words m (R .words)),
+              ),
+            ),
+          ),
+        ),
+      ))
   true-sound? (inr D) =
       rw (eq-eqb (m .regs .state) 1 (D .state-is))
       (true-all (finishedTests f m)

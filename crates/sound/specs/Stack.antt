@@ -106,9 +106,26 @@ module _ (f map : List ℕ) (lm lp : ℕ) where
       more (inr F) =
           inr
           (record {
-            q = F .q; n = F .n; i = F .i; j = F .j; under = F .under; below = omega (arith, F .below); some = F .some; tests = F .tests;
-            stack = F .stack })
+            q = F .q;
+            n = F .n;
+            i = F .i;
+            j = F .j;
+            under = F .under;
+            below = omega (arith, F .below);
+            some = F .some;
+            tests = F .tests;
+            stack = F .stack;
+          })
   find l (suc k) {p = p} {n = n} {h = h} {i = i} {j = j} e (handler u T S) =
       inr
       (record {
-        q = p; n = n; i = i; j = j; under = k; below = omega arith; some = rw e at u; tests = rw (← e) T; stack = rw (← e) S })
+        q = p;
+        n = n;
+        i = i;
+        j = j;
+        under = k;
+        below = omega arith;
+        some = rw e at u;
+        tests = rw (← e) T;
+        stack = rw (← e) S;
+      })
