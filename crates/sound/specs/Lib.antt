@@ -6,3 +6,4 @@ pub mod Sound
 pub mod Keep
 pub mod Plan
 pub mod Steps
+pub mod Runs
