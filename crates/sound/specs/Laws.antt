@@ -140,10 +140,14 @@ module _ (f map : List ℕ) (L : CodeLaws f map) where
         inner = ap (λ s. s .inner) e;
       }
 
-  -- procedure 0 has no parameters
+  -- procedure 0 has no parameters, and its results fit it
   pub no-params : (paramsMain f 0 ≡ 0) × (paramsPtr f 0 ≡ 0)
   unfolding headTests
   no-params = let H = L .heads 0 (L .some) in (H .1 .1 .1 .1 .1 .1 .0, H .1 .1 .1 .1 .1 .1 .1 .0)
+
+  pub results-most : (resultsMain f 0 ≤ mostMain f 0) × (resultsPtr f 0 ≤ mostPtr f 0)
+  unfolding headTests
+  results-most = let H = L .heads 0 (L .some) in (H .1 .0, H .1 .1 .1 .0)
 
   -- where the instruction at p leads
   pub passed-on : (p q : ℕ) (t : State) → isIns f p ≡ true → Passes f (stateIn map) p q t → Is f map q (procAt f p) t

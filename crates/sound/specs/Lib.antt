@@ -7,3 +7,4 @@ pub mod Keep
 pub mod Plan
 pub mod Steps
 pub mod Runs
+pub mod Registers

@@ -85,6 +85,12 @@ module _ (f map : List ℕ) (lm lp : ℕ) where
   stack-frame l (suc k) {n = n} (frame z u F T ei ej S) = let e : n - 1 ≡ k = omega (arith, down-length l k) in rw e F
   stack-frame l (suc k) (handler u T S) = stack-frame l k S
 
+  -- the records that the registers name are among the k
+  pub stack-numbers : (l : List ℕ) (k : ℕ) {t p n h i j : ℕ} → Stack (down l k) t p n h i j → (n ≤ k) × (h ≤ k)
+  stack-numbers l (suc k) (first z u F T) = (omega arith, omega arith)
+  stack-numbers l (suc k) (frame z u F T ei ej S) = let r = stack-numbers l k S in (omega (arith, down-length l k), omega arith)
+  stack-numbers l (suc k) (handler u T S) = let r = stack-numbers l k S in (omega arith, omega (arith, down-length l k))
+
   -- where an exception goes: the topmost of k records that is a handler's, with its number less 1. A frame at q opened it
   pub record Found (l : List ℕ) (k h : ℕ) : Type 0 where
     pub q : ℕ
