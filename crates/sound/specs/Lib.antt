@@ -8,3 +8,4 @@ pub mod Plan
 pub mod Steps
 pub mod Runs
 pub mod Registers
+pub mod Verdict
