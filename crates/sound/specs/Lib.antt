@@ -9,3 +9,4 @@ pub mod Steps
 pub mod Runs
 pub mod Registers
 pub mod Verdict
+pub mod Claims

@@ -14,7 +14,7 @@ use Rattle.model.specs.Choice.{if_then_else_, all, All, all-true, Mem}
 use Rattle.model.specs.Words.{wordAt, truth, operate, operate1}
 use Rattle.model.specs.File.{Side, onMain, onPtr, Aside, keepMain, keepPtr, keepNone, Basic, local, assign, field, setField, form, literal, nil, root, setRoot, retract, binary, samePtr, unary, Ins, basic, jump, branch, branchKeep, call, return, enter, exit, raise, after, entry, insAt, procAt}
 use Rattle.model.specs.Checker.{State, state, Effect, effect, basicEffect, effectOf, moved, outer, passes, depthTests}
-use Rattle.model.specs.Heap.{Heap, Pointer, markOf, rootOf, inPtrs, inPlain, ptrsAt, formed}
+use Rattle.model.specs.Heap.{Heap, Pointer, markOf, rootOf, inPtrs, inPlain, formed, clean, heapOf}
 use Rattle.model.specs.Control.{Machine, recordWords, mainBase, ptrBase}
 use Rattle.model.specs.Instructions.{mtop, ptop, mainWord, ptrWord, onObject, onValue, write, callTests, basicPlan, planOf, planAt}
 use Rattle.model.specs.Step.{formedFrom, settle, raised}
@@ -41,8 +41,10 @@ pub record Formed (h os h′ : List ℕ) : Type 0 where
   pub new : Pointer objects (markOf h)
   pub same-length : length h′ ≡ length h
 
--- what is proved of heaps elsewhere: a store in an object or the root, and a new view, keep the heap sound
+-- what is proved of heaps elsewhere: the audit is exact; a store in an object or the root, and a new view, keep the heap sound
 pub record HeapLaws : Type 0 where
+  pub audit-clean : (h os : List ℕ) → heapOf h ≡ clean os → Heap h os
+  pub clean-audit : (h os : List ℕ) → Heap h os → heapOf h ≡ clean os
   pub plain-store : (h os : List ℕ) (q s w : ℕ) → Heap h os → Mem q os → inPlain h q s ≡ true → Heap (set h (q + s) w) os
   pub ptr-store : (h os : List ℕ) (q s v : ℕ) → Heap h os → Mem q os → inPtrs h q s ≡ true → Pointer os v → Heap (set h (q + s) v) os
   pub root-store : (h os : List ℕ) (v : ℕ) → Heap h os → Pointer os v → Heap (set h 1 v) os

@@ -26,6 +26,10 @@ pub record Words (Ptr : ℕ → Type 0) (m : Machine) : Type 0 where
   pub zero-ctl : Zero (m .regs .ctop) (m .ctl)
   pub pointers : Each Ptr (m .ptr)
 
+words-with : (P Q : ℕ → Type 0) (m : Machine) → ((v : ℕ) → P v → Q v) → Words P m → Words Q m
+words-with P Q m k W =
+    record { zero-main = W .zero-main; zero-ptr = W .zero-ptr; zero-ctl = W .zero-ctl; pointers = λ i. k _ (W .pointers i) }
+
 -- running, with n records; i, j: the running frame's bases
 pub record Running (f map : List ℕ) (Ptr : ℕ → Type 0) (m : Machine) (n i j : ℕ) : Type 0 where
   pub main-top : m .regs .mtop ≡ i + mainAt map (m .regs .place)
@@ -49,6 +53,36 @@ pub record Finished (f : List ℕ) (Ptr : ℕ → Type 0) (m : Machine) : Type 0
 
 abbrev pub Sound : List ℕ → List ℕ → (ℕ → Type 0) → Machine → Type 0
 Sound f map Ptr m = ((n : ℕ) × (i : ℕ) × (j : ℕ) × Running f map Ptr m n i j) ⊎ Finished f Ptr m
+
+-- with another statement on pointers
+pub sound-with : (f map : List ℕ) (P Q : ℕ → Type 0) (m : Machine) → ((v : ℕ) → P v → Q v) → Sound f map P m → Sound f map Q m
+sound-with f map P Q m k (inl S) =
+    let R = S .3 in
+    inl (
+      S .0,
+      S .1,
+      S .2,
+      record {
+        main-top = R .main-top;
+        ptr-top = R .ptr-top;
+        ctl-top = R .ctl-top;
+        state-is = R .state-is;
+        room = R .room;
+        stack = R .stack;
+        words = words-with P Q m k (R .words);
+      },
+    )
+sound-with f map P Q m k (inr D) =
+    inr (record {
+      state-is = D .state-is;
+      place-is = D .place-is;
+      frame-is = D .frame-is;
+      handler-is = D .handler-is;
+      ctl-top = D .ctl-top;
+      main-top = D .main-top;
+      ptr-top = D .ptr-top;
+      words = words-with P Q m k (D .words);
+    })
 
 -- a pointer, as the audit tests it
 abbrev pub Audited : Machine → ℕ → Type 0

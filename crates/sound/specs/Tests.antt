@@ -2,12 +2,13 @@
 -- on the tests.
 use Prim.Native.Nat.{ℕ}
 use mathlib.Core.Path.{_≡_, refl, ap, sym}
-use mathlib.Core.Bool.{Bool, true, false, true≢false, _&&_}
+use mathlib.Core.Bool.{Bool, true, false, true≢false, _&&_, _||_}
 use mathlib.Core.List.{List, [], _∷_}
 use mathlib.Core.Logic.{_⊎_, inl, inr}
 use lib.Dec.{eqb}
 use borrow.Author.Tests.{eq-eqb, eqb-true}
 use Rattle.model.specs.Choice.{if_then_else_, if-both, Test, all, All, all-true, Mem, member}
+use Rattle.model.specs.Heap.{Pointer, isPointer}
 
 pub if-cases : (t a b : Bool) {C : Type 0} → (t ≡ true → a ≡ true → C) → (t ≡ false → b ≡ true → C) →
     (if t then a else b) ≡ true → C
@@ -35,3 +36,22 @@ member-mem q (p ∷ l) e = if-cases (eqb q p) true (member q l) (λ u v. inl (eq
 pub mem-member : (q : ℕ) (l : List ℕ) → Mem q l → member q l ≡ true
 mem-member q (p ∷ l) (inl e) = rw (eq-eqb q p e)
 mem-member q (p ∷ l) (inr h) = if-either (eqb q p) (member q l) (mem-member q l h)
+
+-- a pointer, as a test and as a statement
+pub pointer-true : (os : List ℕ) (v : ℕ) → isPointer os v ≡ true → Pointer os v
+unfolding isPointer
+pointer-true os v e = go (eqb v 0) refl (member v os) refl e
+  where
+    go : (t : Bool) → eqb v 0 ≡ t → (u : Bool) → member v os ≡ u → (t || u) ≡ true → Pointer os v
+    go true a u b c = inl (eqb-true v 0 a)
+    go false a true b c = inr (member-mem v os b)
+    go false a false b c = absurd (true≢false (sym c))
+
+pub true-pointer : (os : List ℕ) (v : ℕ) → Pointer os v → isPointer os v ≡ true
+unfolding isPointer
+true-pointer os v (inl e) = rw (eq-eqb v 0 e)
+true-pointer os v (inr h) = rw (mem-member v os h) (or-true (eqb v 0))
+  where
+    or-true : (t : Bool) → (t || true) ≡ true
+    or-true true = refl
+    or-true false = refl

@@ -52,8 +52,15 @@ module _ (f map map′ : List ℕ) where
       let d = headed-pass (headsOf f) (c .2) in
       let g = flowed-pass (flow f) (d .1) in
       record {
-        file-fits = a .0; map-fits = leb-true (mapSize f) (length map) (b .0); places = c .0; records = c .1; heads = d .0; known = g .0;
-        flows = g .1; map-is = g .2 }
+        file-fits = a .0;
+        map-fits = leb-true (mapSize f) (length map) (b .0);
+        places = c .0;
+        records = c .1;
+        heads = d .0;
+        known = g .0;
+        flows = g .1;
+        map-is = g .2;
+      }
 
   pub passed-verdict : Passed f map map′ → verdictOf f map ≡ pass map′
   unfolding verdictOf
@@ -78,5 +85,12 @@ check-again f map map′ e =
     let o = over-again f map map′ (mapFrom (P .known) (length f) 0) (length-map (P .known) (length f) 0) (P .map-is) in
     passed-verdict f map′ map′
     (record {
-      file-fits = P .file-fits; map-fits = o .0; places = P .places; records = P .records; heads = P .heads; known = P .known;
-      flows = P .flows; map-is = o .1 })
+      file-fits = P .file-fits;
+      map-fits = o .0;
+      places = P .places;
+      records = P .records;
+      heads = P .heads;
+      known = P .known;
+      flows = P .flows;
+      map-is = o .1;
+    })
