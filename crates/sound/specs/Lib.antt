@@ -10,3 +10,4 @@ pub mod Runs
 pub mod Registers
 pub mod Verdict
 pub mod Claims
+pub mod Files
