@@ -1,33 +1,35 @@
 -- Demand 3, its first sentence, over what is proved of checks and heaps elsewhere: after a start that answered ready, every list of check,
 -- start and run calls keeps `Held`, from which each call's claim follows. By one induction on the calls.
-use Prim.Native.Nat.{ℕ, zero, suc, _+_, _-_, _*_, _<_, _≤_}
-use mathlib.Core.Path.{_≡_, refl, ap, sym, _∙_, subst}
+use Prim.Native.Nat.{ℕ}
+use mathlib.Core.Path.{_≡_, refl, sym, _∙_, subst}
 use mathlib.Core.Bool.{Bool, true, false, true≢false}
 use mathlib.Core.List.{List, [], _∷_}
-use mathlib.Core.Logic.{_⊎_, inl, inr}
+use mathlib.Core.Logic.{inl, inr}
 use native.Mathlib.Omega.{arith}
 use lib.ListN.{length}
 use lib.Dec.{eqb}
-use borrow.Author.Tests.{eq-eqb, eqb-true}
+use borrow.Author.Tests.{eq-eqb}
 use Rattle.model.specs.Choice.{if_then_else_, all, All, all-true, true-all}
 use Rattle.model.specs.Words.{wordAt, cut}
 use Rattle.model.specs.Heap.{Heap, Pointer, Audit, fault, clean, heapOf, objectsOf}
-use Rattle.model.specs.Control.{Machine, machine, registerBytes, regsFrom, regBytes}
-use Rattle.model.specs.Step.{next, step, runOn}
+use Rattle.model.specs.Control.{Machine, machine, registerBytes}
+use Rattle.model.specs.Step.{next, step}
 use Rattle.model.specs.Sound.{sound?}
 use Rattle.model.specs.Calls.{Verdict, pass, refuse, verdictOf, checkOf, Lent, machineOf, leaving, withMap, lengthTests, After, answers, registered, audited, measured, afterCheck, tested, started, startOf, ranFrom, runOf}
-use Rattle.model.specs.Claim.{Call, check, start, run, callOf, NotRefused, afterSteps, Depths, Pointers, Before, Claim, Bytes, Demand3}
+use Rattle.model.specs.Claim.{Call, check, start, run, callOf, NotRefused, Depths, Pointers, Before, Claim, Bytes, Demand3}
 use Rattle.model.specs.declared.Answer.the-variants as answer
 use Rattle.sound.specs.Tests.{pointer-true, true-pointer}
 use Rattle.sound.specs.Lists.{length-cut, length-put}
-use Rattle.sound.specs.Laws.{CodeLaws}
-use Rattle.sound.specs.Sound.{Running, Finished, Sound, Audited, sound-with, true-sound?, running-depths}
+use Rattle.model.specs.Rules.{Keeps}
+use Rattle.sound.specs.Laws.{CodeLaws, stateIn}
+use Rattle.sound.specs.Files.{passed-laws}
+use Rattle.sound.specs.Sound.{Sound, Audited, sound-with, sound?-true, true-sound?, running-depths}
 use Rattle.sound.specs.Keep.{start-sound}
 use Rattle.sound.specs.Plan.{HeapLaws}
-use Rattle.sound.specs.Steps.{Kept, step-keeps}
+use Rattle.sound.specs.Steps.{step-keeps}
 use Rattle.sound.specs.Runs.{after-keeps, run-keeps}
 use Rattle.sound.specs.Registers.{registers-length, registers-back, sound-small}
-use Rattle.sound.specs.Verdict.{check-again}
+use Rattle.sound.specs.Verdict.{verdict-passed, check-again}
 
 -- a state between the steps of a run on the lists l
 pub record Between (l : Lent) (m : Machine) : Type 0 where
@@ -61,20 +63,23 @@ depths-of l m B u = go (B .sound)
     go (inl S) = running-depths (l .file) (l .map) (Pointer (B .objects)) m (S .0) (S .1) (S .2) (S .3)
     go (inr D) = absurd (u (D .state-is))
 
-module _ (H : HeapLaws) (laws : (f map : List ℕ) → Bytes f → verdictOf f map ≡ pass map → CodeLaws f map) where
+-- exact: the checker's theorem, a passed map keeps the rules
+module _ (H : HeapLaws)
+    (exact : (f map map′ : List ℕ) → Bytes f → verdictOf f map ≡ pass map′ → Keeps f (stateIn map′)) where
   module _ (l : Lent) (B : Bytes (l .file)) (P : verdictOf (l .file) (l .map) ≡ pass (l .map)) (T : All (lengthTests l)) where
-    L : CodeLaws (l .file) (l .map)
-    L = laws (l .file) (l .map) B P
+    pub code-laws : CodeLaws (l .file) (l .map)
+    code-laws =
+        passed-laws (l .file) (l .map) (l .map) (verdict-passed (l .file) (l .map) (l .map) P) (exact (l .file) (l .map) (l .map) B P)
 
     -- a step, hence a run, stays between
-    between-step : (m m′ : Machine) → Between l m → (m .regs .state ≡ 1 → ⊥) → step (l .file) m ≡ next m′ → Between l m′
+    pub between-step : (m m′ : Machine) → Between l m → (m .regs .state ≡ 1 → ⊥) → step (l .file) m ≡ next m′ → Between l m′
     unfolding lengthTests
     between-step m m′ S u e = go (S .sound)
       where
         go : Sound (l .file) (l .map) (Pointer (S .objects)) m → Between l m′
         go (inl R) =
             let h = S .same-heap in
-            let K = step-keeps (l .file) (l .map) L m (S .objects) (R .0) (R .1) (R .2) (R .3) (S .heap) H (omega arith) m′ e in
+            let K = step-keeps (l .file) (l .map) code-laws m (S .objects) (R .0) (R .1) (R .2) (R .3) (S .heap) H (omega arith) m′ e in
             record {
               objects = K .objects;
               heap = K .heap;
@@ -93,7 +98,7 @@ module _ (H : HeapLaws) (laws : (f map : List ℕ) → Bytes f → verdictOf f m
         let e1 = S .same-main in
         let e2 = S .same-ptr in
         let e3 = S .same-ctl in
-        let r = registers-back (m .regs) (sound-small (l .file) (l .map) (Pointer (S .objects)) m L (omega arith) (omega arith) (omega arith) (omega arith) (omega arith) (S .sound)) in
+        let r = registers-back (m .regs) (sound-small (l .file) (l .map) (Pointer (S .objects)) m code-laws (omega arith) (omega arith) (omega arith) (omega arith) (omega arith) (S .sound)) in
         let w : m ≡ machineOf (leaving l m) = λ i. machine (sym r i) (m .main) (m .ptr) (m .ctl) (m .heap) in
         record {
           bytes = B;
@@ -125,7 +130,7 @@ module _ (H : HeapLaws) (laws : (f map : List ℕ) → Bytes f → verdictOf f m
                 1,
                 0,
                 0,
-                start-sound (Pointer os) l L (inl refl) (T .1 .1 .1 .1 .1 .1 .1 .1 .0) (T .1 .1 .1 .1 .1 .1 .1 .1 .1 .0) (T .1 .1 .1 .1 .0),
+                start-sound (Pointer os) l code-laws (inl refl) (T .1 .1 .1 .1 .1 .1 .1 .1 .0) (T .1 .1 .1 .1 .1 .1 .1 .1 .1 .0) (T .1 .1 .1 .1 .0),
               );
           same-main = length-cut 0 (l .main);
           same-ptr = length-cut 0 (l .ptr);
@@ -150,6 +155,31 @@ module _ (H : HeapLaws) (laws : (f map : List ℕ) → Bytes f → verdictOf f m
       (sound-with (l .file) (l .map) (Pointer (I .state .objects)) (Audited (machineOf l)) (machineOf l)
       (λ v p. rw (H .clean-audit (l .heap) (I .state .objects) (I .state .heap)) (true-pointer (I .state .objects) v p))
       (I .state .sound))
+
+  -- what a run is let through on is held, whatever call left it
+  pub run-held : (l : Lent) (os : List ℕ) → Bytes (l .file) → verdictOf (l .file) (l .map) ≡ pass (l .map) → All (lengthTests l) →
+      heapOf (l .heap) ≡ clean os → length (l .bytes) ≡ registerBytes → sound? (l .file) (l .map) (machineOf l) ≡ true → Held l
+  unfolding objectsOf
+  run-held l os B P T c r s =
+      record {
+        bytes = B;
+        passes = P;
+        sizes = T;
+        registers = r;
+        state =
+            record {
+              objects = os;
+              heap = H .audit-clean (l .heap) os c;
+              sound =
+                  sound-with (l .file) (l .map) (Audited (machineOf l)) (Pointer os) (machineOf l)
+                  (λ v p. pointer-true os v (rw c at p))
+                  (sound?-true (l .file) (l .map) (machineOf l) s);
+              same-main = refl;
+              same-ptr = refl;
+              same-ctl = refl;
+              same-heap = refl;
+            };
+      }
 
   call-held : (c : Call) (l : Lent) → Held l → NotRefused (callOf c l .answer) × Held (callOf c l .lists)
   unfolding callOf checkOf startOf runOf

@@ -1,17 +1,16 @@
 -- What a passed check says of a file's records: they lie end to end, so that the place behind a head is its entry and no other head lies up
 -- to there. With the checker's rules (`Keeps`) that makes the laws of the code. By induction on the records.
-use Prim.Native.Nat.{ℕ, zero, suc, _+_, _-_, _*_, _<_, _≤_}
+use Prim.Native.Nat.{ℕ, zero, suc, _+_, _<_, _≤_}
 use mathlib.Core.Path.{_≡_, refl, ap, sym, _∙_}
-use mathlib.Core.Bool.{Bool, true, false, true≢false, not, _&&_}
+use mathlib.Core.Bool.{Bool, true, false, true≢false, not}
 use mathlib.Core.List.{List, [], _∷_}
-use mathlib.Core.Logic.{_⊎_, inl, inr}
+use mathlib.Core.Logic.{inl, inr}
 use native.Mathlib.Omega.{arith}
 use lib.ListN.{length, getD}
-use lib.Dec.{ltb, leb, eqb}
-use borrow.Author.Tests.{eq-eqb, eqb-true, ltb-true, lt-ltb, leb-true, le-leb, lt-leb, not-true}
-use Rattle.model.specs.Choice.{if_then_else_, All, all, all-true, Mem, member}
-use Rattle.model.specs.File.{fileMost, byteAt, bodyOf, bodies, find, headKind, headSize, after, whole?, Records, broken, starts, more, recordsFrom, recordsOf, startsIn, isHead, select, heads, instructions, procs, headOf, entry, upTo, procAt, headTests, Heads, wrong, right, headsFrom, headsOf}
-use Rattle.model.specs.Checker.{none}
+use lib.Dec.{ltb, eqb}
+use borrow.Author.Tests.{eqb-true, ltb-true, lt-ltb, leb-true, le-leb, lt-leb, not-true}
+use Rattle.model.specs.Choice.{if_then_else_, All, all, all-true, Mem}
+use Rattle.model.specs.File.{fileMost, byteAt, bodyOf, bodies, headKind, headSize, after, whole?, Records, broken, starts, more, recordsFrom, recordsOf, isHead, select, heads, instructions, procs, headOf, entry, upTo, procAt, headTests, Heads, wrong, right, headsFrom, headsOf}
 use Rattle.model.specs.Rules.{Keeps}
 use Rattle.model.specs.Sound.{isIns}
 use Rattle.sound.specs.Tests.{and-both, member-mem}

@@ -1,19 +1,19 @@
 -- What each kind of write leaves is sound: the plain writes, 72, 73, 160, 161, a raise, and the start. The control records change by one
 -- on top, or are cut to those below the handler; the laws of the code say that the map has the new depths at the new place.
-use Prim.Native.Nat.{ℕ, zero, suc, _+_, _-_, _*_, _/_, _<_, _≤_}
+use Prim.Native.Nat.{ℕ, zero, suc, _+_, _-_, _*_, _≤_}
 use mathlib.Core.Path.{_≡_, refl, ap, sym, _∙_}
-use mathlib.Core.Bool.{Bool, true, false}
-use mathlib.Core.List.{List, [], _∷_}
+use mathlib.Core.Bool.{true}
+use mathlib.Core.List.{List, []}
 use mathlib.Core.Logic.{_⊎_, inl, inr, _≢_}
 use native.Mathlib.Omega.{arith}
-use lib.ListN.{length, set, length-set}
+use lib.ListN.{length, length-set}
 use lib.Dec.{eqb}
 use borrow.Author.Tests.{eq-eqb, ne-eqb, eqb-true}
 use Rattle.model.specs.Choice.{if_then_else_, All}
 use Rattle.model.specs.Words.{cut}
-use Rattle.model.specs.File.{Ins, call, return, enter, exit, operand, after, entry, headOf, insAt, procAt, procs, paramsMain, paramsPtr, resultsMain, resultsPtr, mostMain, mostPtr}
+use Rattle.model.specs.File.{call, return, enter, exit, operand, after, entry, headOf, insAt, procAt, paramsMain, paramsPtr, resultsMain, resultsPtr, mostMain, mostPtr}
 use Rattle.model.specs.Checker.{State, state, none, handlerAt}
-use Rattle.model.specs.Control.{Machine, machine, regs, Rec, rec, recAt, recOf, down, putRec, recordWords, records}
+use Rattle.model.specs.Control.{Machine, machine, regs, rec, recAt, recOf, down, recordWords, records}
 use Rattle.model.specs.Instructions.{mtop, ptop, callTests}
 use Rattle.model.specs.Step.{called, returned, finished, opened, closed, caught, applyInto}
 use Rattle.model.specs.Sound.{mainAt, ptrAt, innerAt, isIns, isCall}
@@ -24,7 +24,7 @@ use Rattle.model.specs.declared.Put.{Put}
 use Rattle.sound.specs.Lists.{Zero, Each, length-cut, cut-zero, cut-each, set-zero, length-put, put-zero, down-put, down-cut, down-length}
 use Rattle.sound.specs.Stack.{Stack, first, frame, handler, stack-here, stack-move, stack-some, stack-frame, Found, find}
 use Rattle.sound.specs.Laws.{Is, CodeLaws, at-entry, no-params, at-call, at-return, at-enter, at-exit, inner-opens, depth-most, call-byte, byte-call, call-after}
-use Rattle.sound.specs.Sound.{Words, Running, Finished, Sound}
+use Rattle.sound.specs.Sound.{Running, Sound}
 
 -- what a call writes, as `planOf` has it
 abbrev pub framePut : List ℕ → Machine → ℕ → Put

@@ -2,21 +2,19 @@
 -- place that an instruction leads to, `Is`, and the bounds on a place's depths, by induction on the earlier instruction that reaches it.
 use Prim.Native.Nat.{ℕ, zero, suc, _+_, _-_, _<_, _≤_}
 use mathlib.Core.Path.{_≡_, refl, ap, sym, _∙_}
-use mathlib.Core.Bool.{Bool, true, false, true≢false, not, _&&_}
-use mathlib.Core.List.{List, [], _∷_}
+use mathlib.Core.Bool.{Bool, true, false, true≢false}
+use mathlib.Core.List.{List}
 use mathlib.Core.Logic.{_⊎_, inl, inr, _≢_}
 use native.Mathlib.Omega.{arith}
-use native.Mathlib.Decide.{ℕ-discrete}
-use lib.ListN.{length}
 use lib.Dec.{eqb}
-use borrow.Author.Tests.{eq-eqb, ne-eqb, eqb-true, eqb-false, not-true}
-use Rattle.model.specs.Choice.{if_then_else_, if-both, Test, all, All, Mem, member}
-use Rattle.model.specs.File.{Basic, Ins, basic, jump, branch, branchKeep, call, return, enter, exit, raise, byteAt, bodyOf, bodies, find, after, procs, procAt, entry, headTests, instructions, operand, insOf, insAt, paramsMain, paramsPtr, resultsMain, resultsPtr, mostMain, mostPtr}
-use Rattle.model.specs.Checker.{State, state, none, passes, outer, moved, effect, effectOf, basicEffect, own, goesOn, handlerAt, targetTests, nextTests, depthTests, leaveTests}
+use borrow.Author.Tests.{eqb-true, eqb-false, not-true}
+use Rattle.model.specs.Choice.{if_then_else_, All, Mem}
+use Rattle.model.specs.File.{Ins, basic, jump, branch, branchKeep, call, return, enter, exit, raise, byteAt, bodyOf, bodies, after, procs, procAt, entry, headTests, instructions, operand, insOf, insAt, paramsMain, paramsPtr, resultsMain, resultsPtr, mostMain, mostPtr}
+use Rattle.model.specs.Checker.{State, state, none, passes, outer, effectOf, own, goesOn, handlerAt, targetTests, nextTests, depthTests, leaveTests}
 use Rattle.model.specs.Rules.{Passes, Fine, First, Got, Keeps}
 use Rattle.model.specs.Rules as Rules
-use Rattle.sound.specs.Tests.{if-cases, and-both, member-mem, mem-member}
-use Rattle.model.specs.Sound.{mainAt, ptrAt, innerAt, isIns, isCall, callSize}
+use Rattle.sound.specs.Tests.{and-both, member-mem, mem-member}
+use Rattle.model.specs.Sound.{mainAt, ptrAt, innerAt, isIns, callSize}
 
 -- the assignment that a map is
 abbrev pub stateIn : List ℕ → ℕ → State

@@ -2,12 +2,12 @@ pub mod Tests
 pub mod Lists
 pub mod Stack
 pub mod Laws
+pub mod Verdict
+pub mod Files
 pub mod Sound
 pub mod Keep
 pub mod Plan
 pub mod Steps
 pub mod Runs
 pub mod Registers
-pub mod Verdict
 pub mod Claims
-pub mod Files

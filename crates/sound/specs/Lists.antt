@@ -1,20 +1,20 @@
 -- Lists of words and of control records: what a cut, a store and a stored record leave, read word by word or record by record from the
 -- top. Each law is an induction on the list, or follows from one of its words.
-use Prim.Native.Nat.{ℕ, zero, suc, _+_, _-_, _*_, _/_, _<_, _≤_}
-use mathlib.Core.Path.{_≡_, refl, ap, sym, _∙_}
-use mathlib.Core.Bool.{Bool, true, false}
-use mathlib.Core.List.{List, [], _∷_, _++_}
+use Prim.Native.Nat.{ℕ, zero, suc, _+_, _*_, _<_, _≤_}
+use mathlib.Core.Path.{_≡_, refl, ap, _∙_}
+use mathlib.Core.Bool.{true}
+use mathlib.Core.List.{List, [], _∷_}
 use mathlib.Core.Logic.{_⊎_, inl, inr}
 use native.Mathlib.Omega.{arith}
 use native.Mathlib.Decide.{ℕ-discrete, decLt}
-use lib.ListN.{length, getD, take, drop, set, length-set}
+use lib.ListN.{length, take, drop, set, length-set}
 use lib.Seq.{sets, length-sets, getD-set-same, getD-set-other, set-out, getD-drop, slice}
 use lib.Dec.{eqb}
 use borrow.Author.Tests.{eqb-true, eq-eqb}
-use Rattle.model.specs.Choice.{if_then_else_, if-both}
+use Rattle.model.specs.Choice.{if-both}
 use Rattle.model.specs.Words.{wordAt, cut}
 use Rattle.model.specs.Heap.{isPointer}
-use Rattle.model.specs.Control.{Rec, rec, recordWords, recAt, recOf, down, putRec}
+use Rattle.model.specs.Control.{Rec, rec, recordWords, recAt, down, putRec}
 use Rattle.model.specs.Sound.{zeros, pointers}
 
 -- the words from t on are 0; every word has a property

@@ -1,36 +1,36 @@
 -- What an instruction plans at a sound state fits it: the plan leads where the checker passes the state on, with the tops that the map has
 -- there, and writes a word below the new top, a pointer on the pointer stack, and leaves a sound heap. One case for each instruction.
-use Prim.Native.Nat.{ℕ, zero, suc, _+_, _-_, _*_, _<_, _≤_}
-use mathlib.Core.Path.{_≡_, refl, ap, sym, _∙_}
+use Prim.Native.Nat.{ℕ, _+_, _-_, _<_, _≤_}
+use mathlib.Core.Path.{_≡_, refl, ap}
 use mathlib.Core.Bool.{Bool, true, false}
-use mathlib.Core.List.{List, [], _∷_}
-use mathlib.Core.Logic.{_⊎_, inl, inr, _≢_}
+use mathlib.Core.List.{List}
+use mathlib.Core.Logic.{inl, inr, _≢_}
 use native.Mathlib.Omega.{arith}
-use lib.ListN.{length, set, drop, take, getD}
-use lib.Seq.{slice, length-slice, getD-drop, getD-take}
-use lib.Dec.{ltb, leb, eqb}
-use borrow.Author.Tests.{eqb-true, eqb-false, leb-true, ltb-true}
+use lib.ListN.{length, set}
+use lib.Seq.{slice, length-slice}
+use lib.Dec.{leb, eqb}
+use borrow.Author.Tests.{eqb-false, leb-true, ltb-true}
 use Rattle.model.specs.Choice.{if_then_else_, all, All, all-true, Mem}
 use Rattle.model.specs.Words.{wordAt, truth, operate, operate1}
-use Rattle.model.specs.File.{Side, onMain, onPtr, Aside, keepMain, keepPtr, keepNone, Basic, local, assign, field, setField, form, literal, nil, root, setRoot, retract, binary, samePtr, unary, Ins, basic, jump, branch, branchKeep, call, return, enter, exit, raise, after, entry, insAt, procAt}
-use Rattle.model.specs.Checker.{State, state, Effect, effect, basicEffect, effectOf, moved, outer, passes, depthTests}
-use Rattle.model.specs.Heap.{Heap, Pointer, markOf, rootOf, inPtrs, inPlain, formed, clean, heapOf}
+use Rattle.model.specs.File.{onMain, onPtr, keepMain, keepPtr, keepNone, Basic, local, assign, field, setField, form, literal, nil, root, setRoot, retract, binary, samePtr, unary, Ins, basic, jump, branch, branchKeep, call, return, enter, exit, raise, after, insAt, procAt}
+use Rattle.model.specs.Checker.{State, effect, basicEffect, effectOf, moved, outer, passes, depthTests}
+use Rattle.model.specs.Heap.{Heap, Pointer, markOf, inPtrs, inPlain, formed, clean, heapOf}
 use Rattle.model.specs.Control.{Machine, recordWords, mainBase, ptrBase}
 use Rattle.model.specs.Instructions.{mtop, ptop, mainWord, ptrWord, onObject, onValue, write, callTests, basicPlan, planOf, planAt}
 use Rattle.model.specs.Step.{formedFrom, settle, raised}
-use Rattle.model.specs.Sound.{mainAt, ptrAt, innerAt, isIns}
+use Rattle.model.specs.Sound.{mainAt, innerAt, isIns}
 use Rattle.model.specs.declared.Value.{Value}
 use Rattle.model.specs.declared.Value.the-variants.{Word, Outside}
 use Rattle.model.specs.declared.Into.{Into}
 use Rattle.model.specs.declared.Into.the-variants as into
 use Rattle.model.specs.declared.Put.{Put}
 use Rattle.model.specs.declared.Plan.{Plan}
-use Rattle.model.specs.declared.Plan.the-variants.{Write, Overflow, NilObject, BadField, HeapFull, NoRoom, Thrown}
-use Rattle.sound.specs.Tests.{if-cases, and-both}
+use Rattle.model.specs.declared.Plan.the-variants.{Write, NilObject, BadField, HeapFull, NoRoom}
+use Rattle.sound.specs.Tests.{and-both}
 use Rattle.sound.specs.Lists.{Each, slice-each}
 use Rattle.sound.specs.Stack.{stack-frame}
-use Rattle.sound.specs.Laws.{Is, CodeLaws, stateIn, leads, pops, rules}
-use Rattle.sound.specs.Sound.{Words, Running}
+use Rattle.sound.specs.Laws.{Is, CodeLaws, stateIn, leads, pops, rules, depth-most}
+use Rattle.sound.specs.Sound.{Running}
 use Rattle.sound.specs.Keep.{framePut, returnPut, behindPut, running-here, running-fits}
 
 -- a view in the place of free words of the heap h: h′ with its objects, the old pointers, and the new one
@@ -117,6 +117,16 @@ module _ (f map : List ℕ) (m : Machine) (os : List ℕ) (i j : ℕ) where
 
     abbrev passed : Ins → List (ℕ × State)
     passed x = passes f (m .regs .place) x now (outer (stateIn map) now)
+
+    -- the new tops lie within the stacks
+    pub moves-fit : (put : Put) → Moves put → (put .mtop ≤ length (m .main)) × (put .ptop ≤ length (m .ptr))
+    moves-fit put M =
+        let F = stack-frame f map (length (m .main)) (length (m .ptr)) (m .ctl) n (R .stack) in
+        let I = M .is in
+        let D = rw (I .proc, I .main, I .ptr) at (depth-most f map L (put .place) (I .here)) in
+        let e1 = M .main-top in
+        let e2 = M .ptr-top in
+        (omega arith, omega arith)
 
     -- the words that the instruction pops are there, above the bases
     above : (b : Basic) → insAt f (m .regs .place) ≡ basic b →

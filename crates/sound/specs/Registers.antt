@@ -1,17 +1,17 @@
 -- Registers travel as bytes and come back the same: a word below 2^32 is the sum of its four bytes. A sound state's registers are small.
-use Prim.Native.Nat.{ℕ, zero, suc, _+_, _-_, _*_, _/_, _%_, _<_, _≤_}
-use mathlib.Core.Path.{_≡_, refl, ap, sym, _∙_}
-use mathlib.Core.List.{List, [], _∷_, _++_}
+use Prim.Native.Nat.{ℕ, _+_, _*_, _/_, _%_, _<_, _≤_}
+use mathlib.Core.Path.{_≡_, refl}
+use mathlib.Core.List.{List}
 use native.Mathlib.Omega.{arith}
 use native.Mathlib.Nat.{div-div-eq-div-mul, div-add-mod'}
 use lib.ListN.{length}
-use mathlib.Core.Logic.{_⊎_, inl, inr}
+use mathlib.Core.Logic.{inl, inr}
 use Rattle.model.specs.File.{mostMain, mostPtr}
 use Rattle.sound.specs.Stack.{stack-numbers}
 use Rattle.sound.specs.Laws.{CodeLaws, results-most}
 use Rattle.sound.specs.Sound.{Sound}
 use Rattle.sound.specs.Keep.{running-here, running-fits}
-use Rattle.model.specs.Control.{Machine, regs, registerBytes, wordFrom, regsFrom, bytesOf, regBytes}
+use Rattle.model.specs.Control.{Machine, regs, registerBytes, wordFrom, regsFrom, regBytes}
 use Rattle.model.specs.declared.Regs.{Regs}
 
 abbrev words : ℕ

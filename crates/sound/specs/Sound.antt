@@ -1,9 +1,9 @@
 -- Sound states as a statement, `Sound`, which model's `sound?` computes exactly (`sound?-true`, `true-sound?`), each test saying one field;
 -- and the depth claim: in a running state each top is the running frame's base plus the map's depth, the base being in its record.
-use Prim.Native.Nat.{ℕ, suc, _+_, _-_, _*_, _/_, _≤_}
-use mathlib.Core.Path.{_≡_, refl, ap, sym, _∙_}
-use mathlib.Core.Bool.{Bool, true, false}
-use mathlib.Core.List.{List, [], _∷_}
+use Prim.Native.Nat.{ℕ, _+_, _-_, _*_, _≤_}
+use mathlib.Core.Path.{_≡_}
+use mathlib.Core.Bool.{true}
+use mathlib.Core.List.{List}
 use mathlib.Core.Logic.{_⊎_, inl, inr}
 use native.Mathlib.Omega.{arith}
 use lib.ListN.{length}
@@ -12,8 +12,8 @@ use borrow.Author.Tests.{eq-eqb, ne-eqb, eqb-true}
 use Rattle.model.specs.Choice.{All, all-true, true-all}
 use Rattle.model.specs.File.{resultsMain, resultsPtr}
 use Rattle.model.specs.Heap.{isPointer, objectsOf}
-use Rattle.model.specs.Control.{Machine, down, recordWords, records, mainBase, ptrBase}
-use Rattle.model.specs.Sound.{mainAt, ptrAt, innerAt, stack?, stackTests, runningTests, finishedTests, sound?}
+use Rattle.model.specs.Control.{Machine, down, recordWords, records}
+use Rattle.model.specs.Sound.{mainAt, ptrAt, innerAt, stackTests, runningTests, finishedTests, sound?}
 use Rattle.model.specs.Claim.{Depths}
 use Rattle.sound.specs.Tests.{if-cases}
 use Rattle.sound.specs.Lists.{Zero, Each, zeros-true, true-zeros, pointers-true, true-pointers}

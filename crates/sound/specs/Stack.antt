@@ -1,8 +1,8 @@
 -- The control records as a statement, `Stack`, which model's `stack?` computes: `stack?-true` and `true-stack?`, by induction on the
 -- records, since both read the same tests. A record on top is a constructor; the rest says what every such stack has.
-use Prim.Native.Nat.{ℕ, zero, suc, _+_, _-_, _<_, _≤_}
-use mathlib.Core.Path.{_≡_, refl, ap, sym, _∙_}
-use mathlib.Core.Bool.{Bool, true, false, true≢false}
+use Prim.Native.Nat.{ℕ, suc, _+_, _-_, _<_, _≤_}
+use mathlib.Core.Path.{_≡_, refl, sym}
+use mathlib.Core.Bool.{true, true≢false}
 use mathlib.Core.List.{List, [], _∷_}
 use mathlib.Core.Logic.{_⊎_, inl, inr, _≢_}
 use native.Mathlib.Omega.{arith}
@@ -10,10 +10,10 @@ use lib.ListN.{length}
 use lib.Dec.{eqb}
 use borrow.Author.Tests.{eq-eqb, ne-eqb, eqb-true, eqb-false}
 use Rattle.model.specs.Choice.{All, all-true, true-all}
-use Rattle.model.specs.File.{procAt, operand, paramsMain, paramsPtr}
+use Rattle.model.specs.File.{procAt, paramsMain, paramsPtr}
 use Rattle.model.specs.Checker.{none}
 use Rattle.model.specs.Control.{Rec, recAt, recOf, down}
-use Rattle.model.specs.Sound.{mainAt, ptrAt, innerAt, isIns, isCall, callSize, frameTests, firstTests, callerTests, handlerTests, stack?}
+use Rattle.model.specs.Sound.{mainAt, ptrAt, innerAt, isIns, callSize, frameTests, firstTests, callerTests, handlerTests, stack?}
 use Rattle.sound.specs.Tests.{if-cases, if-all}
 use Rattle.sound.specs.Lists.{down-length}
 

@@ -1,30 +1,27 @@
 -- A step keeps a state sound: its plan fits, and what each kind of plan writes is sound. So do runs, by induction on the steps.
-use Prim.Native.Nat.{ℕ, zero, suc, _+_, _-_, _*_, _<_, _≤_}
+use Prim.Native.Nat.{ℕ, _-_, _<_}
 use mathlib.Core.Path.{_≡_, refl, ap, sym, _∙_, subst}
 use mathlib.Core.Bool.{Bool, true, false, true≢false}
-use mathlib.Core.List.{List, [], _∷_}
-use mathlib.Core.Logic.{_⊎_, inl, inr, _≢_}
-use native.Mathlib.Omega.{arith}
-use lib.ListN.{length, set, length-set}
+use mathlib.Core.List.{List}
+use mathlib.Core.Logic.{inl}
+use lib.ListN.{length, length-set}
 use lib.Dec.{eqb}
 use borrow.Author.Tests.{eqb-false}
 use Rattle.model.specs.Choice.{if_then_else_}
-use Rattle.model.specs.Words.{cut}
 use Rattle.model.specs.File.{insAt, return}
 use Rattle.model.specs.Heap.{Heap, Pointer}
 use Rattle.model.specs.Control.{Machine, machine, records, recordWords, recOf}
 use Rattle.model.specs.Instructions.{planAt}
-use Rattle.model.specs.Step.{Stepped, next, uncaught, onward, mainCut, ptrCut, finished, returned, applyInto, applied, caught, raised, settle, step}
+use Rattle.model.specs.Step.{next, uncaught, onward, mainCut, ptrCut, finished, returned, applyInto, applied, caught, raised, settle, step}
 use Rattle.model.specs.declared.Into.{Into}
 use Rattle.model.specs.declared.Into.the-variants as into
 use Rattle.model.specs.declared.Put.{Put}
 use Rattle.model.specs.declared.Plan.{Plan}
-use Rattle.model.specs.declared.Plan.the-variants.{Write}
 use Rattle.sound.specs.Lists.{Zero, Each, length-cut, cut-zero, cut-each, set-zero, set-each, length-put}
 use Rattle.sound.specs.Laws.{CodeLaws}
-use Rattle.sound.specs.Sound.{Running, Finished, Sound}
+use Rattle.sound.specs.Sound.{Running, Sound}
 use Rattle.sound.specs.Keep.{returnPut, keep-plain, keep-call, keep-return, keep-enter, keep-exit, keep-raise}
-use Rattle.sound.specs.Plan.{HeapLaws, Formed, Moves, Written, Fits, plain, calls, leaves, opens, closes, raises, plan-fits}
+use Rattle.sound.specs.Plan.{HeapLaws, Moves, Written, Fits, plain, calls, leaves, opens, closes, raises, plan-fits}
 
 -- sound after a step from m: control records, stacks and heap, and lists as long as they were
 pub record Kept (f map : List ℕ) (m m′ : Machine) : Type 0 where

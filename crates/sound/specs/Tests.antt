@@ -1,10 +1,10 @@
 -- Computed tests taken apart: what a choice, a list of tests, a conjunction or a search in a list says where it comes out true. By cases
 -- on the tests.
 use Prim.Native.Nat.{ℕ}
-use mathlib.Core.Path.{_≡_, refl, ap, sym}
+use mathlib.Core.Path.{_≡_, refl, sym}
 use mathlib.Core.Bool.{Bool, true, false, true≢false, _&&_, _||_}
 use mathlib.Core.List.{List, [], _∷_}
-use mathlib.Core.Logic.{_⊎_, inl, inr}
+use mathlib.Core.Logic.{inl, inr}
 use lib.Dec.{eqb}
 use borrow.Author.Tests.{eq-eqb, eqb-true}
 use Rattle.model.specs.Choice.{if_then_else_, if-both, Test, all, All, all-true, Mem, member}
