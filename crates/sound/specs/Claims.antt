@@ -18,28 +18,22 @@ use Rattle.model.specs.Sound.{sound?}
 use Rattle.model.specs.Calls.{Verdict, pass, refuse, verdictOf, checkOf, Lent, machineOf, leaving, withMap, lengthTests, After, answers, registered, audited, measured, afterCheck, tested, started, startOf, ranFrom, runOf}
 use Rattle.model.specs.Claim.{Call, check, start, run, callOf, NotRefused, Depths, Pointers, Before, Claim, Bytes, Demand3}
 use Rattle.model.specs.declared.Answer.the-variants as answer
+use Rattle.model.specs.Rules.{Keeps}
 use Rattle.sound.specs.Tests.{pointer-true, true-pointer}
 use Rattle.sound.specs.Lists.{length-cut, length-put}
-use Rattle.model.specs.Rules.{Keeps}
 use Rattle.sound.specs.Laws.{CodeLaws, stateIn}
 use Rattle.sound.specs.Files.{passed-laws}
 use Rattle.sound.specs.Sound.{Sound, Audited, sound-with, sound?-true, true-sound?, running-depths}
 use Rattle.sound.specs.Keep.{start-sound}
 use Rattle.sound.specs.Plan.{HeapLaws}
-use Rattle.sound.specs.Steps.{step-keeps}
+use Rattle.sound.specs.Steps.{Kept, kept-here, kept-on, step-keeps}
 use Rattle.sound.specs.Runs.{after-keeps, run-keeps}
 use Rattle.sound.specs.Registers.{registers-length, registers-back, sound-small}
 use Rattle.sound.specs.Verdict.{verdict-passed, check-again}
 
 -- a state between the steps of a run on the lists l
-pub record Between (l : Lent) (m : Machine) : Type 0 where
-  pub objects : List ℕ
-  pub heap : Heap (m .heap) objects
-  pub sound : Sound (l .file) (l .map) (Pointer objects) m
-  pub same-main : length (m .main) ≡ length (l .main)
-  pub same-ptr : length (m .ptr) ≡ length (l .ptr)
-  pub same-ctl : length (m .ctl) ≡ length (l .ctl)
-  pub same-heap : length (m .heap) ≡ length (l .heap)
+abbrev pub Between : Lent → Machine → Type 0
+Between l m = Kept (l .file) (l .map) (machineOf l) m
 
 -- what holds of the lists from a ready start on
 pub record Held (l : Lent) : Type 0 where
@@ -79,16 +73,8 @@ module _ (H : HeapLaws)
         go : Sound (l .file) (l .map) (Pointer (S .objects)) m → Between l m′
         go (inl R) =
             let h = S .same-heap in
-            let K = step-keeps (l .file) (l .map) code-laws m (S .objects) (R .0) (R .1) (R .2) (R .3) (S .heap) H (omega arith) m′ e in
-            record {
-              objects = K .objects;
-              heap = K .heap;
-              sound = K .sound;
-              same-main = K .same-main ∙ S .same-main;
-              same-ptr = K .same-ptr ∙ S .same-ptr;
-              same-ctl = K .same-ctl ∙ S .same-ctl;
-              same-heap = K .same-heap ∙ S .same-heap;
-            }
+            kept-on S
+            (step-keeps (l .file) (l .map) code-laws m (S .objects) (R .0) (R .1) (R .2) (R .3) (S .heap) H (omega arith) m′ e)
         go (inr D) = absurd (u (D .state-is))
 
     -- what a state leaves is held: its registers come back from their bytes
@@ -105,17 +91,7 @@ module _ (H : HeapLaws)
           passes = P;
           sizes = rw (S .same-main, S .same-ptr, S .same-ctl, S .same-heap) T;
           registers = registers-length (m .regs);
-          state =
-              subst (Between (leaving l m)) w
-              (record {
-                objects = S .objects;
-                heap = S .heap;
-                sound = S .sound;
-                same-main = refl;
-                same-ptr = refl;
-                same-ctl = refl;
-                same-heap = refl;
-              });
+          state = subst (λ (x : Machine). Kept (l .file) (l .map) x x) w (kept-here m (S .objects) (S .heap) (S .sound));
         }
 
     start-held : (os : List ℕ) → Heap (l .heap) os → Held (leaving l (started l))
@@ -167,18 +143,9 @@ module _ (H : HeapLaws)
         sizes = T;
         registers = r;
         state =
-            record {
-              objects = os;
-              heap = H .audit-clean (l .heap) os c;
-              sound =
-                  sound-with (l .file) (l .map) (Audited (machineOf l)) (Pointer os) (machineOf l)
-                  (λ v p. pointer-true os v (rw c at p))
-                  (sound?-true (l .file) (l .map) (machineOf l) s);
-              same-main = refl;
-              same-ptr = refl;
-              same-ctl = refl;
-              same-heap = refl;
-            };
+            kept-here (machineOf l) os (H .audit-clean (l .heap) os c)
+            (sound-with (l .file) (l .map) (Audited (machineOf l)) (Pointer os) (machineOf l) (λ v p. pointer-true os v (rw c at p))
+            (sound?-true (l .file) (l .map) (machineOf l) s));
       }
 
   call-held : (c : Call) (l : Lent) → Held l → NotRefused (callOf c l .answer) × Held (callOf c l .lists)
@@ -217,11 +184,11 @@ module _ (H : HeapLaws)
       where
         go : (t : Bool) → Readied (if t then ready l else answers (answer.Refused 12 0) l)
         go true e = h
-        go false e = let z : true ≡ false = cc in absurd (true≢false z)
+        go false e = absurd (true≢false (cc))
 
     by-heap : verdictOf (l .file) (l .map) ≡ pass (l .map) → All (lengthTests l) → (a : Audit) → heapOf (l .heap) ≡ a →
         Readied (audited l (ready l) a)
-    by-heap P T (fault q) d e = let z : true ≡ false = cc in absurd (true≢false z)
+    by-heap P T (fault q) d e = absurd (true≢false (cc))
     by-heap P T (clean os) d e = by-registers (start-held l B P T os (H .audit-clean (l .heap) os d)) e
 
     by-lengths : verdictOf (l .file) (l .map) ≡ pass (l .map) → Readied (measured l (ready l))
@@ -230,7 +197,7 @@ module _ (H : HeapLaws)
         go : (t : Bool) → all (lengthTests l) ≡ t →
             Readied (if t then audited l (ready l) (heapOf (l .heap)) else answers (answer.Refused 10 0) l)
         go true u e = by-heap P (all-true (lengthTests l) u) (heapOf (l .heap)) refl e
-        go false u e = let z : true ≡ false = cc in absurd (true≢false z)
+        go false u e = absurd (true≢false (cc))
 
   ready-held : (l : Lent) → Bytes (l .file) → startOf l .answer ≡ answer.Ready → Held (startOf l .lists)
   unfolding startOf
@@ -239,7 +206,7 @@ module _ (H : HeapLaws)
       go : (v : Verdict) → verdictOf (l .file) (l .map) ≡ v →
           afterCheck l (ready l B) v .answer ≡ answer.Ready → Held (afterCheck l (ready l B) v .lists)
       go (pass map) u e = by-lengths (withMap l map) B (check-again (l .file) (l .map) map u) e
-      go (refuse n p map) u e = let z : true ≡ false = cc in absurd (true≢false z)
+      go (refuse n p map) u e = absurd (true≢false (cc))
 
   pub demand3 : Demand3
   demand3 l B e cs = claims cs (startOf l .lists) (ready-held l B e)

@@ -25,7 +25,7 @@ module _ (f : List ℕ) where
 
   -- the records found from p on, if there is one there
   more-starts : (p : ℕ) (r : Records) (ps : List ℕ) → more p r ≡ starts ps → (qs : List ℕ) × (r ≡ starts qs) × (ps ≡ p ∷ qs)
-  more-starts p (broken q) ps e = let z : true ≡ false = cc in absurd (true≢false z)
+  more-starts p (broken q) ps e = absurd (true≢false (cc))
   more-starts p (starts qs) ps e = (qs, refl, cc)
 
   pub walk : (n p : ℕ) (ps : List ℕ) → recordsFrom f n p ≡ starts ps → Walk p ps
@@ -38,7 +38,7 @@ module _ (f : List ℕ) where
       go true u true k d =
           let g = more-starts p (recordsFrom f n (after f p)) ps d in
           rw (g .2) (refl, ltb-true p (length f) u, k (g .0) (g .1))
-      go true u false k d = let z : true ≡ false = cc in absurd (true≢false z)
+      go true u false k d = absurd (true≢false (cc))
       go false u v k d = let w : [] ≡ ps = cc in rw (← w) tt
 
   -- what is selected of a walk: it passes the test, and lies from p on within the file
@@ -122,7 +122,7 @@ module _ (f : List ℕ) where
     where
       go : (u : Bool) → (if u then more p (recordsFrom f n (after f p)) else broken p) ≡ starts ps → (qs : List ℕ) × (ps ≡ p ∷ qs)
       go true d = let g = more-starts p (recordsFrom f n (after f p)) ps d in (g .0, g .2)
-      go false d = let z : true ≡ false = cc in absurd (true≢false z)
+      go false d = absurd (true≢false (cc))
 
   -- the first kind is a head's
   records-from : (ps : List ℕ) → recordsOf f ≡ starts ps → (isHead f 0 ≡ true) × (recordsFrom f (length f) 0 ≡ starts ps)
@@ -131,12 +131,12 @@ module _ (f : List ℕ) where
     where
       go : (t : Bool) → (if t then recordsFrom f (length f) 0 else broken 0) ≡ starts ps → (t ≡ true) × (recordsFrom f (length f) 0 ≡ starts ps)
       go true d = (refl, d)
-      go false d = let z : true ≡ false = cc in absurd (true≢false z)
+      go false d = absurd (true≢false (cc))
 
   -- every head keeps its rules
   if-right : (t : Bool) (r : Heads) (p : ℕ) → (if t then r else wrong p) ≡ right → (t ≡ true) × (r ≡ right)
   if-right true r p e = (refl, e)
-  if-right false r p e = let z : true ≡ false = cc in absurd (true≢false z)
+  if-right false r p e = absurd (true≢false (cc))
 
   heads-right : (k n j : ℕ) → headsFrom f k n ≡ right → j < k → All (headTests f (n + j))
   unfolding headsFrom

@@ -24,7 +24,7 @@ use Rattle.model.specs.declared.Put.{Put}
 use Rattle.sound.specs.Lists.{Zero, Each, length-cut, cut-zero, cut-each, set-zero, length-put, put-zero, down-put, down-cut, down-length}
 use Rattle.sound.specs.Stack.{Stack, first, frame, handler, stack-here, stack-move, stack-some, stack-frame, Found, find}
 use Rattle.sound.specs.Laws.{Is, CodeLaws, at-entry, no-params, at-call, at-return, at-enter, at-exit, inner-opens, depth-most, call-byte, byte-call, call-after}
-use Rattle.sound.specs.Sound.{Running, Sound}
+use Rattle.sound.specs.Sound.{Words, Running, Sound}
 
 -- what a call writes, as `planOf` has it
 abbrev pub framePut : List ℕ → Machine → ℕ → Put
@@ -70,6 +70,11 @@ module _ (f map : List ℕ) where
       }
 
   module _ (L : CodeLaws f map) (Ptr : ℕ → Type 0) (m : Machine) where
+    -- another place and control stack, the other stacks as they are
+    other-ctl : {p r h c s : ℕ} {ctl : List ℕ} → Words Ptr m → Zero c ctl →
+        Words Ptr (machine (regs p r h (mtop m) (ptop m) c s) (m .main) (m .ptr) ctl (m .heap))
+    other-ctl W z = record { zero-main = W .zero-main; zero-ptr = W .zero-ptr; zero-ctl = z; pointers = W .pointers }
+
     -- the tops lie within the stacks
     pub running-fits : (n i j : ℕ) → Running f map Ptr m n i j → (mtop m ≤ length (m .main)) × (ptop m ≤ length (m .ptr))
     running-fits n i j R =
@@ -119,13 +124,7 @@ module _ (f map : List ℕ) where
               (rw (I .proc) (omega arith))
               (rw (I .proc) (omega arith))
               (R .stack));
-          words =
-              record {
-                zero-main = R .words .zero-main;
-                zero-ptr = R .words .zero-ptr;
-                zero-ctl = put-zero (m .ctl) (records m) (m .regs .ctop) w (omega arith) (R .words .zero-ctl);
-                pointers = R .words .pointers;
-              };
+          words = other-ctl (R .words) (put-zero (m .ctl) (records m) (m .regs .ctop) w (omega arith) (R .words .zero-ctl));
         }
 
     -- 73: the topmost record goes, a frame's, since a return has no handler open
@@ -154,13 +153,7 @@ module _ (f map : List ℕ) where
               ctl-top = refl;
               main-top = omega arith;
               ptr-top = omega arith;
-              words =
-                  record {
-                    zero-main = R .words .zero-main;
-                    zero-ptr = R .words .zero-ptr;
-                    zero-ctl = cut-zero 0 (m .ctl);
-                    pointers = R .words .pointers;
-                  };
+              words = other-ctl (R .words) (cut-zero 0 (m .ctl));
             }))
         go (frame {c = c} {i′ = i′} {j′ = j′} z u F T ei ej S) =
             let p = m .regs .place in
@@ -192,13 +185,7 @@ module _ (f map : List ℕ) where
                 stack =
                     rw (top, back, I .inner, down-cut (m .ctl) n (m .regs .ctop - recordWords) (omega arith))
                     (stack-move f map (length (m .main)) (length (m .ptr)) (after f c) (I .here) (I .proc) S);
-                words =
-                    record {
-                      zero-main = R .words .zero-main;
-                      zero-ptr = R .words .zero-ptr;
-                      zero-ctl = cut-zero (m .regs .ctop - recordWords) (m .ctl);
-                      pointers = R .words .pointers;
-                    };
+                words = other-ctl (R .words) (cut-zero (m .regs .ctop - recordWords) (m .ctl));
               },
             ))
         go (handler u T S) = absurd (u (E .inner))
@@ -225,13 +212,7 @@ module _ (f map : List ℕ) where
               (handler {w = w} {rs = down (m .ctl) n} {t = p} {n = m .regs .frame} {h = suc (records m)} {i = i} {j = j} (omega arith)
               (omega (arith, down-length (m .ctl) n), (refl, (R .main-top, (R .ptr-top, (refl, tt)))))
               (stack-move f map (length (m .main)) (length (m .ptr)) (after f p) (I .here) (I .proc) (R .stack)));
-          words =
-              record {
-                zero-main = R .words .zero-main;
-                zero-ptr = R .words .zero-ptr;
-                zero-ctl = put-zero (m .ctl) (records m) (m .regs .ctop) w (omega arith) (R .words .zero-ctl);
-                pointers = R .words .pointers;
-              };
+          words = other-ctl (R .words) (put-zero (m .ctl) (records m) (m .regs .ctop) w (omega arith) (R .words .zero-ctl));
         }
 
     -- 161: the topmost record goes, a handler's, since one is open
@@ -265,13 +246,7 @@ module _ (f map : List ℕ) where
               stack =
                   rw (top, I .inner, down-cut (m .ctl) n (m .regs .ctop - recordWords) (omega arith))
                   (stack-move f map (length (m .main)) (length (m .ptr)) (after f (m .regs .place)) (I .here) (I .proc) S);
-              words =
-                  record {
-                    zero-main = R .words .zero-main;
-                    zero-ptr = R .words .zero-ptr;
-                    zero-ctl = cut-zero (m .regs .ctop - recordWords) (m .ctl);
-                    pointers = R .words .pointers;
-                  };
+              words = other-ctl (R .words) (cut-zero (m .regs .ctop - recordWords) (m .ctl));
             })
 
     -- a raise: the handler found takes the code, and all records from its own on go

@@ -13,8 +13,8 @@ use Rattle.model.specs.File.{Ins, basic, jump, branch, branchKeep, call, return
 use Rattle.model.specs.Checker.{State, state, none, passes, outer, effectOf, own, goesOn, handlerAt, targetTests, nextTests, depthTests, leaveTests}
 use Rattle.model.specs.Rules.{Passes, Fine, First, Got, Keeps}
 use Rattle.model.specs.Rules as Rules
-use Rattle.sound.specs.Tests.{and-both, member-mem, mem-member}
 use Rattle.model.specs.Sound.{mainAt, ptrAt, innerAt, isIns, callSize}
+use Rattle.sound.specs.Tests.{and-both, member-mem, mem-member}
 
 -- the assignment that a map is
 abbrev pub stateIn : List ℕ → ℕ → State
@@ -104,7 +104,7 @@ pub record Is (f map : List ℕ) (q n : ℕ) (s : State) : Type 0 where
   pub ptr : ptrAt map q ≡ s .ptr
   pub inner : innerAt map q ≡ s .inner
 
--- what a passed check gives
+-- what a passed check gives (`passed-laws` of Files)
 pub record CodeLaws (f map : List ℕ) : Type 0 where
   -- the map keeps the rules: the checker's theorem
   pub keeps : Keeps f (stateIn map)
@@ -125,7 +125,7 @@ module _ (f map : List ℕ) (L : CodeLaws f map) where
   pub rules : (p : ℕ) → isIns f p ≡ true → Fine f (stateIn map) p
   rules p h = L .keeps .fine p (there p h)
 
-  -- the first instruction of a procedure
+  -- the first instruction of a procedure: `enters`
   pub at-entry : (n : ℕ) → n < procs f → Is f map (entry f n) n (state (paramsMain f n) (paramsPtr f n) none)
   unfolding isIns headTests
   at-entry n h =
@@ -147,7 +147,7 @@ module _ (f map : List ℕ) (L : CodeLaws f map) where
   unfolding headTests
   results-most = let H = L .heads 0 (L .some) in (H .1 .0, H .1 .1 .1 .0)
 
-  -- where the instruction at p leads
+  -- where the instruction at p leads: `agrees`, and `targets` and `nexts` for its procedure
   pub passed-on : (p q : ℕ) (t : State) → isIns f p ≡ true → Passes f (stateIn map) p q t → Is f map q (procAt f p) t
   unfolding isIns own
   passed-on p q t h P =
@@ -166,7 +166,7 @@ module _ (f map : List ℕ) (L : CodeLaws f map) where
       Mem (q, t) (passes f p i (stateIn map p) (outer (stateIn map) (stateIn map p))) → Is f map q (procAt f p) t
   leads p i q t h e P = passed-on p q t h (rw e P)
 
-  -- what an instruction pops is there
+  -- what an instruction pops is there: `depths`
   pub pops : (p : ℕ) (i : Ins) → isIns f p ≡ true → insAt f p ≡ i →
       (effectOf f i .popMain ≤ mainAt map p) × (effectOf f i .popPtr ≤ ptrAt map p)
   unfolding depthTests
@@ -192,6 +192,7 @@ module _ (f map : List ℕ) (L : CodeLaws f map) where
         gives = leads p (call n) (after f p) _ h e (inl refl);
       }
 
+  -- a return, a 161: `leaves`
   pub at-return : (p : ℕ) → isIns f p ≡ true → insAt f p ≡ return →
       Is f map p (procAt f p) (state (resultsMain f (procAt f p)) (resultsPtr f (procAt f p)) none)
   unfolding leaveTests
@@ -220,7 +221,7 @@ module _ (f map : List ℕ) (L : CodeLaws f map) where
       let u : eqb (innerAt map p) none ≡ false = not-true _ (T .0) in
       (eqb-false (innerAt map p) none u, leads p exit (after f p) _ h e (inl (rw u)))
 
-  -- the innermost open handler is a 160's, of the same procedure
+  -- the innermost open handler is a 160's, of the same procedure: `third`
   pub record Inner (p : ℕ) : Type 0 where
     pub here : isIns f (innerAt map p) ≡ true
     pub opens : Opens (innerAt map p) (operand f (innerAt map p))
@@ -240,7 +241,7 @@ module _ (f map : List ℕ) (L : CodeLaws f map) where
             proc = O .same-proc;
           }
 
-  -- what holds at the entries, and is handed on from an earlier instruction, holds at every instruction
+  -- what holds at the entries, and is handed on from an earlier instruction, holds at every instruction: `got`
   module _ (P : ℕ → Type 0) (start : (n : ℕ) → n < procs f → P (entry f n))
       (hand : (p q : ℕ) → isIns f p ≡ true → Is f map q (procAt f p) (stateIn map q) → Passes f (stateIn map) p q (stateIn map q) → P p → P q) where
     up-to : (n q : ℕ) → q < n → isIns f q ≡ true → P q
@@ -255,7 +256,7 @@ module _ (f map : List ℕ) (L : CodeLaws f map) where
             let w = G .earlier in
             hand (G .from) q i (passed-on (G .from) q (stateIn map q) i (G .state-is)) (G .state-is) (r (G .from) (omega arith) i)
 
-    pub everywhere : (q : ℕ) → isIns f q ≡ true → P q
+    everywhere : (q : ℕ) → isIns f q ≡ true → P q
     everywhere q h = up-to (suc q) q (omega arith) h
 
   -- depths are at most x and y

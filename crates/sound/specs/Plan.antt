@@ -52,6 +52,10 @@ pub record HeapLaws : Type 0 where
       Each (Pointer os) ps → Formed h os (formed h ps ws)
 
 module _ (f map : List ℕ) (m : Machine) (os : List ℕ) (i j : ℕ) where
+  -- the instruction at the machine's place
+  abbrev pub At : Ins → Type 0
+  At x = insAt f (m .regs .place) ≡ x
+
   -- the next place and the tops are those of a state that the instruction passes on, open handlers unchanged
   pub record Moves (put : Put) : Type 0 where
     pub to : State
@@ -75,11 +79,11 @@ module _ (f map : List ℕ) (m : Machine) (os : List ℕ) (i j : ℕ) where
   -- a plan that is right for the instruction: a plain write, one on the control stack, or an exception
   pub data Fits : Plan → Type 0 where
     plain : {put : Put} → Moves put → Written (put .into) put → Fits (Write put)
-    calls : (k : ℕ) → insAt f (m .regs .place) ≡ call k → All (callTests f m k) → Fits (Write (framePut f m k))
-    leaves : insAt f (m .regs .place) ≡ return → Fits (Write (returnPut m))
-    opens : (s : ℕ) → insAt f (m .regs .place) ≡ enter s → m .regs .ctop + recordWords ≤ length (m .ctl) →
+    calls : (k : ℕ) → At (call k) → All (callTests f m k) → Fits (Write (framePut f m k))
+    leaves : At return → Fits (Write (returnPut m))
+    opens : (s : ℕ) → At (enter s) → m .regs .ctop + recordWords ≤ length (m .ctl) →
         Fits (Write (behindPut into.Handler f m))
-    closes : insAt f (m .regs .place) ≡ exit → Fits (Write (behindPut into.Close f m))
+    closes : At exit → Fits (Write (behindPut into.Close f m))
     raises : {plan : Plan} (code : ℕ) → settle f m plan ≡ raised f m code → Fits plan
 
   fits : {put : Put} → Moves put → Written (put .into) put → Fits (Write put)
@@ -129,35 +133,34 @@ module _ (f map : List ℕ) (m : Machine) (os : List ℕ) (i j : ℕ) where
         (omega arith, omega arith)
 
     -- the words that the instruction pops are there, above the bases
-    above : (b : Basic) → insAt f (m .regs .place) ≡ basic b →
+    above : (b : Basic) → At (basic b) →
         (basicEffect b .popMain + i ≤ mtop m) × (basicEffect b .popPtr + j ≤ ptop m)
     unfolding effectOf
     above b e =
-        let k = pops f map L (m .regs .place) (basic b) (here) e in
+        let k = pops f map L (m .regs .place) (basic b) here e in
         let e1 = R .main-top in
         let e2 = R .ptr-top in
         (omega arith, omega arith)
 
     -- to a place that the instruction passes a state on to
-    moves : (x : Ins) (t : State) (put : Put) → insAt f (m .regs .place) ≡ x →
-        Mem (put .place, t) (passed x) →
-        t .inner ≡ innerAt map (m .regs .place) → put .mtop ≡ i + t .main → put .ptop ≡ j + t .ptr → Moves put
+    moves : (x : Ins) (t : State) (put : Put) → At x →
+        Mem (put .place, t) (passed x) → t .inner ≡ innerAt map (m .regs .place) → put .mtop ≡ i + t .main → put .ptop ≡ j + t .ptr → Moves put
     moves x t put e to same em ep =
         record {
           to = t;
-          is = leads f map L (m .regs .place) x (put .place) t (here) e to;
+          is = leads f map L (m .regs .place) x (put .place) t here e to;
           inner-same = same;
           main-top = em;
           ptr-top = ep;
         }
 
     -- on to the next instruction
-    onwards : (b : Basic) (put : Put) → insAt f (m .regs .place) ≡ basic b → put .place ≡ next →
+    onwards : (b : Basic) (put : Put) → At (basic b) → put .place ≡ next →
         put .mtop ≡ mtop m - basicEffect b .popMain + basicEffect b .pushMain →
         put .ptop ≡ ptop m - basicEffect b .popPtr + basicEffect b .pushPtr → Moves put
     unfolding passes effectOf
     onwards b put e eq em ep =
-        let k = pops f map L (m .regs .place) (basic b) (here) e in
+        let k = pops f map L (m .regs .place) (basic b) here e in
         let e1 = R .main-top in
         let e2 = R .ptr-top in
         moves (basic b) (moved (basicEffect b) now) put e (inl (ap (λ (q : ℕ). (q, moved (basicEffect b) now)) eq)) refl (omega arith) (omega arith)
@@ -169,24 +172,24 @@ module _ (f map : List ℕ) (m : Machine) (os : List ℕ) (i j : ℕ) where
     object v u (inl e) = absurd (u e)
     object v u (inr o) = o
 
-    -- a frame word that is stored lies below the new top
     bases : (mainBase m ≡ i) × (ptrBase m ≡ j)
     bases = let F = stack-frame f map (length (m .main)) (length (m .ptr)) (m .ctl) n (R .stack) in (F .1 .1 .0, F .1 .1 .1 .0)
 
-    depths : (b : Basic) → insAt f (m .regs .place) ≡ basic b →
+    depths : (b : Basic) → At (basic b) →
         All (depthTests f (m .regs .place) (basic b) now (outer (stateIn map) now))
-    depths b e = rw e at (rules f map L (m .regs .place) (here) .depths)
+    depths b e = rw e at (rules f map L (m .regs .place) here .depths)
 
-    assign-main : (s : ℕ) → insAt f (m .regs .place) ≡ basic (assign onMain s) → mainBase m + s < mtop m - 1
+    -- a frame word that is stored lies below the new top
+    assign-main : (s : ℕ) → At (basic (assign onMain s)) → mainBase m + s < mtop m - 1
     unfolding depthTests
     assign-main s e = let D = depths (assign onMain s) e in let B = bases in let e1 = R .main-top in omega (arith, D .1 .1 .1 .1 .0)
 
-    assign-ptr : (s : ℕ) → insAt f (m .regs .place) ≡ basic (assign onPtr s) → ptrBase m + s < ptop m - 1
+    assign-ptr : (s : ℕ) → At (basic (assign onPtr s)) → ptrBase m + s < ptop m - 1
     unfolding depthTests
     assign-ptr s e = let D = depths (assign onPtr s) e in let B = bases in let e2 = R .ptr-top in omega (arith, D .1 .1 .1 .1 .0)
 
     -- the view of the words popped
-    form-fits : (k l : ℕ) → insAt f (m .regs .place) ≡ basic (form k l) → Fits (basicPlan m next (form k l))
+    form-fits : (k l : ℕ) → At (basic (form k l)) → Fits (basicPlan m next (form k l))
     unfolding basicPlan basicEffect settle
     form-fits k l e =
         let a = above (form k l) e in
@@ -203,7 +206,7 @@ module _ (f map : List ℕ) (m : Machine) (os : List ℕ) (i j : ℕ) where
               (slice-each (Pointer os) (ptop m - l) (ptop m) (m .ptr) (inl refl) (R .words .pointers)),
         ))
 
-    basic-fits : (b : Basic) → insAt f (m .regs .place) ≡ basic b → Fits (basicPlan m next b)
+    basic-fits : (b : Basic) → At (basic b) → Fits (basicPlan m next b)
     unfolding basicPlan basicEffect inPtrs
     basic-fits (local onMain s) e = fits (onwards (local onMain s) _ e refl (omega arith) (omega arith)) (omega arith)
     basic-fits (local onPtr s) e = fits (onwards (local onPtr s) _ e refl (omega arith) (omega arith)) (omega arith, pointer _)
@@ -255,15 +258,13 @@ module _ (f map : List ℕ) (m : Machine) (os : List ℕ) (i j : ℕ) where
         (λ w. fits (onwards (unary o) _ e refl (omega arith) (omega arith)) (omega arith))
 
     -- a jump to q, which gets the state t
-    to-place : (x : Ins) (t : State) (q mt : ℕ) → insAt f (m .regs .place) ≡ x →
-        Mem (q, t) (passed x) →
-        t .inner ≡ innerAt map (m .regs .place) → mt ≡ i + t .main → ptop m ≡ j + t .ptr → Fits (write into.Nothing q mt (ptop m) 0 0)
+    to-place : (x : Ins) (t : State) (q mt : ℕ) → At x →
+        Mem (q, t) (passed x) → t .inner ≡ innerAt map (m .regs .place) → mt ≡ i + t .main → ptop m ≡ j + t .ptr → Fits (write into.Nothing q mt (ptop m) 0 0)
     to-place x t q mt e to same em ep = fits (moves x t _ e to same em ep) tt
 
     -- a jump that pops a word
-    popped : (x : Ins) (q : ℕ) → insAt f (m .regs .place) ≡ x → 1 ≤ mainAt map (m .regs .place) →
-        Mem (q, moved (effect 1 0 0 0) now) (passed x) →
-        Fits (write into.Nothing q (mtop m - 1) (ptop m) 0 0)
+    popped : (x : Ins) (q : ℕ) → At x → 1 ≤ mainAt map (m .regs .place) →
+        Mem (q, moved (effect 1 0 0 0) now) (passed x) → Fits (write into.Nothing q (mtop m - 1) (ptop m) 0 0)
     popped x q e one to =
         let e1 = R .main-top in
         let e2 = R .ptr-top in
@@ -273,20 +274,20 @@ module _ (f map : List ℕ) (m : Machine) (os : List ℕ) (i j : ℕ) where
     both g a b true = a
     both g a b false = b
 
-    ins-fits : (x : Ins) → insAt f (m .regs .place) ≡ x → Fits (planOf f m next x)
+    ins-fits : (x : Ins) → At x → Fits (planOf f m next x)
     unfolding planOf settle passes effectOf
     ins-fits (basic b) e = basic-fits b e
     ins-fits (jump t) e = to-place (jump t) now t (mtop m) e (inl refl) refl (R .main-top) (R .ptr-top)
     ins-fits (branch false t) e =
-        let k = pops f map L (m .regs .place) (branch false t) (here) e .0 in
+        let k = pops f map L (m .regs .place) (branch false t) here e .0 in
         both (λ u. write into.Nothing (if u then next else t) (mtop m - 1) (ptop m) 0 0)
         (popped (branch false t) _ e k (inl refl)) (popped (branch false t) _ e k (inr (inl refl))) (truth (mainWord m 1))
     ins-fits (branch true t) e =
-        let k = pops f map L (m .regs .place) (branch true t) (here) e .0 in
+        let k = pops f map L (m .regs .place) (branch true t) here e .0 in
         both (λ u. write into.Nothing (if u then t else next) (mtop m - 1) (ptop m) 0 0)
         (popped (branch true t) _ e k (inr (inl refl))) (popped (branch true t) _ e k (inl refl)) (truth (mainWord m 1))
     ins-fits (branchKeep false t) e =
-        let k = pops f map L (m .regs .place) (branchKeep false t) (here) e .0 in
+        let k = pops f map L (m .regs .place) (branchKeep false t) here e .0 in
         both
         (λ u. if u then write into.Nothing next (mtop m - 1) (ptop m) 0 0
         else write into.Nothing t (mtop m) (ptop m) 0 0)
@@ -294,7 +295,7 @@ module _ (f map : List ℕ) (m : Machine) (os : List ℕ) (i j : ℕ) where
         (to-place (branchKeep false t) now t (mtop m) e (inr (inl refl)) refl (R .main-top) (R .ptr-top))
         (truth (mainWord m 1))
     ins-fits (branchKeep true t) e =
-        let k = pops f map L (m .regs .place) (branchKeep true t) (here) e .0 in
+        let k = pops f map L (m .regs .place) (branchKeep true t) here e .0 in
         both
         (λ u. if u then write into.Nothing t (mtop m) (ptop m) 0 0
         else write into.Nothing next (mtop m - 1) (ptop m) 0 0)

@@ -7,12 +7,12 @@ use native.Mathlib.Nat.{div-div-eq-div-mul, div-add-mod'}
 use lib.ListN.{length}
 use mathlib.Core.Logic.{inl, inr}
 use Rattle.model.specs.File.{mostMain, mostPtr}
+use Rattle.model.specs.Control.{Machine, regs, registerBytes, wordFrom, regsFrom, regBytes}
+use Rattle.model.specs.declared.Regs.{Regs}
 use Rattle.sound.specs.Stack.{stack-numbers}
 use Rattle.sound.specs.Laws.{CodeLaws, results-most}
 use Rattle.sound.specs.Sound.{Sound}
 use Rattle.sound.specs.Keep.{running-here, running-fits}
-use Rattle.model.specs.Control.{Machine, regs, registerBytes, wordFrom, regsFrom, regBytes}
-use Rattle.model.specs.declared.Regs.{Regs}
 
 abbrev words : ℕ
 words = 4294967296

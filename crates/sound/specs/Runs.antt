@@ -22,9 +22,9 @@ module _ (f : List ℕ) (I : Machine → Type 0)
       go : (t : Bool) → eqb (m .regs .state) 1 ≡ t → (o : Stepped) → step f m ≡ o →
           ((x : Machine) → I x → afterSteps f k x ≡ next m′ → I m′) →
           (if t then uncaught 0 else andThen o (afterSteps f k)) ≡ next m′ → I m′
-      go true u o d r v = let z : true ≡ false = cc in absurd (true≢false z)
+      go true u o d r v = absurd (true≢false (cc))
       go false u (next x) d r v = r x (keeps m x h (eqb-false (m .regs .state) 1 u) d) v
-      go false u (uncaught c) d r v = let z : true ≡ false = cc in absurd (true≢false z)
+      go false u (uncaught c) d r v = absurd (true≢false (cc))
 
   abbrev Fine : Ran → Type 0
   Fine r = I (r .state) × NotRefused (r .answer)

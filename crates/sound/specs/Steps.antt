@@ -23,7 +23,7 @@ use Rattle.sound.specs.Sound.{Running, Sound}
 use Rattle.sound.specs.Keep.{returnPut, keep-plain, keep-call, keep-return, keep-enter, keep-exit, keep-raise}
 use Rattle.sound.specs.Plan.{HeapLaws, Moves, Written, Fits, plain, calls, leaves, opens, closes, raises, plan-fits}
 
--- sound after a step from m: control records, stacks and heap, and lists as long as they were
+-- sound after steps from m: control records, stacks and heap, and lists as long as they were
 pub record Kept (f map : List ℕ) (m m′ : Machine) : Type 0 where
   pub objects : List ℕ
   pub heap : Heap (m′ .heap) objects
@@ -32,6 +32,22 @@ pub record Kept (f map : List ℕ) (m m′ : Machine) : Type 0 where
   pub same-ptr : length (m′ .ptr) ≡ length (m .ptr)
   pub same-ctl : length (m′ .ctl) ≡ length (m .ctl)
   pub same-heap : length (m′ .heap) ≡ length (m .heap)
+
+pub kept-here : {f map : List ℕ} (m : Machine) (os : List ℕ) → Heap (m .heap) os → Sound f map (Pointer os) m → Kept f map m m
+kept-here m os K S =
+    record { objects = os; heap = K; sound = S; same-main = refl; same-ptr = refl; same-ctl = refl; same-heap = refl }
+
+pub kept-on : {f map : List ℕ} {m m′ m″ : Machine} → Kept f map m m′ → Kept f map m′ m″ → Kept f map m m″
+kept-on A B =
+    record {
+      objects = B .objects;
+      heap = B .heap;
+      sound = B .sound;
+      same-main = B .same-main ∙ A .same-main;
+      same-ptr = B .same-ptr ∙ A .same-ptr;
+      same-ctl = B .same-ctl ∙ A .same-ctl;
+      same-heap = B .same-heap ∙ A .same-heap;
+    }
 
 module _ (f map : List ℕ) (L : CodeLaws f map) (m : Machine) (os : List ℕ) (n i j : ℕ) (R : Running f map (Pointer os) m n i j)
     (K : Heap (m .heap) os) where
@@ -109,7 +125,7 @@ module _ (f map : List ℕ) (L : CodeLaws f map) (m : Machine) (os : List ℕ) (
       go : (t : Bool) → eqb (m .regs .handler) 0 ≡ t →
           (if t then uncaught code else next (caught f m (m .regs .handler - 1) (recOf (m .ctl) (m .regs .handler)) code)) ≡ next m′ →
           Kept f map m m′
-      go true u v = let z : true ≡ false = cc in absurd (true≢false z)
+      go true u v = absurd (true≢false (cc))
       go false u v =
           let w : caught f m (m .regs .handler - 1) (recOf (m .ctl) (m .regs .handler)) code ≡ m′ = cc in
           subst (Kept f map m) w

@@ -28,19 +28,19 @@ pub record Passed (f map map′ : List ℕ) : Type 0 where
 if-pass : (t : Bool) (v : Verdict) (n p : ℕ) (map map′ : List ℕ) → (if t then v else refuse n p map) ≡ pass map′ →
     (t ≡ true) × (v ≡ pass map′)
 if-pass true v n p map map′ e = (refl, e)
-if-pass false v n p map map′ e = let z : true ≡ false = cc in absurd (true≢false z)
+if-pass false v n p map map′ e = absurd (true≢false (cc))
 
 module _ (f map map′ : List ℕ) where
   scanned-pass : (r : Records) → scanned f map r ≡ pass map′ → (ps : List ℕ) × (r ≡ starts ps) × (headed f map (headsOf f) ≡ pass map′)
-  scanned-pass (broken p) e = let z : true ≡ false = cc in absurd (true≢false z)
+  scanned-pass (broken p) e = absurd (true≢false (cc))
   scanned-pass (starts ps) e = (ps, refl, e)
 
   headed-pass : (h : Heads) → headed f map h ≡ pass map′ → (h ≡ right) × (flowed f map (flow f) ≡ pass map′)
-  headed-pass (wrong p) e = let z : true ≡ false = cc in absurd (true≢false z)
+  headed-pass (wrong p) e = absurd (true≢false (cc))
   headed-pass right e = (refl, e)
 
   flowed-pass : (r : Result Known) → flowed f map r ≡ pass map′ → (k : Known) × (r ≡ passed k) × (map′ ≡ overMap f map (mapFrom k (length f) 0))
-  flowed-pass (refused n p) e = let z : true ≡ false = cc in absurd (true≢false z)
+  flowed-pass (refused n p) e = absurd (true≢false (cc))
   flowed-pass (passed k) e = (k, refl, cc)
 
   pub verdict-passed : verdictOf f map ≡ pass map′ → Passed f map map′
