@@ -13,7 +13,7 @@ use borrow.Author.Tests.{eqb-false, leb-true, ltb-true}
 use Rattle.model.specs.Choice.{if_then_else_, all, All, all-true, Mem}
 use Rattle.model.specs.Words.{wordAt, truth, operate, operate1}
 use Rattle.model.specs.File.{onMain, onPtr, keepMain, keepPtr, keepNone, Basic, local, assign, field, setField, form, literal, nil, root, setRoot, retract, binary, samePtr, unary, Ins, basic, jump, branch, branchKeep, call, return, enter, exit, raise, after, insAt, procAt}
-use Rattle.model.specs.Checker.{State, effect, basicEffect, effectOf, moved, outer, passes, depthTests}
+use Rattle.model.specs.Checker.{State, effect, basicEffect, effectOf, moved, outer, passes, wordTests, depthTests}
 use Rattle.model.specs.Heap.{Heap, Pointer, markOf, inPtrs, inPlain, formed, clean, heapOf}
 use Rattle.model.specs.Control.{Machine, recordWords, mainBase, ptrBase}
 use Rattle.model.specs.Instructions.{mtop, ptop, mainWord, ptrWord, onObject, onValue, write, callTests, basicPlan, planOf, planAt}
@@ -133,11 +133,9 @@ module _ (f map : List ℕ) (m : Machine) (os : List ℕ) (i j : ℕ) where
         (omega arith, omega arith)
 
     -- the words that the instruction pops are there, above the bases
-    above : (b : Basic) → At (basic b) →
-        (basicEffect b .popMain + i ≤ mtop m) × (basicEffect b .popPtr + j ≤ ptop m)
-    unfolding effectOf
-    above b e =
-        let k = pops f map L (m .regs .place) (basic b) here e in
+    pub above : (x : Ins) → At x → (effectOf f x .popMain + i ≤ mtop m) × (effectOf f x .popPtr + j ≤ ptop m)
+    above x e =
+        let k = pops f map L (m .regs .place) x here e in
         let e1 = R .main-top in
         let e2 = R .ptr-top in
         (omega arith, omega arith)
@@ -160,10 +158,11 @@ module _ (f map : List ℕ) (m : Machine) (os : List ℕ) (i j : ℕ) where
         put .ptop ≡ ptop m - basicEffect b .popPtr + basicEffect b .pushPtr → Moves put
     unfolding passes effectOf
     onwards b put e eq em ep =
-        let k = pops f map L (m .regs .place) (basic b) here e in
+        let k = above (basic b) e in
         let e1 = R .main-top in
         let e2 = R .ptr-top in
-        moves (basic b) (moved (basicEffect b) now) put e (inl (ap (λ (q : ℕ). (q, moved (basicEffect b) now)) eq)) refl (omega arith) (omega arith)
+        let t = moved (basicEffect b) now in
+        moves (basic b) t put e (inl (ap (λ (q : ℕ). (q, t)) eq)) refl (omega arith) (omega arith)
 
     pointer : (k : ℕ) → Pointer os (wordAt (m .ptr) k)
     pointer k = R .words .pointers k
@@ -172,27 +171,25 @@ module _ (f map : List ℕ) (m : Machine) (os : List ℕ) (i j : ℕ) where
     object v u (inl e) = absurd (u e)
     object v u (inr o) = o
 
-    bases : (mainBase m ≡ i) × (ptrBase m ≡ j)
+    -- the frame's bases, and the frame words that the instruction names
+    pub bases : (mainBase m ≡ i) × (ptrBase m ≡ j)
     bases = let F = stack-frame f map (length (m .main)) (length (m .ptr)) (m .ctl) n (R .stack) in (F .1 .1 .0, F .1 .1 .1 .0)
 
-    depths : (b : Basic) → At (basic b) →
-        All (depthTests f (m .regs .place) (basic b) now (outer (stateIn map) now))
-    depths b e = rw e at (rules f map L (m .regs .place) here .depths)
-
-    -- a frame word that is stored lies below the new top
-    assign-main : (s : ℕ) → At (basic (assign onMain s)) → mainBase m + s < mtop m - 1
+    pub frame-words : (b : Basic) → At (basic b) → All (wordTests b now)
     unfolding depthTests
-    assign-main s e = let D = depths (assign onMain s) e in let B = bases in let e1 = R .main-top in omega (arith, D .1 .1 .1 .1 .0)
+    frame-words b e = let D = rw e at (rules f map L (m .regs .place) here .depths) in D .1 .1 .1 .1
+
+    assign-main : (s : ℕ) → At (basic (assign onMain s)) → mainBase m + s < mtop m - 1
+    assign-main s e = let W = frame-words (assign onMain s) e in let B = bases in let e1 = R .main-top in omega arith
 
     assign-ptr : (s : ℕ) → At (basic (assign onPtr s)) → ptrBase m + s < ptop m - 1
-    unfolding depthTests
-    assign-ptr s e = let D = depths (assign onPtr s) e in let B = bases in let e2 = R .ptr-top in omega (arith, D .1 .1 .1 .1 .0)
+    assign-ptr s e = let W = frame-words (assign onPtr s) e in let B = bases in let e2 = R .ptr-top in omega arith
 
     -- the view of the words popped
     form-fits : (k l : ℕ) → At (basic (form k l)) → Fits (basicPlan m next (form k l))
-    unfolding basicPlan basicEffect settle
+    unfolding basicPlan basicEffect effectOf settle
     form-fits k l e =
-        let a = above (form k l) e in
+        let a = above (basic (form k l)) e in
         let t = running-fits f map L (Pointer os) m n i j R in
         let lp = length-slice (ptop m - l) (ptop m) (m .ptr) (t .1) in
         let lm = length-slice (mtop m - k) (mtop m) (m .main) (t .0) in
@@ -207,7 +204,7 @@ module _ (f map : List ℕ) (m : Machine) (os : List ℕ) (i j : ℕ) where
         ))
 
     basic-fits : (b : Basic) → At (basic b) → Fits (basicPlan m next b)
-    unfolding basicPlan basicEffect inPtrs
+    unfolding basicPlan basicEffect effectOf inPtrs
     basic-fits (local onMain s) e = fits (onwards (local onMain s) _ e refl (omega arith) (omega arith)) (omega arith)
     basic-fits (local onPtr s) e = fits (onwards (local onPtr s) _ e refl (omega arith) (omega arith)) (omega arith, pointer _)
     basic-fits (assign onMain s) e = fits (onwards (assign onMain s) _ e refl (omega arith) (omega arith)) (assign-main s e)
@@ -217,7 +214,7 @@ module _ (f map : List ℕ) (m : Machine) (os : List ℕ) (i j : ℕ) where
         (write into.Main next (mtop m + 1) (ptop m - 1) (mtop m) (wordAt (m .heap) (ptrWord m 1 + s)))
         (λ u v. fits (onwards (field onMain s) _ e refl (omega arith) (omega arith)) (omega arith))
     basic-fits (field onPtr s) e =
-        let a = above (field onPtr s) e in
+        let a = above (basic (field onPtr s)) e in
         on-object (ptrWord m 1) (inPtrs (m .heap) (ptrWord m 1) s)
         (write into.Pointer next (mtop m) (ptop m) (ptop m - 1) (wordAt (m .heap) (ptrWord m 1 + s)))
         (λ u v. let w = and-both _ _ v in
@@ -240,20 +237,20 @@ module _ (f map : List ℕ) (m : Machine) (os : List ℕ) (i j : ℕ) where
     basic-fits setRoot e =
         fits (onwards setRoot _ e refl (omega arith) (omega arith)) (H .root-store (m .heap) os (ptrWord m 1) K (pointer _))
     basic-fits (retract keepMain k l) e =
-        let a = above (retract keepMain k l) e in
+        let a = above (basic (retract keepMain k l)) e in
         fits (onwards (retract keepMain k l) _ e refl (omega arith) (omega arith)) (omega arith)
     basic-fits (retract keepPtr k l) e =
-        let a = above (retract keepPtr k l) e in
+        let a = above (basic (retract keepPtr k l)) e in
         fits (onwards (retract keepPtr k l) _ e refl (omega arith) (omega arith)) (omega arith, pointer _)
     basic-fits (retract keepNone k l) e = fits (onwards (retract keepNone k l) _ e refl (omega arith) (omega arith)) tt
     basic-fits (binary o) e =
-        let a = above (binary o) e in
+        let a = above (basic (binary o)) e in
         on-value (operate o (mainWord m 2) (mainWord m 1))
         (λ w. write into.Main next (mtop m - 1) (ptop m) (mtop m - 2) w)
         (λ w. fits (onwards (binary o) _ e refl (omega arith) (omega arith)) (omega arith))
     basic-fits samePtr e = fits (onwards samePtr _ e refl (omega arith) (omega arith)) (omega arith)
     basic-fits (unary o) e =
-        let a = above (unary o) e in
+        let a = above (basic (unary o)) e in
         on-value (operate1 o (mainWord m 1)) (λ w. write into.Main next (mtop m) (ptop m) (mtop m - 1) w)
         (λ w. fits (onwards (unary o) _ e refl (omega arith) (omega arith)) (omega arith))
 
