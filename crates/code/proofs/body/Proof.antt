@@ -1,0 +1,29 @@
+-- `code::body`: the entry read is the kind's entry of `lengths`, whose rule holds at every kind (`lengths-are`).
+use mathlib.Core.Path.{_∙_, ap}
+use Prim.Native.Nat.{ℕ}
+use lib.ListN.{getD}
+use Rattle.code.specs.Table.{lengths, lengths-are}
+use borrow.Author.Needs.{needs}
+use Rattle.code.proofs.body.Statement.{statement}
+use Rattle.code.proofs.body.Tie as tie
+
+wide-requires : tie.Need-wide-requires
+wide-requires c κs = search needs
+
+array-read-wide : tie.Need-array-read-wide
+array-read-wide c = search needs
+
+wide-requires-2 : tie.Need-wide-requires-2
+wide-requires-2 c κs = search needs
+
+returns : tie.Need-returns
+unfolding lengths
+returns c = record {
+  is = c .wide2 .ensures .is
+      ∙ ap (λ (i : ℕ). getD lengths i 0) (c .before .wide .ensures .is)
+      ∙ lengths-are (c .before .before .args .kind) (search needs);
+  small = c .wide2 .ensures .small;
+}
+
+pub body-spec : {M : Type 1} → statement M
+body-spec = tie.close (tie.spec wide-requires array-read-wide wide-requires-2 returns)

@@ -1,0 +1,4 @@
+pub mod Parts
+pub mod Table
+pub mod Bodies
+pub mod Heads

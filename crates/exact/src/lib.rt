@@ -1,0 +1,1 @@
+// No code: the theory of the checker's definitions is in specs/.

@@ -1,0 +1,4 @@
+pub mod Rest
+pub mod Marks
+pub mod Scanning
+pub mod Heading

@@ -1,0 +1,178 @@
+// Refusals 3 and 4: the records and the heads of a file, in the part of the map that is its.
+ghost use mathlib.Core.Path.{_≡_};
+ghost use Prim.Native.Nat.{_+_, _*_, _<_, _≤_};
+ghost use lib.ListN.{length, replicate, set};
+ghost use Rattle.model.specs.File as model;
+ghost use Rattle.model.specs.Checker.{state};
+ghost use Rattle.scan.specs.Marks.{putIn};
+ghost use Rattle.scan.specs.Scanning.{Scanned, markOf};
+ghost use Rattle.scan.specs.Heading.{headOk, numberOk, startsAt, Marked, Headed};
+use code::Head;
+
+// No instruction, no handler.
+const NONE: u16 = 65535;
+// An instruction starts here that no state has reached yet; depths are at most 255.
+const UNREACHED: u16 = 65534;
+
+const HEAD: u8 = 240;
+
+const UNKNOWN: usize = 255;
+
+// What the records of a file come to.
+pub enum Found {
+    Broken(usize),
+    Whole,
+}
+
+// Every number is 65,535.
+pub fn fill(m: &mut [u16])
+    ensures { λ _. ⌜ now (m .exit) ≡ replicate (length (now (m .entry))) 65535 ⌝ }
+{
+    let mut i = 0;
+    while i < m.len() {
+        m[i] = NONE;
+        i += 1;
+    }
+}
+
+// Marks that an instruction starts at p; a head is left.
+fn mark(m: &mut [u16], p: usize, kind: u8)
+    requires { ⌜ (3 * p < length (now m)) × (p < 4096) ⌝ }
+    ensures { λ _. ⌜ now (m .exit) ≡ markOf kind (now (m .entry)) p ⌝ }
+{
+    if kind == HEAD {
+        return;
+    }
+    m[3 * p] = UNREACHED;
+}
+
+// Refusal 3: the records in file order, the instructions among them marked.
+pub fn scan(file: &[u8], m: &mut [u16]) -> Found
+    requires { ⌜ (1 ≤ length (now file)) × (length (now file) ≤ 4096) × (length (now m) ≡ 3 * length (now file)) ⌝ }
+    ensures { λ r. ⌜ Scanned (now (file .entry)) (now (m .entry)) (now (m .exit)) r ⌝ }
+{
+    let n = file.len();
+    if file[0] != HEAD {
+        return Found::Broken(0);
+    }
+    let mut p = 0;
+    while p < n {
+        let kind = file[p];
+        let b = code::body(kind);
+        let next = p + 1 + b;
+        if b == UNKNOWN {
+            return Found::Broken(p);
+        }
+        if n < next {
+            return Found::Broken(p);
+        }
+        mark(m, p, kind);
+        p = next;
+    }
+    Found::Whole
+}
+
+// At most 64 procedures, and procedure 0 has no parameters.
+fn number_right(head: Head, k: usize) -> bool
+    ensures { λ r. ⌜ r ≡ numberOk head k ⌝ }
+{
+    if 64 <= k {
+        return false;
+    }
+    if k != 0 {
+        return true;
+    }
+    if head.a != 0 {
+        return false;
+    }
+    head.b == 0
+}
+
+// The rules of head k; `follows` tells whether an instruction is behind it.
+fn head_right(head: Head, k: usize, follows: bool) -> bool
+    ensures { λ r. ⌜ r ≡ headOk head k follows ⌝ }
+{
+    if head.x < head.a {
+        return false;
+    }
+    if head.x < head.r {
+        return false;
+    }
+    if head.y < head.b {
+        return false;
+    }
+    if head.y < head.s {
+        return false;
+    }
+    if follows {
+        number_right(head, k)
+    } else {
+        false
+    }
+}
+
+// An instruction starts at q, in a file of n bytes.
+fn follows(m: &[u16], n: usize, q: usize) -> bool
+    requires { ⌜ (length (now m) ≡ 3 * n) × (n ≤ 4096) ⌝ }
+    ensures { λ r. ⌜ r ≡ startsAt (now (m .entry)) n q ⌝ }
+{
+    if n <= q {
+        return false;
+    }
+    m[3 * q] != NONE
+}
+
+// The three numbers at q.
+pub fn put(m: &mut [u16], q: usize, main: u16, ptr: u16, inner: u16)
+    requires { ⌜ (3 * q + 2 < length (now m)) × (q < 4096) ⌝ }
+    ensures { λ _. ⌜ now (m .exit) ≡ putIn (now (m .entry)) q (state main ptr inner) ⌝ }
+{
+    let i = 3 * q;
+    m[i] = main;
+    m[i + 1] = ptr;
+    m[i + 2] = inner;
+}
+
+// What the heads of a file come to: the place of the first one at fault, or their number.
+pub enum Heads {
+    Wrong(usize),
+    Right(usize),
+}
+
+// Head k at p is right: its place goes into the table, its first instruction gets its state.
+fn place_head(m: &mut [u16], table: &mut [usize; 64], head: Head, k: usize, p: usize)
+    requires { ⌜ (3 * (p + 7) + 2 < length (now m)) × (p + 7 < 4096) × (k < 64) × (head .a < 256) × (head .b < 256) ⌝ }
+    ensures map { λ _. ⌜ now (m .exit) ≡ putIn (now (m .entry)) (p + 7) (state (head .a) (head .b) 65535) ⌝ }
+    ensures heads { λ _. ⌜ now (table .exit) ≡ set (now (table .entry)) k p ⌝ }
+{
+    let a = head.a as u16;
+    let b = head.b as u16;
+    put(m, p + 7, a, b, NONE);
+    table[k] = p;
+}
+
+// Refusal 4: the heads in file order.
+pub fn heads_of(file: &[u8], m: &mut [u16], table: &mut [usize; 64]) -> Heads
+    requires { ⌜ Marked (now file) (now m) (now table) ⌝ }
+    ensures { λ r. ⌜ Headed (now (file .entry)) (now (m .exit)) (now (table .exit)) r ⌝ }
+{
+    let n = file.len();
+    let mut p = 0;
+    let mut k = 0;
+    while p < n {
+        let next = code::after(file, p);
+        if file[p] == HEAD {
+            let head = code::head_at(file, p);
+            let there = follows(m, n, p + 7);
+            let right = head_right(head, k, there);
+            if right {
+                place_head(m, table, head, k, p);
+                k += 1;
+            } else {
+                return Heads::Wrong(p);
+            }
+        }
+        p = next;
+    }
+    Heads::Right(k)
+}
