@@ -1,5 +1,5 @@
--- Demand 3, its first sentence, over what is proved of checks and heaps elsewhere: after a start that answered ready, every list of check,
--- start and run calls keeps `Held`, from which each call's claim follows. By one induction on the calls.
+-- Demand 3 on calls, over what is proved of heaps elsewhere: after a start that answered ready, every list of check, start and run calls
+-- keeps `Held`, from which each call's claim follows. By one induction on the calls.
 use Prim.Native.Nat.{ℕ}
 use mathlib.Core.Path.{_≡_, refl, sym, _∙_, subst}
 use mathlib.Core.Bool.{Bool, true, false, true≢false}
@@ -16,20 +16,18 @@ use Rattle.model.specs.Control.{Machine, machine, registerBytes}
 use Rattle.model.specs.Step.{next, step}
 use Rattle.model.specs.Sound.{sound?}
 use Rattle.model.specs.Calls.{Verdict, pass, refuse, verdictOf, checkOf, Lent, machineOf, leaving, withMap, lengthTests, After, answers, registered, audited, measured, afterCheck, tested, started, startOf, ranFrom, runOf}
-use Rattle.model.specs.Claim.{Call, check, start, run, callOf, NotRefused, Depths, Pointers, Before, Claim, Bytes, Demand3}
+use Rattle.model.specs.Claim.{Call, check, start, run, callOf, NotRefused, Depths, Pointers, Before, Claim, Bytes, Calls}
 use Rattle.model.specs.declared.Answer.the-variants as answer
-use Rattle.model.specs.Rules.{Keeps}
+use Rattle.exact.specs.Exact.{passed-again}
 use Rattle.sound.specs.Tests.{pointer-true, true-pointer}
 use Rattle.sound.specs.Lists.{length-cut, length-put}
-use Rattle.sound.specs.Laws.{CodeLaws, stateIn}
-use Rattle.sound.specs.Files.{passed-laws}
+use Rattle.sound.specs.Laws.{CodeLaws, code-laws}
 use Rattle.sound.specs.Sound.{Sound, Audited, sound-with, sound?-true, true-sound?, running-depths}
 use Rattle.sound.specs.Keep.{start-sound}
 use Rattle.sound.specs.Plan.{HeapLaws}
 use Rattle.sound.specs.Steps.{Kept, kept-here, kept-on, step-keeps}
 use Rattle.sound.specs.Runs.{after-keeps, run-keeps}
 use Rattle.sound.specs.Registers.{registers-length, registers-back, sound-small}
-use Rattle.sound.specs.Verdict.{verdict-passed, check-again}
 
 -- a state between the steps of a run on the lists l
 abbrev pub Between : Lent → Machine → Type 0
@@ -57,13 +55,10 @@ depths-of l m B u = go (B .sound)
     go (inl S) = running-depths (l .file) (l .map) (Pointer (B .objects)) m (S .0) (S .1) (S .2) (S .3)
     go (inr D) = absurd (u (D .state-is))
 
--- exact: the checker's theorem, a passed map keeps the rules
-module _ (H : HeapLaws)
-    (exact : (f map map′ : List ℕ) → Bytes f → verdictOf f map ≡ pass map′ → Keeps f (stateIn map′)) where
+module _ (H : HeapLaws) where
   module _ (l : Lent) (B : Bytes (l .file)) (P : verdictOf (l .file) (l .map) ≡ pass (l .map)) (T : All (lengthTests l)) where
-    pub code-laws : CodeLaws (l .file) (l .map)
-    code-laws =
-        passed-laws (l .file) (l .map) (l .map) (verdict-passed (l .file) (l .map) (l .map) P) (exact (l .file) (l .map) (l .map) B P)
+    L : CodeLaws (l .file) (l .map)
+    L = code-laws (l .file) (l .map) (l .map) B P
 
     -- a step, hence a run, stays between
     pub between-step : (m m′ : Machine) → Between l m → (m .regs .state ≡ 1 → ⊥) → step (l .file) m ≡ next m′ → Between l m′
@@ -74,7 +69,7 @@ module _ (H : HeapLaws)
         go (inl R) =
             let h = S .same-heap in
             kept-on S
-            (step-keeps (l .file) (l .map) code-laws m (S .objects) (R .0) (R .1) (R .2) (R .3) (S .heap) H (omega arith) m′ e)
+            (step-keeps (l .file) (l .map) L m (S .objects) (R .0) (R .1) (R .2) (R .3) (S .heap) H (omega arith) m′ e)
         go (inr D) = absurd (u (D .state-is))
 
     -- what a state leaves is held: its registers come back from their bytes
@@ -84,7 +79,7 @@ module _ (H : HeapLaws)
         let e1 = S .same-main in
         let e2 = S .same-ptr in
         let e3 = S .same-ctl in
-        let r = registers-back (m .regs) (sound-small (l .file) (l .map) (Pointer (S .objects)) m code-laws (omega arith) (omega arith) (omega arith) (omega arith) (omega arith) (S .sound)) in
+        let r = registers-back (m .regs) (sound-small (l .file) (l .map) (Pointer (S .objects)) m L (omega arith) (omega arith) (omega arith) (omega arith) (omega arith) (S .sound)) in
         let w : m ≡ machineOf (leaving l m) = λ i. machine (sym r i) (m .main) (m .ptr) (m .ctl) (m .heap) in
         record {
           bytes = B;
@@ -106,7 +101,7 @@ module _ (H : HeapLaws)
                 1,
                 0,
                 0,
-                start-sound (Pointer os) l code-laws (inl refl) (T .1 .1 .1 .1 .1 .1 .1 .1 .0) (T .1 .1 .1 .1 .1 .1 .1 .1 .1 .0) (T .1 .1 .1 .1 .0),
+                start-sound (Pointer os) l L (inl refl) (T .1 .1 .1 .1 .1 .1 .1 .1 .0) (T .1 .1 .1 .1 .1 .1 .1 .1 .1 .0) (T .1 .1 .1 .1 .0),
               );
           same-main = length-cut 0 (l .main);
           same-ptr = length-cut 0 (l .ptr);
@@ -205,8 +200,10 @@ module _ (H : HeapLaws)
     where
       go : (v : Verdict) → verdictOf (l .file) (l .map) ≡ v →
           afterCheck l (ready l B) v .answer ≡ answer.Ready → Held (afterCheck l (ready l B) v .lists)
-      go (pass map) u e = by-lengths (withMap l map) B (check-again (l .file) (l .map) map u) e
+      go (pass map) u e = by-lengths (withMap l map) B (passed-again (l .file) (l .map) map u) e
       go (refuse n p map) u e = absurd (true≢false (cc))
 
-  pub demand3 : Demand3
-  demand3 l B e cs = claims cs (startOf l .lists) (ready-held l B e)
+  pub calls : Calls
+  calls l B e =
+      let I = ready-held l B e in
+      (pointers-of (startOf l .lists) (machineOf (startOf l .lists)) (I .state), λ cs. claims cs (startOf l .lists) I)

@@ -23,7 +23,7 @@ use Rattle.model.specs.declared.Into.the-variants.{Frame, Return, Handler, Clos
 use Rattle.model.specs.declared.Put.{Put}
 use Rattle.sound.specs.Lists.{Zero, Each, length-cut, cut-zero, cut-each, set-zero, length-put, put-zero, down-put, down-cut, down-length}
 use Rattle.sound.specs.Stack.{Stack, first, frame, handler, stack-here, stack-move, stack-some, stack-frame, Found, find}
-use Rattle.sound.specs.Laws.{Is, CodeLaws, at-entry, no-params, at-call, at-return, at-enter, at-exit, inner-opens, depth-most, call-byte, byte-call, call-after}
+use Rattle.sound.specs.Laws.{Is, CodeLaws, some, small, at-entry, no-params, at-call, at-return, at-enter, at-exit, inner-opens, depth-most, call-byte, byte-call, call-after}
 use Rattle.sound.specs.Sound.{Words, Running, Sound}
 
 -- what a call writes, as `planOf` has it
@@ -197,7 +197,7 @@ module _ (f map : List ℕ) where
         let p = m .regs .place in
         let h = running-here Ptr m n i j R in
         let I = at-enter f map L p s h e .behind in
-        let small = L .small p h in
+        let low = small f map L p h in
         let e3 = R .ctl-top in
         let c : records m ≡ n = omega arith in
         let w = rec p (mtop m) (ptop m) (m .regs .frame) (m .regs .handler) in
@@ -319,7 +319,7 @@ pub start-sound : (Ptr : ℕ → Type 0) (l : Lent) → CodeLaws (l .file) (l .m
 unfolding started
 start-sound Ptr l L nil fm fp fc =
     let f = l .file in
-    let I = at-entry f (l .map) L 0 (L .some) in
+    let I = at-entry f (l .map) L 0 (some f (l .map) L) in
     let H = no-params f (l .map) L in
     let w = rec 0 0 0 0 0 in
     let c : recordWords * 0 + recordWords ≤ length (cut 0 (l .ctl)) = rw (length-cut 0 (l .ctl)) fc in

@@ -1,24 +1,23 @@
--- What a passed check says of a file and its map, `CodeLaws`: the checker's rules and the heads'. From it follows what holds at each
--- place that an instruction leads to, `Is`, and the bounds on a place's depths, by induction on the earlier instruction that reaches it.
-use Prim.Native.Nat.{ℕ, zero, suc, _+_, _-_, _<_, _≤_}
+-- What a passed check says of a file and its map, `CodeLaws`, as the checker's exactness gives it, and from it, for each instruction that
+-- changes the control records, what holds at the places that it leads to, `Is`: the rules' fields, read at that instruction.
+use Prim.Native.Nat.{ℕ, _+_, _-_, _<_, _≤_}
 use mathlib.Core.Path.{_≡_, refl, ap, sym, _∙_}
 use mathlib.Core.Bool.{Bool, true, false, true≢false}
 use mathlib.Core.List.{List}
-use mathlib.Core.Logic.{_⊎_, inl, inr, _≢_}
+use mathlib.Core.Logic.{inl, inr, _≢_}
 use native.Mathlib.Omega.{arith}
 use lib.Dec.{eqb}
 use borrow.Author.Tests.{eqb-true, eqb-false, not-true}
-use Rattle.model.specs.Choice.{if_then_else_, All, Mem}
+use Rattle.model.specs.Choice.{if_then_else_, Mem}
 use Rattle.model.specs.File.{Ins, basic, jump, branch, branchKeep, call, return, enter, exit, raise, byteAt, bodyOf, bodies, after, procs, procAt, entry, headTests, instructions, operand, insOf, insAt, paramsMain, paramsPtr, resultsMain, resultsPtr, mostMain, mostPtr}
-use Rattle.model.specs.Checker.{State, state, none, passes, outer, effectOf, own, goesOn, handlerAt, targetTests, nextTests, depthTests, leaveTests}
-use Rattle.model.specs.Rules.{Passes, Fine, First, Got, Keeps}
-use Rattle.model.specs.Rules as Rules
+use Rattle.model.specs.Checker.{State, state, none, passes, outer, effectOf, handlerAt, targetTests, depthTests, leaveTests}
+use Rattle.model.specs.Rules.{Passes, Fine, Keeps}
+use Rattle.model.specs.Calls.{pass, verdictOf}
+use Rattle.model.specs.Claim.{Bytes, assigned}
 use Rattle.model.specs.Sound.{mainAt, ptrAt, innerAt, isIns, callSize}
-use Rattle.sound.specs.Tests.{and-both, member-mem, mem-member}
-
--- the assignment that a map is
-abbrev pub stateIn : List ℕ → ℕ → State
-stateIn map p = state (mainAt map p) (ptrAt map p) (innerAt map p)
+use Rattle.exact.specs.Walk.{member-in, in-member, instruction-below, procs-some, entry-proc}
+use Rattle.exact.specs.Flow.{Open, Shape, moves}
+use Rattle.exact.specs.Exact.{Formed, passed-as, passed-keeps, passed-shape}
 
 -- whether an instruction is a call
 calls? : Ins → Bool
@@ -65,37 +64,6 @@ pub byte-enter : (f : List ℕ) (p : ℕ) → byteAt f p ≡ 160 → insAt f p �
 unfolding insAt insOf
 byte-enter f p e = rw e
 
--- a place that an instruction leads to is an instruction's, of its procedure
-passes-own : (f : List ℕ) (p : ℕ) (i : Ins) (s o : State) (q : ℕ) (t : State) →
-    All (targetTests f p i) → All (nextTests f p i) → Mem (q, t) (passes f p i s o) → own f p q ≡ true
-unfolding passes targetTests nextTests goesOn
-passes-own f p (basic b) s o q t T N (inl e) = rw (ap (λ x. x .0) e) (N .0)
-passes-own f p (jump q′) s o q t T N (inl e) = rw (ap (λ x. x .0) e) (T .0)
-passes-own f p (branch b q′) s o q t T N (inl e) = rw (ap (λ x. x .0) e) (N .0)
-passes-own f p (branch b q′) s o q t T N (inr (inl e)) = rw (ap (λ x. x .0) e) (T .0)
-passes-own f p (branchKeep b q′) s o q t T N (inl e) = rw (ap (λ x. x .0) e) (N .0)
-passes-own f p (branchKeep b q′) s o q t T N (inr (inl e)) = rw (ap (λ x. x .0) e) (T .0)
-passes-own f p (call n) s o q t T N (inl e) = rw (ap (λ x. x .0) e) (N .0)
-passes-own f p (enter n) s o q t T N (inl e) = rw (ap (λ x. x .0) e) (N .0)
-passes-own f p (enter n) s o q t T N (inr (inl e)) = rw (ap (λ x. x .0) e) (T .0)
-passes-own f p exit s o q t T N (inl e) = rw (ap (λ x. x .0) e) (N .0)
-
--- the state passed on has no greater depths than the procedure allows
-passes-most : (f : List ℕ) (p : ℕ) (i : Ins) (s o : State) (q : ℕ) (t : State) → All (depthTests f p i s o) →
-    s .main ≤ mostMain f (procAt f p) → s .ptr ≤ mostPtr f (procAt f p) → Mem (q, t) (passes f p i s o) →
-    (t .main ≤ mostMain f (procAt f p)) × (t .ptr ≤ mostPtr f (procAt f p))
-unfolding passes depthTests effectOf
-passes-most f p (basic b) s o q t D m n (inl e) = rw (ap (λ x. x .1) e) (D .1 .1 .0, D .1 .1 .1 .0)
-passes-most f p (jump q′) s o q t D m n (inl e) = rw (ap (λ x. x .1) e) (m, n)
-passes-most f p (branch b q′) s o q t D m n (inl e) = rw (ap (λ x. x .1) e) (D .1 .1 .0, D .1 .1 .1 .0)
-passes-most f p (branch b q′) s o q t D m n (inr (inl e)) = rw (ap (λ x. x .1) e) (D .1 .1 .0, D .1 .1 .1 .0)
-passes-most f p (branchKeep b q′) s o q t D m n (inl e) = rw (ap (λ x. x .1) e) (D .1 .1 .0, D .1 .1 .1 .0)
-passes-most f p (branchKeep b q′) s o q t D m n (inr (inl e)) = rw (ap (λ x. x .1) e) (m, n)
-passes-most f p (call k) s o q t D m n (inl e) = rw (ap (λ x. x .1) e) (D .1 .1 .0, D .1 .1 .1 .0)
-passes-most f p (enter k) s o q t D m n (inl e) = rw (ap (λ x. x .1) e) (m, n)
-passes-most f p (enter k) s o q t D m n (inr (inl e)) = rw (ap (λ x. x .1) e) (D .1 .1 .1 .1 .0, n)
-passes-most f p exit s o q t D m n (inl e) = rw (ap (λ x. x .1) e) (m, n)
-
 -- an instruction stands at q, of procedure n, and the map has this state there
 pub record Is (f map : List ℕ) (q n : ℕ) (s : State) : Type 0 where
   pub here : isIns f q ≡ true
@@ -104,25 +72,33 @@ pub record Is (f map : List ℕ) (q n : ℕ) (s : State) : Type 0 where
   pub ptr : ptrAt map q ≡ s .ptr
   pub inner : innerAt map q ≡ s .inner
 
--- what a passed check gives (`passed-laws` of Files)
+-- what a passed check gives: the file is in order, its map keeps the rules, has no greater depths than x and y, and each innermost open
+-- handler below its place
 pub record CodeLaws (f map : List ℕ) : Type 0 where
-  -- the map keeps the rules: the checker's theorem
-  pub keeps : Keeps f (stateIn map)
-  -- refusal 4 is not given: `headsOf f ≡ right`
-  pub heads : (n : ℕ) → n < procs f → All (headTests f n)
-  -- the file's first kind is a head's
-  pub some : 0 < procs f
-  -- heads ascend, and an entry is an instruction, so that the next head lies behind it
-  pub entered : (n : ℕ) → n < procs f → procAt f (entry f n) ≡ n
-  -- an instruction starts below the file's length, at most 4,096
-  pub small : (p : ℕ) → isIns f p ≡ true → p < none
+  pub formed : Formed f
+  pub keeps : Keeps f (assigned map)
+  pub shape : (p : ℕ) → Mem p (instructions f) → Shape f (assigned map) p
+
+pub code-laws : (f map new : List ℕ) → Bytes f → verdictOf f map ≡ pass new → CodeLaws f new
+code-laws f map new B e =
+    record { formed = passed-as f map new e .formed; keeps = passed-keeps f map B new e; shape = passed-shape f map B new e }
 
 module _ (f map : List ℕ) (L : CodeLaws f map) where
   there : (p : ℕ) → isIns f p ≡ true → Mem p (instructions f)
   unfolding isIns
-  there p h = member-mem p (instructions f) h
+  there p h = member-in p (instructions f) h
 
-  pub rules : (p : ℕ) → isIns f p ≡ true → Fine f (stateIn map) p
+  pub some : 0 < procs f
+  some = procs-some f (L .formed .places) (L .formed .records)
+
+  pub small : (p : ℕ) → isIns f p ≡ true → p < none
+  small p h = let k = instruction-below f (L .formed .places) (L .formed .records) p (there p h) in let m = L .formed .most in omega arith
+
+  -- depths are at most x and y
+  pub depth-most : (p : ℕ) → isIns f p ≡ true → (mainAt map p ≤ mostMain f (procAt f p)) × (ptrAt map p ≤ mostPtr f (procAt f p))
+  depth-most p h = L .shape p (there p h) .within
+
+  pub rules : (p : ℕ) → isIns f p ≡ true → Fine f (assigned map) p
   rules p h = L .keeps .fine p (there p h)
 
   -- the first instruction of a procedure: `enters`
@@ -131,8 +107,8 @@ module _ (f map : List ℕ) (L : CodeLaws f map) where
   at-entry n h =
       let e = L .keeps .enters n h in
       record {
-        here = L .heads n h .1 .1 .1 .1 .0;
-        proc = L .entered n h;
+        here = L .formed .heads n h .1 .1 .1 .1 .0;
+        proc = entry-proc f (L .formed .places) (L .formed .records) n h (L .formed .heads n h);
         main = ap (λ s. s .main) e;
         ptr = ap (λ s. s .ptr) e;
         inner = ap (λ s. s .inner) e;
@@ -141,29 +117,29 @@ module _ (f map : List ℕ) (L : CodeLaws f map) where
   -- procedure 0 has no parameters, and its results fit it
   pub no-params : (paramsMain f 0 ≡ 0) × (paramsPtr f 0 ≡ 0)
   unfolding headTests
-  no-params = let H = L .heads 0 (L .some) in (H .1 .1 .1 .1 .1 .1 .0, H .1 .1 .1 .1 .1 .1 .1 .0)
+  no-params = let H = L .formed .heads 0 some in (H .1 .1 .1 .1 .1 .1 .0, H .1 .1 .1 .1 .1 .1 .1 .0)
 
   pub results-most : (resultsMain f 0 ≤ mostMain f 0) × (resultsPtr f 0 ≤ mostPtr f 0)
   unfolding headTests
-  results-most = let H = L .heads 0 (L .some) in (H .1 .0, H .1 .1 .1 .0)
+  results-most = let H = L .formed .heads 0 some in (H .1 .0, H .1 .1 .1 .0)
 
   -- where the instruction at p leads: `agrees`, and `targets` and `nexts` for its procedure
-  pub passed-on : (p q : ℕ) (t : State) → isIns f p ≡ true → Passes f (stateIn map) p q t → Is f map q (procAt f p) t
-  unfolding isIns own
+  pub passed-on : (p q : ℕ) (t : State) → isIns f p ≡ true → Passes f (assigned map) p q t → Is f map q (procAt f p) t
+  unfolding isIns
   passed-on p q t h P =
       let F = rules p h in
       let e = F .agrees q t P in
-      let g = and-both _ _ (passes-own f p (insAt f p) _ _ q t (F .targets) (F .nexts) P) in
+      let M = moves f p _ _ (record { targets = F .targets; nexts = F .nexts; depths = F .depths; leaves = F .leaves }) q t P in
       record {
-        here = g .0;
-        proc = eqb-true (procAt f q) (procAt f p) (g .1);
+        here = in-member q (instructions f) (M .there);
+        proc = M .same-proc;
         main = ap (λ s. s .main) e;
         ptr = ap (λ s. s .ptr) e;
         inner = ap (λ s. s .inner) e;
       }
 
   pub leads : (p : ℕ) (i : Ins) (q : ℕ) (t : State) → isIns f p ≡ true → insAt f p ≡ i →
-      Mem (q, t) (passes f p i (stateIn map p) (outer (stateIn map) (stateIn map p))) → Is f map q (procAt f p) t
+      Mem (q, t) (passes f p i (assigned map p) (outer (assigned map) (assigned map p))) → Is f map q (procAt f p) t
   leads p i q t h e P = passed-on p q t h (rw e P)
 
   -- what an instruction pops is there: `depths`
@@ -221,46 +197,24 @@ module _ (f map : List ℕ) (L : CodeLaws f map) where
       let u : eqb (innerAt map p) none ≡ false = not-true _ (T .0) in
       (eqb-false (innerAt map p) none u, leads p exit (after f p) _ h e (inl (rw u)))
 
-  -- the innermost open handler is a 160's, of the same procedure: `third`
+  -- the innermost open handler is a 160's, of the same procedure and below the place: `third`
   pub record Inner (p : ℕ) : Type 0 where
     pub here : isIns f (innerAt map p) ≡ true
     pub opens : Opens (innerAt map p) (operand f (innerAt map p))
     pub proc : procAt f (innerAt map p) ≡ procAt f p
+    pub below : innerAt map p < p
 
   pub inner-opens : (p : ℕ) → isIns f p ≡ true → innerAt map p ≢ none → Inner p
   unfolding isIns
-  inner-opens p h n = go (L .keeps .third p (there p h))
+  inner-opens p h n = go (L .shape p (there p h) .third)
     where
-      go : (innerAt map p ≡ none) ⊎ Rules.Opens f p (innerAt map p) → Inner p
+      go : Open f p (innerAt map p) → Inner p
       go (inl e) = absurd (n e)
       go (inr O) =
-          let k = mem-member (innerAt map p) (instructions f) (O .there) in
+          let k = in-member (innerAt map p) (instructions f) (O .0 .there) in
           record {
             here = k;
-            opens = at-enter (innerAt map p) _ k (byte-enter f (innerAt map p) (O .opens));
-            proc = O .same-proc;
+            opens = at-enter (innerAt map p) _ k (byte-enter f (innerAt map p) (O .0 .opens));
+            proc = O .0 .same-proc;
+            below = O .1;
           }
-
-  -- what holds at the entries, and is handed on from an earlier instruction, holds at every instruction: `got`
-  module _ (P : ℕ → Type 0) (start : (n : ℕ) → n < procs f → P (entry f n))
-      (hand : (p q : ℕ) → isIns f p ≡ true → Is f map q (procAt f p) (stateIn map q) → Passes f (stateIn map) p q (stateIn map q) → P p → P q) where
-    up-to : (n q : ℕ) → q < n → isIns f q ≡ true → P q
-    unfolding isIns
-    up-to zero q k h = absurd (omega arith)
-    up-to (suc n) q k h = go (λ p. up-to n p) (L .keeps .got q (there q h))
-      where
-        go : ((p : ℕ) → p < n → isIns f p ≡ true → P p) → First f q ⊎ Got f (stateIn map) q → P q
-        go r (inl F) = rw (F .is) (start (F .number) (F .below))
-        go r (inr G) =
-            let i = mem-member (G .from) (instructions f) (G .there) in
-            let w = G .earlier in
-            hand (G .from) q i (passed-on (G .from) q (stateIn map q) i (G .state-is)) (G .state-is) (r (G .from) (omega arith) i)
-
-    everywhere : (q : ℕ) → isIns f q ≡ true → P q
-    everywhere q h = up-to (suc q) q (omega arith) h
-
-  -- depths are at most x and y
-  pub depth-most : (p : ℕ) → isIns f p ≡ true → (mainAt map p ≤ mostMain f (procAt f p)) × (ptrAt map p ≤ mostPtr f (procAt f p))
-  depth-most = everywhere (λ p. (mainAt map p ≤ mostMain f (procAt f p)) × (ptrAt map p ≤ mostPtr f (procAt f p)))
-      (λ n h. let I = at-entry n h in let H = L .heads n h in unfold headTests in rw (I .proc, I .main, I .ptr) (H .0, H .1 .1 .0))
-      (λ p q h I S D. rw (I .proc) (passes-most f p (insAt f p) (stateIn map p) _ q (stateIn map q) (rules p h .depths) (D .0) (D .1) S))

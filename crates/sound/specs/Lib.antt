@@ -2,8 +2,6 @@ pub mod Tests
 pub mod Lists
 pub mod Stack
 pub mod Laws
-pub mod Verdict
-pub mod Files
 pub mod Sound
 pub mod Keep
 pub mod Plan

@@ -26,10 +26,11 @@ use Rattle.model.specs.declared.Into.the-variants as into
 use Rattle.model.specs.declared.Put.{Put}
 use Rattle.model.specs.declared.Plan.{Plan}
 use Rattle.model.specs.declared.Plan.the-variants.{Write, NilObject, BadField, HeapFull, NoRoom}
-use Rattle.sound.specs.Tests.{and-both}
+use Rattle.model.specs.Claim.{assigned}
+use Rattle.exact.specs.Pass.{and-true}
 use Rattle.sound.specs.Lists.{Each, slice-each}
 use Rattle.sound.specs.Stack.{stack-frame}
-use Rattle.sound.specs.Laws.{Is, CodeLaws, stateIn, leads, pops, rules, depth-most}
+use Rattle.sound.specs.Laws.{Is, CodeLaws, leads, pops, rules, depth-most}
 use Rattle.sound.specs.Sound.{Running}
 use Rattle.sound.specs.Keep.{framePut, returnPut, behindPut, running-here, running-fits}
 
@@ -114,13 +115,13 @@ module _ (f map : List ℕ) (m : Machine) (os : List ℕ) (i j : ℕ) where
     here = running-here f map (Pointer os) m n i j R
 
     abbrev now : State
-    now = stateIn map (m .regs .place)
+    now = assigned map (m .regs .place)
 
     abbrev next : ℕ
     next = after f (m .regs .place)
 
     abbrev passed : Ins → List (ℕ × State)
-    passed x = passes f (m .regs .place) x now (outer (stateIn map) now)
+    passed x = passes f (m .regs .place) x now (outer (assigned map) now)
 
     -- the new tops lie within the stacks
     pub moves-fit : (put : Put) → Moves put → (put .mtop ≤ length (m .main)) × (put .ptop ≤ length (m .ptr))
@@ -217,7 +218,7 @@ module _ (f map : List ℕ) (m : Machine) (os : List ℕ) (i j : ℕ) where
         let a = above (basic (field onPtr s)) e in
         on-object (ptrWord m 1) (inPtrs (m .heap) (ptrWord m 1) s)
         (write into.Pointer next (mtop m) (ptop m) (ptop m - 1) (wordAt (m .heap) (ptrWord m 1 + s)))
-        (λ u v. let w = and-both _ _ v in
+        (λ u v. let w = and-true _ _ v in
         fits (onwards (field onPtr s) _ e refl (omega arith) (omega arith))
         (omega arith, K .inside (ptrWord m 1) s (object _ u (pointer _)) (leb-true _ _ (w .0)) (ltb-true _ _ (w .1))))
     basic-fits (setField onMain s) e =

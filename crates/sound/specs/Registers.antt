@@ -10,7 +10,7 @@ use Rattle.model.specs.File.{mostMain, mostPtr}
 use Rattle.model.specs.Control.{Machine, regs, registerBytes, wordFrom, regsFrom, regBytes}
 use Rattle.model.specs.declared.Regs.{Regs}
 use Rattle.sound.specs.Stack.{stack-numbers}
-use Rattle.sound.specs.Laws.{CodeLaws, results-most}
+use Rattle.sound.specs.Laws.{CodeLaws, small, results-most}
 use Rattle.sound.specs.Sound.{Sound}
 use Rattle.sound.specs.Keep.{running-here, running-fits}
 
@@ -64,7 +64,7 @@ sound-small f map Ptr m L lm lp lc xm yp (inl S) =
     let R = S .3 in
     let N = stack-numbers f map (length (m .main)) (length (m .ptr)) (m .ctl) (S .0) (R .stack) in
     let T = running-fits f map L Ptr m (S .0) (S .1) (S .2) R in
-    let P = L .small (m .regs .place) (running-here f map Ptr m (S .0) (S .1) (S .2) R) in
+    let P = small f map L (m .regs .place) (running-here f map Ptr m (S .0) (S .1) (S .2) R) in
     let e = R .ctl-top in
     let r = R .room in
     let s = R .state-is in
