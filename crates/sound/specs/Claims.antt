@@ -79,7 +79,10 @@ module _ (H : HeapLaws) where
         let e1 = S .same-main in
         let e2 = S .same-ptr in
         let e3 = S .same-ctl in
-        let r = registers-back (m .regs) (sound-small (l .file) (l .map) (Pointer (S .objects)) m L (omega arith) (omega arith) (omega arith) (omega arith) (omega arith) (S .sound)) in
+        let small =
+        sound-small (l .file) (l .map) (Pointer (S .objects)) m L (omega arith) (omega arith) (omega arith) (omega arith) (omega arith)
+        (S .sound) in
+        let r = registers-back (m .regs) small in
         let w : m ≡ machineOf (leaving l m) = λ i. machine (sym r i) (m .main) (m .ptr) (m .ctl) (m .heap) in
         record {
           bytes = B;
@@ -164,7 +167,8 @@ module _ (H : HeapLaws) where
   claims [] l I = tt
   claims (c ∷ cs) l I =
       let r = call-held c l I in
-      (r .0, before c l I, pointers-of (callOf c l .lists) (machineOf (callOf c l .lists)) (r .1 .state), claims cs (callOf c l .lists) (r .1))
+      let l′ = callOf c l .lists in
+      (r .0, before c l I, pointers-of l′ (machineOf l′) (r .1 .state), claims cs l′ (r .1))
 
   -- a start that answers ready passed each test
   module _ (l : Lent) (B : Bytes (l .file)) where

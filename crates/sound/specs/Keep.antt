@@ -158,7 +158,8 @@ module _ (f map : List ℕ) where
         go (frame {c = c} {i′ = i′} {j′ = j′} z u F T ei ej S) =
             let p = m .regs .place in
             let b = eqb-true _ 72 (T .0) in
-            let K = at-call f map L c (procAt f p) (stack-here f map (length (m .main)) (length (m .ptr)) S) (rw (T .1 .0) at (byte-call f c b)) in
+            let t = stack-here f map (length (m .main)) (length (m .ptr)) S in
+            let K = at-call f map L c (procAt f p) t (rw (T .1 .0) at (byte-call f c b)) in
             let I = K .gives in
             let top : m .regs .frame - 1 ≡ n = omega (arith, down-length (m .ctl) n) in
             let back : recAt (m .ctl) n .w3 ≡ after f c = T .1 .1 .0 ∙ sym (call-after f c b) in

@@ -143,7 +143,8 @@ module _ (f map : List ℕ) (m : Machine) (os : List ℕ) (i j : ℕ) where
 
     -- to a place that the instruction passes a state on to
     moves : (x : Ins) (t : State) (put : Put) → At x →
-        Mem (put .place, t) (passed x) → t .inner ≡ innerAt map (m .regs .place) → put .mtop ≡ i + t .main → put .ptop ≡ j + t .ptr → Moves put
+        Mem (put .place, t) (passed x) → t .inner ≡ innerAt map (m .regs .place) →
+        put .mtop ≡ i + t .main → put .ptop ≡ j + t .ptr → Moves put
     moves x t put e to same em ep =
         record {
           to = t;
@@ -257,7 +258,8 @@ module _ (f map : List ℕ) (m : Machine) (os : List ℕ) (i j : ℕ) where
 
     -- a jump to q, which gets the state t
     to-place : (x : Ins) (t : State) (q mt : ℕ) → At x →
-        Mem (q, t) (passed x) → t .inner ≡ innerAt map (m .regs .place) → mt ≡ i + t .main → ptop m ≡ j + t .ptr → Fits (write into.Nothing q mt (ptop m) 0 0)
+        Mem (q, t) (passed x) → t .inner ≡ innerAt map (m .regs .place) → mt ≡ i + t .main → ptop m ≡ j + t .ptr →
+        Fits (write into.Nothing q mt (ptop m) 0 0)
     to-place x t q mt e to same em ep = fits (moves x t _ e to same em ep) tt
 
     -- a jump that pops a word

@@ -55,7 +55,15 @@ module _ (f map : List ℕ) (lm lp : ℕ) where
       let e : w .w3 - callSize ≡ c = omega arith in
       let ei′ : i + paramsMain f (procAt f p) - mainAt map c ≡ i′ = omega arith in
       let ej′ : j + paramsPtr f (procAt f p) - ptrAt map c ≡ j′ = omega arith in
-      rw (eq-eqb t none z, true-all (frameTests f map lm lp w rs p n i j) F, ne-eqb n 1 u, e, true-all (callerTests f map lm lp w p c i j) T, ei′, ej′)
+      rw (
+        eq-eqb t none z,
+        true-all (frameTests f map lm lp w rs p n i j) F,
+        ne-eqb n 1 u,
+        e,
+        true-all (callerTests f map lm lp w p c i j) T,
+        ei′,
+        ej′,
+      )
       (true-stack? S)
   true-stack? (handler {w} {rs} {t} {p} {n} {h} {i} {j} u T S) =
       rw (ne-eqb t none u, true-all (handlerTests f map lm lp w rs t n h i j) T) (true-stack? S)

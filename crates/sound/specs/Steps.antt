@@ -1,4 +1,4 @@
--- A step keeps a state sound: its plan fits, and what each kind of plan writes is sound. So do runs, by induction on the steps.
+-- A step keeps a state sound, its heap too, and the lists' lengths: its plan fits, and what each kind of plan writes is sound.
 use Prim.Native.Nat.{ℕ, _-_, _<_}
 use mathlib.Core.Path.{_≡_, refl, ap, sym, _∙_, subst}
 use mathlib.Core.Bool.{Bool, true, false, true≢false}
