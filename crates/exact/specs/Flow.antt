@@ -52,30 +52,30 @@ enter-code f p n e = go (eqb (byteAt f p) 160) refl
     go false h = absurd (true≢false (sym (ap isEnter e) ∙ other-code f p (byteAt f p) h))
 
 -- what the tests of refusals 5 to 8 say of the instruction at p, with its state and its handler's
-record Fits (f : List ℕ) (p : ℕ) (s o : State) : Type 0 where
-  targets : All (targetTests f p (insAt f p))
-  nexts : All (nextTests f p (insAt f p))
-  depths : All (depthTests f p (insAt f p) s o)
-  leaves : All (leaveTests f p (insAt f p) s)
+pub record Fits (f : List ℕ) (p : ℕ) (s o : State) : Type 0 where
+  pub targets : All (targetTests f p (insAt f p))
+  pub nexts : All (nextTests f p (insAt f p))
+  pub depths : All (depthTests f p (insAt f p) s o)
+  pub leaves : All (leaveTests f p (insAt f p) s)
 
 -- depths within those of the procedure that p lies in
 abbrev pub Within : List ℕ → ℕ → State → Type 0
 Within f p u = (u .main ≤ mostMain f (procAt f p)) × (u .ptr ≤ mostPtr f (procAt f p))
 
 -- a passed state has depths within the procedure's, or those of the state that it comes from
-abbrev Depths : List ℕ → ℕ → State → State → Type 0
+abbrev pub Depths : List ℕ → ℕ → State → State → Type 0
 Depths f p s u = Within f p u ⊎ ((u .main ≡ s .main) × (u .ptr ≡ s .ptr))
 
 -- its innermost open handler is the one of the state that it comes from, the 160 itself, or the one that was open there
-abbrev Inner : List ℕ → ℕ → State → State → State → Type 0
+abbrev pub Inner : List ℕ → ℕ → State → State → State → Type 0
 Inner f p s o u = (u .inner ≡ s .inner) ⊎ (((u .inner ≡ p) × (byteAt f p ≡ 160)) ⊎ (u .inner ≡ o .inner))
 
 -- what is so of a state u that the instruction at p then passes to q
-record Moves (f : List ℕ) (p : ℕ) (s o : State) (q : ℕ) (u : State) : Type 0 where
-  there : Mem q (instructions f)
-  same-proc : procAt f q ≡ procAt f p
-  depths : Depths f p s u
-  inner : Inner f p s o u
+pub record Moves (f : List ℕ) (p : ℕ) (s o : State) (q : ℕ) (u : State) : Type 0 where
+  pub there : Mem q (instructions f)
+  pub same-proc : procAt f q ≡ procAt f p
+  pub depths : Depths f p s u
+  pub inner : Inner f p s o u
 
 pub own-in : (f : List ℕ) (p q : ℕ) → own f p q ≡ true → Mem q (instructions f) × (procAt f q ≡ procAt f p)
 unfolding own
@@ -107,7 +107,7 @@ module _ (f : List ℕ) (p : ℕ) (s o : State) where
   moves-by exit e t n d q u (inl h) = moves-to q _ u _ (n .0) (inr (refl, refl)) (inr (inr refl)) h
   moves-by raise e t n d q u h = absurd h
 
-  moves : Fits f p s o → (q : ℕ) (u : State) → Sent q u (passes f p (insAt f p) s o) → Moves f p s o q u
+  pub moves : Fits f p s o → (q : ℕ) (u : State) → Sent q u (passes f p (insAt f p) s o) → Moves f p s o q u
   moves F = moves-by (insAt f p) refl (F .targets) (F .nexts) (F .depths)
 
 need-inv : (t : Bool) (n : ℕ) (c : Step Known) (k : Known) → need t n c ≡ next k → (t ≡ true) × (c ≡ next k)
