@@ -16,14 +16,10 @@ use Rattle.model.specs.Checker.{none, state, unset, Known, stateAt, Result, ref
 use Rattle.model.specs.Rules.{Assignment, Keeps}
 use Rattle.model.specs.Sound.{mainAt, ptrAt, innerAt}
 use Rattle.model.specs.Calls.{mapSize, overMap, wiped, Verdict, pass, refuse, flowed, headed, scanned, verdictOf}
-use Rattle.model.specs.Claim.{Bytes}
+use Rattle.model.specs.Claim.{Bytes, assigned}
 use Rattle.exact.specs.Pass.{and-true}
 use Rattle.exact.specs.Walk.{HeadsHold, heads-right, right-heads, instruction-below}
 use Rattle.exact.specs.Flow.{Shape, keeps-shape, keeps-same, Late, flow-late, flow-rest, flow-keeps, keeps-flow}
-
--- the assignment that a map holds
-abbrev pub assigned : List ℕ → Assignment
-assigned map p = state (mainAt map p) (ptrAt map p) (innerAt map p)
 
 -- three numbers a place
 get-behind : (a b c : ℕ) (map : List ℕ) (i j : ℕ) → i ≡ suc (suc (suc j)) → getD (a ∷ b ∷ c ∷ map) i none ≡ getD map j none

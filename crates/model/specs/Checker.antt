@@ -25,6 +25,7 @@ state m p h = record { main = m; ptr = p; inner = h }
 abbrev pub unset : State
 unset = state none none none
 
+-- depths are at most 255, so that the first number tells
 abbrev pub isSet : State → Bool
 isSet s = not (eqb (s .main) none)
 
@@ -159,6 +160,7 @@ moreTests x (enter n) s = most (s .main + 1) x ∷ []
 moreTests x exit s = []
 moreTests x raise s = []
 
+-- an instruction that pops nothing is tested too: depths never lie below the floor
 abbrev pub floorTests : Effect → State → State → List Test
 floorTests e s o = most (o .main + e .popMain) (s .main) ∷ most (o .ptr + e .popPtr) (s .ptr) ∷ []
 

@@ -51,7 +51,7 @@ regs p f h m q c s = record { place = p; frame = f; handler = h; mtop = m; ptop 
 
 -- "the registers travel as bytes there, four a word, most significant first"
 abbrev pub registerBytes : ℕ
-registerBytes = 28
+registerBytes = 4 * registers
 
 unfoldable pub wordFrom : List ℕ → ℕ → ℕ
 wordFrom b i =

@@ -22,7 +22,7 @@ pub record Opens (f : List ℕ) (p h : ℕ) : Type 0 where
 abbrev pub Passes : List ℕ → Assignment → ℕ → ℕ → State → Type 0
 Passes f A p q t = Mem (q, t) (passes f p (insAt f p) (A p) (outer A (A p)))
 
--- nothing in rows 5 to 9 is true of the instruction at p
+-- nothing in rows 6 to 9 is true of the instruction at p; nor is row 5, which a file in order has nothing for
 pub record Fine (f : List ℕ) (A : Assignment) (p : ℕ) : Type 0 where
   pub targets : All (targetTests f p (insAt f p))
   pub nexts : All (nextTests f p (insAt f p))

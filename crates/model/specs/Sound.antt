@@ -1,13 +1,14 @@
 -- Document 01, Refused, the paragraph "Sound": registers, stacks and records against the file and its finished map. The control
--- records are read from the registers downwards; each test is read twice, as what the audit computes (`sound?`) and as what it
--- shows (`Stack`).
+-- records are read from the registers downwards. Each difference below is of a number and one that a test beside it shows to be at
+-- most that, so that none is cut off at 0. That the tops lie in the lists follows: bases with x and y do, and depths are at most
+-- these.
 use Prim.Native.Nat.{ℕ, zero, suc, _+_, _-_, _*_}
 use mathlib.Core.Bool.{Bool, true, false, _&&_}
 use mathlib.Core.List.{List, [], _∷_}
 use mathlib.Core.Path.{_≡_}
 use lib.Dec.{leb, eqb}
 use lib.ListN.{length, getD, drop}
-use Rattle.model.specs.Choice.{if_then_else_, Test, same, most, yes?, all, All, member}
+use Rattle.model.specs.Choice.{if_then_else_, Test, same, most, yes?, all, member}
 use Rattle.model.specs.Words.{wordAt}
 use Rattle.model.specs.File.{byteAt, operand, procAt, instructions, paramsMain, paramsPtr, resultsMain, resultsPtr, mostMain, mostPtr}
 use Rattle.model.specs.Checker.{none}

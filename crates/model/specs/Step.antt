@@ -61,7 +61,8 @@ returned p m =
     (cut (m .regs .ctop - recordWords) (m .ctl))
     (m .heap)
 
--- 160: a handler's record; 161: the innermost handler's record goes
+-- 160: a handler's record; 161: the innermost handler's record goes. In a sound state that is the topmost record, as the frame's is
+-- at 73
 abbrev pub opened : Put → Machine → Machine
 opened p m =
     machine

@@ -36,8 +36,8 @@ pub struct Put {
     pub place: usize, // the next place
     pub mtop: usize, // the new top of the main stack
     pub ptop: usize, // the new top of the pointer stack
-    pub at: usize, // the index of the word written
-    pub word: u32, // the word written
+    pub at: usize, // the index of the word written; the main base of a new frame
+    pub word: u32, // the word written; the pointer base of a new frame
 }
 
 // What an instruction is about to do: its writes, or the exception that it raises before any write.
