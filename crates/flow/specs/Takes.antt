@@ -59,7 +59,7 @@ module _ (f : List ℕ) (k : Known) (m : List ℕ) (G : Good f k m) (q : ℕ) (i
   pub in-set : isSet (stateAt k q) ≡ true → stateIn m q ≡ stateAt k q
   in-set h = G .shows .at q low ∙ rw h
 
-  in-unset : isSet (stateAt k q) ≡ false → stateIn m q ≡ state unreached none none
+  pub in-unset : isSet (stateAt k q) ≡ false → stateIn m q ≡ state unreached none none
   in-unset h = G .shows .at q low ∙ rw (h, in?)
 
   pub set-alike : isSetIn (stateIn m q) ≡ isSet (stateAt k q)
