@@ -1,0 +1,34 @@
+-- `effects::locals`: at each code the definition computes; the last is 23, being none of the others.
+use mathlib.Core.Path.{_≡_}
+use native.Mathlib.Numerals.{add-one}
+use native.Mathlib.Omega.{arith}
+use Rattle.model.specs.File.{insOf}
+use Rattle.effects.specs.Shape.{shapeOf}
+use borrow.Author.Needs.{needs}
+use Rattle.effects.proofs.locals.Statement.{statement}
+use Rattle.effects.proofs.locals.Tie as tie
+
+operand-requires : tie.Need-operand-requires
+operand-requires c κs = search needs
+
+add-word : tie.Need-add-word
+add-word c = search needs
+
+returns : tie.Need-returns
+unfolding shapeOf insOf
+returns c = rw (c .match .keys1, c .before .operand .ensures .is, add-one)
+
+returns-2 : tie.Need-returns-2
+unfolding shapeOf insOf
+returns-2 c = rw (c .match .keys2, c .before .operand .ensures .is, add-one)
+
+returns-3 : tie.Need-returns-3
+unfolding shapeOf insOf
+returns-3 c = rw (c .match .keys3, c .before .operand .ensures .is, add-one)
+
+returns-4 : tie.Need-returns-4
+unfolding shapeOf insOf
+returns-4 c = let e : c .before .before .before .args .kind ≡ 23 = omega arith in rw (e, c .before .operand .ensures .is, add-one)
+
+pub locals-spec : {M : Type 1} → statement M
+locals-spec = tie.close (tie.spec operand-requires add-word returns returns-2 returns-3 returns-4)
