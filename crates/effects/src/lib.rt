@@ -80,6 +80,22 @@ fn jumps(file: &[u8], p: usize, kind: u8) -> Shape
     }
 }
 
+fn frame(popm: usize, popp: usize, pushm: usize, pushp: usize, wordm: usize, wordp: usize) -> Shape
+    ensures { λ r. ⌜ r ≡ shape Way.Next (checker.effect popm popp pushm pushp) wordm wordp 0 true ⌝ }
+{
+    Shape {
+        way: Way::Next,
+        popm,
+        popp,
+        pushm,
+        pushp,
+        wordm,
+        wordp,
+        target: 0,
+        known: true,
+    }
+}
+
 // 20 to 23
 fn locals(file: &[u8], p: usize, kind: u8) -> Shape
     requires { ⌜ (p + 2 < length (now file)) × (20 ≤ kind) × (kind ≤ 23) ⌝ }
@@ -87,50 +103,10 @@ fn locals(file: &[u8], p: usize, kind: u8) -> Shape
 {
     let word = code::operand(file, p) + 1;
     match kind {
-        20 => Shape {
-            way: Way::Next,
-            popm: 0,
-            popp: 0,
-            pushm: 1,
-            pushp: 0,
-            wordm: word,
-            wordp: 0,
-            target: 0,
-            known: true,
-        },
-        22 => Shape {
-            way: Way::Next,
-            popm: 1,
-            popp: 0,
-            pushm: 0,
-            pushp: 0,
-            wordm: word,
-            wordp: 0,
-            target: 0,
-            known: true,
-        },
-        21 => Shape {
-            way: Way::Next,
-            popm: 0,
-            popp: 0,
-            pushm: 0,
-            pushp: 1,
-            wordm: 0,
-            wordp: word,
-            target: 0,
-            known: true,
-        },
-        _ => Shape {
-            way: Way::Next,
-            popm: 0,
-            popp: 1,
-            pushm: 0,
-            pushp: 0,
-            wordm: 0,
-            wordp: word,
-            target: 0,
-            known: true,
-        },
+        20 => frame(0, 0, 1, 0, word, 0),
+        22 => frame(1, 0, 0, 0, word, 0),
+        21 => frame(0, 0, 0, 1, 0, word),
+        _ => frame(0, 1, 0, 0, 0, word),
     }
 }
 
