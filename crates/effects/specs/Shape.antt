@@ -24,27 +24,27 @@ shape w e wm wp q t =
       known = t;
     }
 
--- a frame word s asks for s + 1 words after the pops
-abbrev pub basicShape : Basic → Shape
-basicShape (local onMain s) = shape Next (effect 0 0 1 0) (suc s) 0 0 true
-basicShape (local onPtr s) = shape Next (effect 0 0 0 1) 0 (suc s) 0 true
-basicShape (assign onMain s) = shape Next (effect 1 0 0 0) (suc s) 0 0 true
-basicShape (assign onPtr s) = shape Next (effect 0 1 0 0) 0 (suc s) 0 true
-basicShape (field d s) = shape Next (basicEffect (field d s)) 0 0 0 true
-basicShape (setField d s) = shape Next (basicEffect (setField d s)) 0 0 0 true
-basicShape (form k n) = shape Next (basicEffect (form k n)) 0 0 0 true
-basicShape (literal w) = shape Next (basicEffect (literal w)) 0 0 0 true
-basicShape nil = shape Next (basicEffect nil) 0 0 0 true
-basicShape root = shape Next (basicEffect root) 0 0 0 true
-basicShape setRoot = shape Next (basicEffect setRoot) 0 0 0 true
-basicShape (retract a k n) = shape Next (basicEffect (retract a k n)) 0 0 0 true
-basicShape (binary o) = shape Next (basicEffect (binary o)) 0 0 0 true
-basicShape samePtr = shape Next (basicEffect samePtr) 0 0 0 true
-basicShape (unary o) = shape Next (basicEffect (unary o)) 0 0 0 true
+-- how many words of each stack must be left after the pops: a frame word s asks for s + 1
+abbrev pub words : Basic → ℕ × ℕ
+words (local onMain s) = (suc s, 0)
+words (local onPtr s) = (0, suc s)
+words (assign onMain s) = (suc s, 0)
+words (assign onPtr s) = (0, suc s)
+words (field d s) = (0, 0)
+words (setField d s) = (0, 0)
+words (form k n) = (0, 0)
+words (literal w) = (0, 0)
+words nil = (0, 0)
+words root = (0, 0)
+words setRoot = (0, 0)
+words (retract a k n) = (0, 0)
+words (binary o) = (0, 0)
+words samePtr = (0, 0)
+words (unary o) = (0, 0)
 
 -- the shape of the instruction at p
 unfoldable pub shapeOf : List ℕ → ℕ → Ins → Shape
-shapeOf f p (basic b) = basicShape b
+shapeOf f p (basic b) = shape Next (basicEffect b) (words b .0) (words b .1) 0 true
 shapeOf f p (jump q) = shape Jump (effect 0 0 0 0) 0 0 q true
 shapeOf f p (branch t q) = shape Branch (effect 1 0 0 0) 0 0 q true
 shapeOf f p (branchKeep t q) = shape Keep (effect 1 0 0 0) 0 0 q true

@@ -9,6 +9,7 @@ ghost use Rattle.model.specs.File as model;
 ghost use Rattle.model.specs.Checker as checker;
 ghost use Rattle.effects.specs.Shape.{shape, shapeOf};
 ghost use Rattle.effects.specs.Site.{Table, listed, Site};
+ghost use Rattle.effects.specs.Tests.{goesBy, jumpsBy, targetOk, stackOk, openOk, depthOk, resultsLeft, leaveOk, effectIn, innerBy, nextState, targetMain, targetState, Fits, asState};
 
 // Where an instruction passes its state.
 pub enum Way {
@@ -32,6 +33,13 @@ pub struct Shape {
     pub wordp: usize,
     pub target: usize,
     pub known: bool, // the procedure that a call names is there
+}
+
+// The depths before an instruction, and the place of the innermost open 160 or 65,535.
+pub struct State {
+    pub main: usize,
+    pub ptr: usize,
+    pub inner: usize,
 }
 
 fn effect(way: Way, popm: usize, popp: usize, pushm: usize, pushp: usize) -> Shape
@@ -188,5 +196,202 @@ pub fn shape_at(file: &[u8], table: &[usize; 64], k: usize, h: usize, p: usize) 
         130 | 140 | 142 | 145 | 195 | 198 | 201 | 204 => effect(Way::Next, 2, 0, 1, 0),
         141 | 143 => effect(Way::Next, 2, 0, 1, 0),
         _ => effect(Way::Raise, 1, 0, 0, 0),
+    }
+}
+
+pub fn goes(way: Way) -> bool
+    ensures { λ r. ⌜ r ≡ goesBy way ⌝ }
+{
+    match way {
+        Way::Next => true,
+        Way::Jump => false,
+        Way::Branch => true,
+        Way::Keep => true,
+        Way::Open => true,
+        Way::Close => true,
+        Way::Return => false,
+        Way::Raise => false,
+    }
+}
+
+pub fn jumps_to(way: Way) -> bool
+    ensures { λ r. ⌜ r ≡ jumpsBy way ⌝ }
+{
+    match way {
+        Way::Next => false,
+        Way::Jump => true,
+        Way::Branch => true,
+        Way::Keep => true,
+        Way::Open => true,
+        Way::Close => false,
+        Way::Return => false,
+        Way::Raise => false,
+    }
+}
+
+// Refusal 5; own: the target is an instruction of the procedure.
+pub fn target_ok(way: Way, known: bool, own: bool, target: usize, p: usize) -> bool
+    ensures { λ r. ⌜ r ≡ targetOk way known own target p ⌝ }
+{
+    match way {
+        Way::Next => known,
+        Way::Jump => own,
+        Way::Branch => own,
+        Way::Keep => own,
+        Way::Open => own && p < target,
+        Way::Close => true,
+        Way::Return => true,
+        Way::Raise => true,
+    }
+}
+
+// Refusal 7 on one stack, with no sum that could overflow.
+fn stack_ok(have: usize, floor: usize, pop: usize, push: usize, word: usize, most: usize) -> bool
+    ensures { λ r. ⌜ r ≡ stackOk have floor pop push word most ⌝ }
+{
+    if have < floor {
+        return false;
+    }
+    if have - floor < pop {
+        return false;
+    }
+    let rest = have - pop;
+    if rest < word {
+        return false;
+    }
+    if most < rest {
+        return false;
+    }
+    push <= most - rest
+}
+
+// A handler has the depth before its 160 and the raised word.
+fn open_ok(way: Way, main: usize, x: usize) -> bool
+    ensures { λ r. ⌜ r ≡ openOk way main x ⌝ }
+{
+    match way {
+        Way::Next => true,
+        Way::Jump => true,
+        Way::Branch => true,
+        Way::Keep => true,
+        Way::Open => main < x,
+        Way::Close => true,
+        Way::Return => true,
+        Way::Raise => true,
+    }
+}
+
+// Refusal 7: the state s at the instruction, the state o at the innermost open 160, the procedure's greatest depths.
+pub fn depth_ok(sh: Shape, s: State, o: State, x: usize, y: usize) -> bool
+    ensures { λ r. ⌜ r ≡ depthOk sh (asState s) (asState o) x y ⌝ }
+{
+    if !stack_ok(s.main, o.main, sh.popm, sh.pushm, sh.wordm, x) {
+        return false;
+    }
+    if !stack_ok(s.ptr, o.ptr, sh.popp, sh.pushp, sh.wordp, y) {
+        return false;
+    }
+    let way = sh.way;
+    open_ok(way, s.main, x)
+}
+
+fn results_left(s: State, r: usize, q: usize) -> bool
+    ensures { λ t. ⌜ t ≡ resultsLeft (asState s) r q ⌝ }
+{
+    if s.main != r {
+        return false;
+    }
+    if s.ptr != q {
+        return false;
+    }
+    s.inner == 65535
+}
+
+// Refusal 8: the procedure has the results r and q.
+pub fn leave_ok(way: Way, s: State, r: usize, q: usize) -> bool
+    ensures { λ t. ⌜ t ≡ leaveOk way (asState s) r q ⌝ }
+{
+    match way {
+        Way::Next => true,
+        Way::Jump => true,
+        Way::Branch => true,
+        Way::Keep => true,
+        Way::Open => true,
+        Way::Close => s.inner != 65535,
+        Way::Return => results_left(s, r, q),
+        Way::Raise => true,
+    }
+}
+
+fn moved(sh: Shape, s: State) -> State
+    requires { ⌜ Fits sh (asState s) ⌝ }
+    ensures { λ r. ⌜ asState r ≡ checker.moved (effectIn sh) (asState s) ⌝ }
+{
+    State {
+        main: s.main - sh.popm + sh.pushm,
+        ptr: s.ptr - sh.popp + sh.pushp,
+        inner: s.inner,
+    }
+}
+
+// The innermost open 160 behind the instruction at p, from that at it, inner, and that at inner, outer.
+fn inner_after(way: Way, p: usize, inner: usize, outer: usize) -> usize
+    ensures { λ r. ⌜ r ≡ innerBy way p inner outer ⌝ }
+{
+    match way {
+        Way::Next => inner,
+        Way::Jump => inner,
+        Way::Branch => inner,
+        Way::Keep => inner,
+        Way::Open => p,
+        Way::Close => outer,
+        Way::Return => inner,
+        Way::Raise => inner,
+    }
+}
+
+// What the instruction at p passes to the next.
+pub fn next_state(sh: Shape, p: usize, s: State, o: State) -> State
+    requires { ⌜ Fits sh (asState s) ⌝ }
+    ensures { λ r. ⌜ asState r ≡ nextState sh p (asState s) (asState o) ⌝ }
+{
+    let way = sh.way;
+    let inner = inner_after(way, p, s.inner, o.inner);
+    let after = moved(sh, s);
+    State {
+        main: after.main,
+        ptr: after.ptr,
+        inner,
+    }
+}
+
+// The main depth at the target, from the depths before and after the instruction.
+fn main_at_target(way: Way, before: usize, after: usize) -> usize
+    requires { ⌜ (way ≡ Way.Open → before + 1 < 65536) ⌝ }
+    ensures { λ r. ⌜ r ≡ targetMain way before after ⌝ }
+{
+    match way {
+        Way::Next => before,
+        Way::Jump => before,
+        Way::Branch => after,
+        Way::Keep => before,
+        Way::Open => before + 1,
+        Way::Close => before,
+        Way::Return => before,
+        Way::Raise => before,
+    }
+}
+
+// What it passes to its target.
+pub fn target_state(sh: Shape, s: State) -> State
+    requires { ⌜ Fits sh (asState s) ⌝ }
+    ensures { λ r. ⌜ asState r ≡ targetState sh (asState s) ⌝ }
+{
+    let way = sh.way;
+    let after = moved(sh, s);
+    State {
+        main: main_at_target(way, s.main, after.main),
+        ptr: s.ptr,
+        inner: s.inner,
     }
 }
