@@ -2,14 +2,16 @@
 ghost use mathlib.Core.Path.{_≡_};
 ghost use mathlib.Core.Logic.{_⊎_};
 ghost use Prim.Native.Nat.{_+_, _*_, _<_, _≤_};
+ghost use mathlib.Core.List.{_∷_, []};
 ghost use lib.ListN.{length};
+ghost use Rattle.model.specs.Choice.{if_then_else_};
 ghost use Rattle.model.specs.File as model;
 ghost use Rattle.model.specs.Checker.{state, outer, passes};
 ghost use Rattle.effects.specs.Tests.{asState};
 ghost use Rattle.scan.specs.Marks.{stateIn};
 ghost use Rattle.flow.specs.Own.{ownIn};
 ghost use Rattle.flow.specs.Takes.{passOneIn, passAllIn, takeIn};
-ghost use Rattle.flow.specs.Faults.{passAns, takeAns, StateIs, Held, Room, shapePasses, earlyOf, lateOf, Here, endIn};
+ghost use Rattle.flow.specs.Faults.{passAns, takeAns, StateIs, Held, Target, Room, shapePasses, earlyOf, lateOf, Here, endIn};
 ghost use Rattle.flow.specs.Flowing.{Begun, Flowed};
 
 use effects::Shape;
@@ -89,24 +91,34 @@ fn pass_one(m: &mut [u16], q: usize, s: State) -> bool
     t.inner == s.inner
 }
 
+// A state passed to a target, where there is one.
+fn pass_target(m: &mut [u16], jumps: bool, q: usize, s: State) -> bool
+    requires { ⌜ Target (now m) jumps q s ⌝ }
+    ensures { λ r. ⌜ passAns r (now (m .exit)) ≡ passAllIn (if jumps then (q, asState s) ∷ [] else []) (now (m .entry)) ⌝ }
+{
+    if jumps {
+        return pass_one(m, q, s);
+    }
+    true
+}
+
 // What the instruction at p passes on: to the next instruction, then to its target.
 fn pass_on(m: &mut [u16], sh: Shape, p: usize, next: usize, s: State, o: State) -> bool
     requires { ⌜ Room (now m) sh p next s o ⌝ }
     ensures { λ r. ⌜ passAns r (now (m .exit)) ≡ passAllIn (shapePasses sh p next (asState s) (asState o)) (now (m .entry)) ⌝ }
 {
     let way = sh.way;
+    let target = sh.target;
     let to_next = effects::next_state(sh, p, s, o);
     let to_target = effects::target_state(sh, s);
-    let target = sh.target;
+    let jumps = effects::jumps_to(way);
     if effects::goes(way) {
-        if !pass_one(m, next, to_next) {
-            return false;
+        if pass_one(m, next, to_next) {
+            return pass_target(m, jumps, target, to_target);
         }
+        return false;
     }
-    if effects::jumps_to(way) {
-        return pass_one(m, target, to_target);
-    }
-    true
+    pass_target(m, jumps, target, to_target)
 }
 
 // Refusals 5 and 6; 0 where there is none.
