@@ -2,20 +2,24 @@
 use Prim.Native.Nat.{ℕ, suc, _+_, _-_, _<_, _≤_}
 use mathlib.Core.Bool.{Bool, true, false, not}
 use mathlib.Core.List.{List, [], _∷_, _++_}
-use mathlib.Core.Path.{_≡_, refl, sym, _∙_}
+use mathlib.Core.Path.{_≡_, refl, sym}
 use lib.Dec.{leb, eqb, leb·zero}
 use borrow.Author.Tests.{leb-true}
 use native.Mathlib.Nat.{add-zero, sub-zero}
 use native.Mathlib.Numerals.{add-one}
 use native.Mathlib.Omega.{arith}
-use Rattle.model.specs.Choice.{if_then_else_, Test, same, most, yes?, all, if-both}
-use Rattle.model.specs.File.{Side, onMain, onPtr, Aside, keepMain, keepPtr, keepNone, Basic, local, assign, field, setField, form, literal, nil, root, setRoot, retract, binary, samePtr, unary, Ins, basic, jump, branch, branchKeep, call, return, enter, exit, raise, after, procs, procAt, resultsMain, resultsPtr, mostMain, mostPtr}
-use Rattle.model.specs.Checker.{none, State, state, Effect, effect, basicEffect, effectOf, moved, goesOn, handlerAt, passes, own, targetTests, nextTests, wordTests, moreTests, depthTests, leaveTests}
+use Rattle.model.specs.Choice.{if_then_else_, yes?, all, if-both}
+use Rattle.model.specs.File.{onMain, onPtr, Basic, local, assign, field, setField, form, literal, nil, root, setRoot, retract, binary, samePtr, unary, Ins, basic, jump, branch, branchKeep, call, return, enter, exit, raise, after, procAt, resultsMain, resultsPtr, mostMain, mostPtr}
+use Rattle.model.specs.Checker.{none, State, state, Effect, effect, basicEffect, effectOf, moved, goesOn, passes, own, targetTests, nextTests, wordTests, moreTests, depthTests, leaveTests}
 use Rattle.effects.specs.declared.Way.{Way}
 use Rattle.effects.specs.declared.Way.the-variants.{Next, Jump, Branch, Keep, Open, Close, Return, Raise}
 use Rattle.effects.specs.declared.Shape.{Shape}
 use Rattle.effects.specs.declared.State.{State as Words}
 use Rattle.effects.specs.Shape.{words, shapeOf}
+
+-- the code's state as the model's
+abbrev pub asState : Words → State
+asState s = state (s .main) (s .ptr) (s .inner)
 
 abbrev pub goesBy : Way → Bool
 goesBy Next = true
@@ -37,54 +41,68 @@ jumpsBy Close = false
 jumpsBy Return = false
 jumpsBy Raise = false
 
+abbrev pub opensBy : Way → Bool
+opensBy Next = false
+opensBy Jump = false
+opensBy Branch = false
+opensBy Keep = false
+opensBy Open = true
+opensBy Close = false
+opensBy Return = false
+opensBy Raise = false
+
+abbrev pub closesBy : Way → Bool
+closesBy Next = false
+closesBy Jump = false
+closesBy Branch = false
+closesBy Keep = false
+closesBy Open = false
+closesBy Close = true
+closesBy Return = false
+closesBy Raise = false
+
+abbrev pub leavesBy : Way → Bool
+leavesBy Next = false
+leavesBy Jump = false
+leavesBy Branch = false
+leavesBy Keep = false
+leavesBy Open = false
+leavesBy Close = false
+leavesBy Return = true
+leavesBy Raise = false
+
+abbrev and : Bool → Bool → Bool
+and a b = (if a then b else false)
+
 -- refusal 5, where `own` says that the target is an instruction of the procedure
-abbrev pub targetOk : Way → Bool → Bool → ℕ → ℕ → Bool
-targetOk Next known own q p = known
-targetOk Jump known own q p = own
-targetOk Branch known own q p = own
-targetOk Keep known own q p = own
-targetOk Open known own q p = (if own then leb (suc p) q else false)
-targetOk Close known own q p = true
-targetOk Return known own q p = true
-targetOk Raise known own q p = true
+unfoldable pub targetOk : Way → Bool → Bool → ℕ → ℕ → Bool
+targetOk w known own q p = (if jumpsBy w then and own (if opensBy w then leb (suc p) q else true) else known)
 
 -- refusal 7 on one stack: the floor, the frame word and the greatest depth
 unfoldable pub stackOk : ℕ → ℕ → ℕ → ℕ → ℕ → ℕ → Bool
-stackOk have floor pop push word x =
-    (if leb (floor + pop) have then (if leb word (have - pop) then leb (have - pop + push) x else false) else false)
+stackOk have floor pop push word x = and (leb (floor + pop) have) (and (leb word (have - pop)) (leb (have - pop + push) x))
 
--- a handler's depth
-abbrev pub openOk : Way → ℕ → ℕ → Bool
-openOk Next have x = true
-openOk Jump have x = true
-openOk Branch have x = true
-openOk Keep have x = true
-openOk Open have x = leb (suc have) x
-openOk Close have x = true
-openOk Return have x = true
-openOk Raise have x = true
+-- a handler has the depth before its 160 and the raised word
+abbrev openOk : Way → ℕ → ℕ → Bool
+openOk w have x = (if opensBy w then leb (suc have) x else true)
 
 unfoldable pub depthOk : Shape → State → State → ℕ → ℕ → Bool
 depthOk sh s o x y =
-    (if stackOk (s .main) (o .main) (sh .popm) (sh .pushm) (sh .wordm) x
-    then (if stackOk (s .ptr) (o .ptr) (sh .popp) (sh .pushp) (sh .wordp) y then openOk (sh .way) (s .main) x else false)
-    else false)
+    and (stackOk (s .main) (o .main) (sh .popm) (sh .pushm) (sh .wordm) x)
+    (and (stackOk (s .ptr) (o .ptr) (sh .popp) (sh .pushp) (sh .wordp) y)
+    (openOk (sh .way) (s .main) x))
 
--- refusal 8: a return
-unfoldable pub resultsLeft : State → ℕ → ℕ → Bool
-resultsLeft s r q = (if eqb (s .main) r then (if eqb (s .ptr) q then eqb (s .inner) none else false) else false)
+-- refusal 8
+unfoldable pub leaveOk : Way → State → ℕ → ℕ → Bool
+leaveOk w s r q =
+    if closesBy w then not (eqb (s .inner) none)
+    else if leavesBy w then and (eqb (s .main) r) (and (eqb (s .ptr) q) (eqb (s .inner) none))
+    else true
 
-abbrev pub leaveOk : Way → State → ℕ → ℕ → Bool
-leaveOk Next s r q = true
-leaveOk Jump s r q = true
-leaveOk Branch s r q = true
-leaveOk Keep s r q = true
-leaveOk Open s r q = true
-leaveOk Close s r q = not (eqb (s .inner) none)
-leaveOk Return s r q = resultsLeft s r q
-leaveOk Raise s r q = true
+abbrev pub effectIn : Shape → Effect
+effectIn sh = effect (sh .popm) (sh .popp) (sh .pushm) (sh .pushp)
 
--- the innermost open handler after the instruction at p
+-- the innermost open handler behind the instruction at p
 abbrev pub innerBy : Way → ℕ → ℕ → ℕ → ℕ
 innerBy Next p h o = h
 innerBy Jump p h o = h
@@ -95,109 +113,41 @@ innerBy Close p h o = o
 innerBy Return p h o = h
 innerBy Raise p h o = h
 
-abbrev pub effectIn : Shape → Effect
-effectIn sh = effect (sh .popm) (sh .popp) (sh .pushm) (sh .pushp)
+-- the main depth at the target: before the instruction, after it, or with a raised word
+abbrev pub targetMain : Way → ℕ → ℕ → ℕ → ℕ
+targetMain Next b a r = b
+targetMain Jump b a r = b
+targetMain Branch b a r = a
+targetMain Keep b a r = b
+targetMain Open b a r = r
+targetMain Close b a r = b
+targetMain Return b a r = b
+targetMain Raise b a r = b
 
 -- what passes to the next instruction, and to the target
 unfoldable pub nextState : Shape → ℕ → State → State → State
 nextState sh p s o =
     state (moved (effectIn sh) s .main) (moved (effectIn sh) s .ptr) (innerBy (sh .way) p (s .inner) (o .inner))
 
--- the main depth at the target, from the depths before and after the instruction
-abbrev pub targetMain : Way → ℕ → ℕ → ℕ
-targetMain Next before after = before
-targetMain Jump before after = before
-targetMain Branch before after = after
-targetMain Keep before after = before
-targetMain Open before after = before + 1
-targetMain Close before after = before
-targetMain Return before after = before
-targetMain Raise before after = before
-
 unfoldable pub targetState : Shape → State → State
-targetState sh s = state (targetMain (sh .way) (s .main) (moved (effectIn sh) s .main)) (s .ptr) (s .inner)
+targetState sh s =
+    state (targetMain (sh .way) (s .main) (moved (effectIn sh) s .main) (s .main + 1)) (s .ptr) (s .inner)
 
-if-same : (t : Bool) → (if t then true else false) ≡ t
-if-same true = refl
-if-same false = refl
+and-true : (t : Bool) → and t true ≡ t
+and-true true = refl
+and-true false = refl
 
-if-none : (t : Bool) → (if t then false else false) ≡ false
-if-none true = refl
-if-none false = refl
-
-pub effect-is : (f : List ℕ) (p : ℕ) (i : Ins) → effectOf f i ≡ effectIn (shapeOf f p i)
-unfolding effectOf shapeOf
-effect-is f p (basic b) = refl
-effect-is f p (jump q) = refl
-effect-is f p (branch t q) = refl
-effect-is f p (branchKeep t q) = refl
-effect-is f p (call n) = refl
-effect-is f p return = refl
-effect-is f p (enter s) = refl
-effect-is f p exit = refl
-effect-is f p raise = refl
-
-pub goes-on : (f : List ℕ) (p : ℕ) (i : Ins) → goesOn i ≡ goesBy (shapeOf f p i .way)
-unfolding goesOn shapeOf
-goes-on f p (basic b) = refl
-goes-on f p (jump q) = refl
-goes-on f p (branch t q) = refl
-goes-on f p (branchKeep t q) = refl
-goes-on f p (call n) = refl
-goes-on f p return = refl
-goes-on f p (enter s) = refl
-goes-on f p exit = refl
-goes-on f p raise = refl
-
-pub target-tests : (f : List ℕ) (p : ℕ) (i : Ins) → all (targetTests f p i) ≡ targetOk (shapeOf f p i .way) (shapeOf f p i .known) (own f p (shapeOf f p i .target)) (shapeOf f p i .target) p
-unfolding targetTests shapeOf
-target-tests f p (basic b) = refl
-target-tests f p (jump q) = if-same _
-target-tests f p (branch t q) = if-same _
-target-tests f p (branchKeep t q) = if-same _
-target-tests f p (call n) = if-same _
-target-tests f p return = refl
-target-tests f p (enter s) = rw (if-same (leb (suc p) (handlerAt f p s)))
-target-tests f p exit = refl
-target-tests f p raise = refl
-
-next-by : (f : List ℕ) (p : ℕ) (t : Bool) → all (if t then yes? (own f p (after f p)) ∷ [] else []) ≡ (if t then own f p (after f p) else true)
-next-by f p true = if-same _
-next-by f p false = refl
-
-pub next-tests : (f : List ℕ) (p : ℕ) (i : Ins) → all (nextTests f p i) ≡ (if goesBy (shapeOf f p i .way) then own f p (after f p) else true)
-unfolding nextTests
-next-tests f p i = rw (goes-on f p i) (next-by f p (goesBy (shapeOf f p i .way)))
-
-pub leave-tests : (f : List ℕ) (p : ℕ) (i : Ins) (s : State) → all (leaveTests f p i s) ≡ leaveOk (shapeOf f p i .way) s (resultsMain f (procAt f p)) (resultsPtr f (procAt f p))
-unfolding leaveTests shapeOf resultsLeft
-leave-tests f p (basic b) s = refl
-leave-tests f p (jump q) s = refl
-leave-tests f p (branch t q) s = refl
-leave-tests f p (branchKeep t q) s = refl
-leave-tests f p (call n) s = refl
-leave-tests f p return s = rw (if-same (eqb (s .inner) none))
-leave-tests f p (enter n) s = refl
-leave-tests f p exit s = if-same _
-leave-tests f p raise s = refl
-
-pub passes-are : (f : List ℕ) (p : ℕ) (i : Ins) (s o : State) → passes f p i s o ≡ (if goesBy (shapeOf f p i .way) then (after f p, nextState (shapeOf f p i) p s o) ∷ [] else []) ++ (if jumpsBy (shapeOf f p i .way) then (shapeOf f p i .target, targetState (shapeOf f p i) s) ∷ [] else [])
-unfolding passes shapeOf nextState targetState
-passes-are f p (basic b) s o = refl
-passes-are f p (jump q) s o = refl
-passes-are f p (branch t q) s o = simp (sub-zero, add-zero)
-passes-are f p (branchKeep t q) s o = refl
-passes-are f p (call n) s o = refl
-passes-are f p return s o = refl
-passes-are f p (enter n) s o = simp (sub-zero, add-zero)
-passes-are f p exit s o = simp (sub-zero, add-zero)
-passes-are f p raise s o = refl
+and-false : (t : Bool) → and t false ≡ false
+and-false true = refl
+and-false false = refl
 
 -- the words left are enough, and t holds
 abbrev left : ℕ → ℕ → ℕ → ℕ → Bool → Bool
-left wm wp m n t = (if leb wm m then (if leb wp n then t else false) else false)
+left wm wp m n t = and (leb wm m) (and (leb wp n) t)
 
-word-tests : (b : Basic) (s : State) → all (wordTests b s) ≡ left (words b .0) (words b .1) (s .main - basicEffect b .popMain) (s .ptr - basicEffect b .popPtr) true
+word-tests : (b : Basic) (s : State) →
+    all (wordTests b s)
+    ≡ left (words b .0) (words b .1) (s .main - basicEffect b .popMain) (s .ptr - basicEffect b .popPtr) true
 unfolding basicEffect
 word-tests (local onMain w) s = simp (leb·zero, sub-zero)
 word-tests (local onPtr w) s = simp (leb·zero, sub-zero)
@@ -215,75 +165,145 @@ word-tests (binary o) s = simp leb·zero
 word-tests samePtr s = simp leb·zero
 word-tests (unary o) s = simp leb·zero
 
-more-tests : (f : List ℕ) (p : ℕ) (i : Ins) (s : State) (x : ℕ) → all (moreTests x i s) ≡ left (shapeOf f p i .wordm) (shapeOf f p i .wordp) (s .main - shapeOf f p i .popm) (s .ptr - shapeOf f p i .popp) (openOk (shapeOf f p i .way) (s .main) x)
-unfolding shapeOf
-more-tests f p (basic b) s x = word-tests b s
-more-tests f p (jump q) s x = simp leb·zero
-more-tests f p (branch t q) s x = simp leb·zero
-more-tests f p (branchKeep t q) s x = simp leb·zero
-more-tests f p (call n) s x = simp leb·zero
-more-tests f p return s x = simp leb·zero
-more-tests f p (enter n) s x = simp (leb·zero, if-same, add-one)
-more-tests f p exit s x = simp leb·zero
-more-tests f p raise s x = simp leb·zero
-
-abbrev and : Bool → Bool → Bool
-and a b = (if a then b else false)
-
--- the tests stack by stack, a and e, c of the one, b and g, d of the other
-by-stack : (a b c d e g t : Bool) → and a (and b (and c (and d (and e (and g t))))) ≡ and (and a (and e c)) (and (and b (and g d)) t)
+-- the tests stack by stack: a, e and c of the one, b, g and d of the other
+by-stack : (a b c d e g t : Bool) →
+    and a (and b (and c (and d (and e (and g t))))) ≡ and (and a (and e c)) (and (and b (and g d)) t)
 by-stack false b c d e g t = refl
-by-stack true false c d e g t = sym (if-none (and e c))
-by-stack true true false d e g t = simp if-none
-by-stack true true true false e g t = simp if-none
-by-stack true true true true e g t = simp if-same
+by-stack true false c d e g t = sym (and-false (and e c))
+by-stack true true false d e g t = simp and-false
+by-stack true true true false e g t = simp and-false
+by-stack true true true true e g t = simp and-true
 
-pub depth-tests : (f : List ℕ) (p : ℕ) (i : Ins) (s o : State) → all (depthTests f p i s o) ≡ depthOk (shapeOf f p i) s o (mostMain f (procAt f p)) (mostPtr f (procAt f p))
-unfolding depthTests depthOk stackOk
-depth-tests f p i s o =
-    let sh = shapeOf f p i in
-    let x = mostMain f (procAt f p) in
-    let y = mostPtr f (procAt f p) in
-    rw (effect-is f p i, more-tests f p i s x)
-    (by-stack
-    (leb (o .main + sh .popm) (s .main))
-    (leb (o .ptr + sh .popp) (s .ptr))
-    (leb (s .main - sh .popm + sh .pushm) x)
-    (leb (s .ptr - sh .popp + sh .pushp) y)
-    (leb (sh .wordm) (s .main - sh .popm))
-    (leb (sh .wordp) (s .ptr - sh .popp))
-    (openOk (sh .way) (s .main) x))
+-- at every place of every file
+module _ (f : List ℕ) (p : ℕ) where
+  abbrev at : Ins → Shape
+  at i = shapeOf f p i
 
--- what the depth tests of a procedure show of the states that pass: nothing underflows, and the new depths are at most the greatest
+  effect-is : (i : Ins) → effectOf f i ≡ effectIn (at i)
+  unfolding effectOf shapeOf
+  effect-is (basic b) = refl
+  effect-is (jump q) = refl
+  effect-is (branch t q) = refl
+  effect-is (branchKeep t q) = refl
+  effect-is (call n) = refl
+  effect-is return = refl
+  effect-is (enter n) = refl
+  effect-is exit = refl
+  effect-is raise = refl
+
+  pub target-tests : (i : Ins) →
+      all (targetTests f p i) ≡ targetOk (at i .way) (at i .known) (own f p (at i .target)) (at i .target) p
+  unfolding targetTests targetOk shapeOf
+  target-tests (basic b) = refl
+  target-tests (jump q) = refl
+  target-tests (branch t q) = refl
+  target-tests (branchKeep t q) = refl
+  target-tests (call n) = and-true _
+  target-tests return = refl
+  target-tests (enter n) = simp and-true
+  target-tests exit = refl
+  target-tests raise = refl
+
+  pub goes-on : (i : Ins) → goesOn i ≡ goesBy (at i .way)
+  unfolding goesOn shapeOf
+  goes-on (basic b) = refl
+  goes-on (jump q) = refl
+  goes-on (branch t q) = refl
+  goes-on (branchKeep t q) = refl
+  goes-on (call n) = refl
+  goes-on return = refl
+  goes-on (enter n) = refl
+  goes-on exit = refl
+  goes-on raise = refl
+
+  next-by : (t : Bool) → all (if t then yes? (own f p (after f p)) ∷ [] else []) ≡ (if t then own f p (after f p) else true)
+  next-by true = and-true _
+  next-by false = refl
+
+  pub next-tests : (i : Ins) → all (nextTests f p i) ≡ (if goesBy (at i .way) then own f p (after f p) else true)
+  unfolding nextTests
+  next-tests i = rw (goes-on i) (next-by (goesBy (at i .way)))
+
+  more-tests : (i : Ins) (s : State) (x : ℕ) →
+      all (moreTests x i s)
+      ≡ left (at i .wordm) (at i .wordp) (s .main - at i .popm) (s .ptr - at i .popp) (openOk (at i .way) (s .main) x)
+  unfolding shapeOf
+  more-tests (basic b) s x = word-tests b s
+  more-tests (jump q) s x = simp leb·zero
+  more-tests (branch t q) s x = simp leb·zero
+  more-tests (branchKeep t q) s x = simp leb·zero
+  more-tests (call n) s x = simp leb·zero
+  more-tests return s x = simp leb·zero
+  more-tests (enter n) s x = simp (leb·zero, and-true, add-one)
+  more-tests exit s x = simp leb·zero
+  more-tests raise s x = simp leb·zero
+
+  pub depth-tests : (i : Ins) (s o : State) →
+      all (depthTests f p i s o) ≡ depthOk (at i) s o (mostMain f (procAt f p)) (mostPtr f (procAt f p))
+  unfolding depthTests depthOk stackOk
+  depth-tests i s o =
+      let x = mostMain f (procAt f p) in
+      let y = mostPtr f (procAt f p) in
+      rw (effect-is i, more-tests i s x)
+      (by-stack
+      (leb (o .main + at i .popm) (s .main))
+      (leb (o .ptr + at i .popp) (s .ptr))
+      (leb (s .main - at i .popm + at i .pushm) x)
+      (leb (s .ptr - at i .popp + at i .pushp) y)
+      (leb (at i .wordm) (s .main - at i .popm))
+      (leb (at i .wordp) (s .ptr - at i .popp))
+      (openOk (at i .way) (s .main) x))
+
+  pub leave-tests : (i : Ins) (s : State) →
+      all (leaveTests f p i s) ≡ leaveOk (at i .way) s (resultsMain f (procAt f p)) (resultsPtr f (procAt f p))
+  unfolding leaveTests leaveOk shapeOf
+  leave-tests (basic b) s = refl
+  leave-tests (jump q) s = refl
+  leave-tests (branch t q) s = refl
+  leave-tests (branchKeep t q) s = refl
+  leave-tests (call n) s = refl
+  leave-tests return s = simp and-true
+  leave-tests (enter n) s = refl
+  leave-tests exit s = and-true _
+  leave-tests raise s = refl
+
+  pub passes-are : (i : Ins) (s o : State) →
+      passes f p i s o
+      ≡ (if goesBy (at i .way) then (after f p, nextState (at i) p s o) ∷ [] else [])
+      ++ (if jumpsBy (at i .way) then (at i .target, targetState (at i) s) ∷ [] else [])
+  unfolding passes shapeOf nextState targetState
+  passes-are (basic b) s o = refl
+  passes-are (jump q) s o = refl
+  passes-are (branch t q) s o = simp (sub-zero, add-zero)
+  passes-are (branchKeep t q) s o = refl
+  passes-are (call n) s o = refl
+  passes-are return s o = refl
+  passes-are (enter n) s o = simp (sub-zero, add-zero)
+  passes-are exit s o = simp (sub-zero, add-zero)
+  passes-are raise s o = refl
+
+-- what passed tests of the depths show: no pop from an empty stack, and depths that fit the map
 pub record Fits (sh : Shape) (s : State) : Type 0 where
   pub main : sh .popm ≤ s .main
   pub ptr : sh .popp ≤ s .ptr
   pub main-small : s .main - sh .popm + sh .pushm < 65536
   pub ptr-small : s .ptr - sh .popp + sh .pushp < 65536
-  pub open-small : sh .way ≡ Open → s .main + 1 < 65536
+  pub small : s .main < 65536
 
 stack-fits : (have floor pop push word x : ℕ) → stackOk have floor pop push word x ≡ true → (pop ≤ have) × (have - pop + push ≤ x)
 unfolding stackOk
 stack-fits have floor pop push word x e =
-    let g = if-both (leb (floor + pop) have) (if leb word (have - pop) then leb (have - pop + push) x else false) e in
+    let g = if-both (leb (floor + pop) have) (and (leb word (have - pop)) (leb (have - pop + push) x)) e in
     let h = if-both (leb word (have - pop)) (leb (have - pop + push) x) (g .1) in
     (omega (arith, leb-true (floor + pop) have (g .0)), leb-true (have - pop + push) x (h .1))
 
-pub depth-fits : (sh : Shape) (s o : State) (x y : ℕ) → x < 256 → y < 256 → depthOk sh s o x y ≡ true → Fits sh s
+pub depth-fits : (sh : Shape) (s o : State) (x y : ℕ) → x < 256 → y < 256 → s .main < 65536 → depthOk sh s o x y ≡ true → Fits sh s
 unfolding depthOk
-depth-fits sh s o x y hx hy e =
-    let g = if-both (stackOk (s .main) (o .main) (sh .popm) (sh .pushm) (sh .wordm) x) (if stackOk (s .ptr) (o .ptr) (sh .popp) (sh .pushp) (sh .wordp) y then openOk (sh .way) (s .main) x else false) e in
-    let h = if-both (stackOk (s .ptr) (o .ptr) (sh .popp) (sh .pushp) (sh .wordp) y) (openOk (sh .way) (s .main) x) (g .1) in
+depth-fits sh s o x y hx hy small e =
+    let main = stackOk (s .main) (o .main) (sh .popm) (sh .pushm) (sh .wordm) x in
+    let ptr = stackOk (s .ptr) (o .ptr) (sh .popp) (sh .pushp) (sh .wordp) y in
+    let g = if-both main (and ptr (openOk (sh .way) (s .main) x)) e in
+    let h = if-both ptr (openOk (sh .way) (s .main) x) (g .1) in
     let m = stack-fits (s .main) (o .main) (sh .popm) (sh .pushm) (sh .wordm) x (g .0) in
     let q = stack-fits (s .ptr) (o .ptr) (sh .popp) (sh .pushp) (sh .wordp) y (h .0) in
-    record {
-      main = m .0;
-      ptr = q .0;
-      main-small = omega arith;
-      ptr-small = omega arith;
-      open-small = λ w. omega (arith, leb-true (suc (s .main)) x (rw w at (h .1)));
-    }
-
--- the code's state as the model's
-abbrev pub asState : Words → State
-asState s = state (s .main) (s .ptr) (s .inner)
+    record { main = m .0; ptr = q .0; main-small = omega arith; ptr-small = omega arith; small = small }

@@ -9,7 +9,7 @@ ghost use Rattle.model.specs.File as model;
 ghost use Rattle.model.specs.Checker as checker;
 ghost use Rattle.effects.specs.Shape.{shape, shapeOf};
 ghost use Rattle.effects.specs.Site.{Table, listed, Site};
-ghost use Rattle.effects.specs.Tests.{goesBy, jumpsBy, targetOk, stackOk, openOk, depthOk, resultsLeft, leaveOk, effectIn, innerBy, nextState, targetMain, targetState, Fits, asState};
+ghost use Rattle.effects.specs.Tests.{goesBy, jumpsBy, opensBy, closesBy, leavesBy, targetOk, stackOk, depthOk, leaveOk, effectIn, innerBy, nextState, targetMain, targetState, Fits, asState};
 
 // Where an instruction passes its state.
 pub enum Way {
@@ -229,20 +229,62 @@ pub fn jumps_to(way: Way) -> bool
     }
 }
 
+fn opens(way: Way) -> bool
+    ensures { λ r. ⌜ r ≡ opensBy way ⌝ }
+{
+    match way {
+        Way::Next => false,
+        Way::Jump => false,
+        Way::Branch => false,
+        Way::Keep => false,
+        Way::Open => true,
+        Way::Close => false,
+        Way::Return => false,
+        Way::Raise => false,
+    }
+}
+
+fn closes(way: Way) -> bool
+    ensures { λ r. ⌜ r ≡ closesBy way ⌝ }
+{
+    match way {
+        Way::Next => false,
+        Way::Jump => false,
+        Way::Branch => false,
+        Way::Keep => false,
+        Way::Open => false,
+        Way::Close => true,
+        Way::Return => false,
+        Way::Raise => false,
+    }
+}
+
+fn leaves(way: Way) -> bool
+    ensures { λ r. ⌜ r ≡ leavesBy way ⌝ }
+{
+    match way {
+        Way::Next => false,
+        Way::Jump => false,
+        Way::Branch => false,
+        Way::Keep => false,
+        Way::Open => false,
+        Way::Close => false,
+        Way::Return => true,
+        Way::Raise => false,
+    }
+}
+
 // Refusal 5; own: the target is an instruction of the procedure.
 pub fn target_ok(way: Way, known: bool, own: bool, target: usize, p: usize) -> bool
     ensures { λ r. ⌜ r ≡ targetOk way known own target p ⌝ }
 {
-    match way {
-        Way::Next => known,
-        Way::Jump => own,
-        Way::Branch => own,
-        Way::Keep => own,
-        Way::Open => own && p < target,
-        Way::Close => true,
-        Way::Return => true,
-        Way::Raise => true,
+    if !jumps_to(way) {
+        return known;
     }
+    if !own {
+        return false;
+    }
+    if opens(way) { p < target } else { true }
 }
 
 // Refusal 7 on one stack, with no sum that could overflow.
@@ -265,22 +307,6 @@ fn stack_ok(have: usize, floor: usize, pop: usize, push: usize, word: usize, mos
     push <= most - rest
 }
 
-// A handler has the depth before its 160 and the raised word.
-fn open_ok(way: Way, main: usize, x: usize) -> bool
-    ensures { λ r. ⌜ r ≡ openOk way main x ⌝ }
-{
-    match way {
-        Way::Next => true,
-        Way::Jump => true,
-        Way::Branch => true,
-        Way::Keep => true,
-        Way::Open => main < x,
-        Way::Close => true,
-        Way::Return => true,
-        Way::Raise => true,
-    }
-}
-
 // Refusal 7: the state s at the instruction, the state o at the innermost open 160, the procedure's greatest depths.
 pub fn depth_ok(sh: Shape, s: State, o: State, x: usize, y: usize) -> bool
     ensures { λ r. ⌜ r ≡ depthOk sh (asState s) (asState o) x y ⌝ }
@@ -292,12 +318,19 @@ pub fn depth_ok(sh: Shape, s: State, o: State, x: usize, y: usize) -> bool
         return false;
     }
     let way = sh.way;
-    open_ok(way, s.main, x)
+    if opens(way) { s.main < x } else { true }
 }
 
-fn results_left(s: State, r: usize, q: usize) -> bool
-    ensures { λ t. ⌜ t ≡ resultsLeft (asState s) r q ⌝ }
+// Refusal 8: the procedure has the results r and q.
+pub fn leave_ok(way: Way, s: State, r: usize, q: usize) -> bool
+    ensures { λ t. ⌜ t ≡ leaveOk way (asState s) r q ⌝ }
 {
+    if closes(way) {
+        return s.inner != 65535;
+    }
+    if !leaves(way) {
+        return true;
+    }
     if s.main != r {
         return false;
     }
@@ -305,22 +338,6 @@ fn results_left(s: State, r: usize, q: usize) -> bool
         return false;
     }
     s.inner == 65535
-}
-
-// Refusal 8: the procedure has the results r and q.
-pub fn leave_ok(way: Way, s: State, r: usize, q: usize) -> bool
-    ensures { λ t. ⌜ t ≡ leaveOk way (asState s) r q ⌝ }
-{
-    match way {
-        Way::Next => true,
-        Way::Jump => true,
-        Way::Branch => true,
-        Way::Keep => true,
-        Way::Open => true,
-        Way::Close => s.inner != 65535,
-        Way::Return => results_left(s, r, q),
-        Way::Raise => true,
-    }
 }
 
 fn moved(sh: Shape, s: State) -> State
@@ -365,17 +382,16 @@ pub fn next_state(sh: Shape, p: usize, s: State, o: State) -> State
     }
 }
 
-// The main depth at the target, from the depths before and after the instruction.
-fn main_at_target(way: Way, before: usize, after: usize) -> usize
-    requires { ⌜ (way ≡ Way.Open → before + 1 < 65536) ⌝ }
-    ensures { λ r. ⌜ r ≡ targetMain way before after ⌝ }
+// The main depth at the target: before the instruction, after it, or with a raised word.
+fn main_at_target(way: Way, before: usize, after: usize, raised: usize) -> usize
+    ensures { λ r. ⌜ r ≡ targetMain way before after raised ⌝ }
 {
     match way {
         Way::Next => before,
         Way::Jump => before,
         Way::Branch => after,
         Way::Keep => before,
-        Way::Open => before + 1,
+        Way::Open => raised,
         Way::Close => before,
         Way::Return => before,
         Way::Raise => before,
@@ -389,8 +405,9 @@ pub fn target_state(sh: Shape, s: State) -> State
 {
     let way = sh.way;
     let after = moved(sh, s);
+    let main = main_at_target(way, s.main, after.main, s.main + 1);
     State {
-        main: main_at_target(way, s.main, after.main),
+        main,
         ptr: s.ptr,
         inner: s.inner,
     }

@@ -1,77 +1,39 @@
--- `effects::leave_ok`: by the definition, way by way.
+-- `effects::leave_ok`: by the definition's own tests.
+use mathlib.Core.Path.{_∙_, sym}
+use borrow.Author.Tests.{not-true, not-false}
+use Rattle.model.specs.Laws.{cases}
+use Rattle.effects.specs.Tests.{leaveOk}
 use borrow.Author.Needs.{needs}
 use Rattle.effects.proofs.leave_ok.Statement.{statement}
 use Rattle.effects.proofs.leave_ok.Tie as tie
 
-enum-told : tie.Need-enum-told
-enum-told c = search needs
-
-enum-told-2 : tie.Need-enum-told-2
-enum-told-2 c = search needs
-
-enum-told-3 : tie.Need-enum-told-3
-enum-told-3 c = search needs
-
-enum-told-4 : tie.Need-enum-told-4
-enum-told-4 c = search needs
-
-enum-told-5 : tie.Need-enum-told-5
-enum-told-5 c = search needs
-
-enum-told-6 : tie.Need-enum-told-6
-enum-told-6 c = search needs
-
-enum-told-7 : tie.Need-enum-told-7
-enum-told-7 c = search needs
-
-results-left-requires : tie.Need-results-left-requires
-results-left-requires c κs = search needs
-
-enum-told-8 : tie.Need-enum-told-8
-enum-told-8 c = search needs
+closes-requires : tie.Need-closes-requires
+closes-requires c κs = search needs
 
 returns : tie.Need-returns
-returns c = search needs
+unfolding leaveOk
+returns c = rw (sym (c .before .before .closes .ensures) ∙ c .before .if1 .taken)
+
+leaves-requires : tie.Need-leaves-requires
+leaves-requires c κs = search needs
 
 returns-2 : tie.Need-returns-2
-returns-2 c = search needs
+unfolding leaveOk
+returns-2 c = rw (sym (c .before .before .before .closes .ensures) ∙ c .before .before .if1 .left, sym (c .before .leaves .ensures) ∙ not-true _ (c .if2 .taken))
 
 returns-3 : tie.Need-returns-3
-returns-3 c = search needs
+unfolding leaveOk
+returns-3 c = rw (sym (c .before .before .before .before .before .closes .ensures) ∙ c .before .before .before .before .if1 .left, sym (c .before .before .before .leaves .ensures) ∙ not-false _ (c .before .before .if2 .left)) (search cases)
 
 returns-4 : tie.Need-returns-4
-returns-4 c = search needs
+unfolding leaveOk
+returns-4 c = rw (sym (c .before .before .before .before .before .before .before .closes .ensures) ∙ c .before .before .before .before .before .before .if1 .left, sym (c .before .before .before .before .before .leaves .ensures) ∙ not-false _ (c .before .before .before .before .if2 .left)) (search cases)
 
 returns-5 : tie.Need-returns-5
-returns-5 c = search needs
-
-returns-6 : tie.Need-returns-6
-returns-6 c = rw (c .before .enum-told6 .given .1)
-
-returns-7 : tie.Need-returns-7
-returns-7 c = rw (c .before .enum-told7 .given .1) (c .results-left .ensures)
-
-returns-8 : tie.Need-returns-8
-returns-8 c = search needs
+unfolding leaveOk
+returns-5 c = rw (sym (c .before .before .before .before .before .before .before .before .closes .ensures) ∙ c .before .before .before .before .before .before .before .if1 .left, sym (c .before .before .before .before .before .before .leaves .ensures) ∙ not-false _ (c .before .before .before .before .before .if2 .left)) (search cases)
 
 pub leave-ok-spec : {M : Type 1} → statement M
 leave-ok-spec =
     tie.close
-    (tie.spec
-    enum-told
-    enum-told-2
-    enum-told-3
-    enum-told-4
-    enum-told-5
-    enum-told-6
-    enum-told-7
-    results-left-requires
-    enum-told-8
-    returns
-    returns-2
-    returns-3
-    returns-4
-    returns-5
-    returns-6
-    returns-7
-    returns-8)
+    (tie.spec closes-requires returns leaves-requires returns-2 returns-3 returns-4 returns-5)

@@ -1,77 +1,33 @@
--- `effects::target_ok`: by the definition, way by way.
+-- `effects::target_ok`: by the definition's own tests.
+use mathlib.Core.Path.{_∙_, sym}
+use borrow.Author.Tests.{not-true, not-false}
+use Rattle.effects.specs.Tests.{targetOk}
 use borrow.Author.Needs.{needs}
 use Rattle.effects.proofs.target_ok.Statement.{statement}
 use Rattle.effects.proofs.target_ok.Tie as tie
 
-enum-told : tie.Need-enum-told
-enum-told c = search needs
-
-enum-told-2 : tie.Need-enum-told-2
-enum-told-2 c = search needs
-
-enum-told-3 : tie.Need-enum-told-3
-enum-told-3 c = search needs
-
-enum-told-4 : tie.Need-enum-told-4
-enum-told-4 c = search needs
-
-enum-told-5 : tie.Need-enum-told-5
-enum-told-5 c = search needs
-
-enum-told-6 : tie.Need-enum-told-6
-enum-told-6 c = search needs
-
-enum-told-7 : tie.Need-enum-told-7
-enum-told-7 c = search needs
-
-enum-told-8 : tie.Need-enum-told-8
-enum-told-8 c = search needs
+jumps-to-requires : tie.Need-jumps-to-requires
+jumps-to-requires c κs = search needs
 
 returns : tie.Need-returns
-returns c = search needs
+unfolding targetOk
+returns c = rw (sym (c .before .jumps-to .ensures) ∙ not-true _ (c .if1 .taken))
 
 returns-2 : tie.Need-returns-2
-returns-2 c = search needs
+unfolding targetOk
+returns-2 c = rw (sym (c .before .before .jumps-to .ensures) ∙ not-false _ (c .before .if1 .left), not-true (c .before .before .before .args .own) (c .if2 .taken))
+
+opens-requires : tie.Need-opens-requires
+opens-requires c κs = search needs
 
 returns-3 : tie.Need-returns-3
-returns-3 c = search needs
+unfolding targetOk
+returns-3 c = rw (sym (c .before .before .before .before .jumps-to .ensures) ∙ not-false _ (c .before .before .before .if1 .left), not-false (c .before .before .before .before .before .args .own) (c .before .before .if2 .left), sym (c .before .opens .ensures) ∙ c .if3 .taken)
 
 returns-4 : tie.Need-returns-4
-returns-4 c = search needs
-
-returns-5 : tie.Need-returns-5
-returns-5 c = rw (c .before .enum-told5 .given .1, c .if1 .taken)
-
-returns-6 : tie.Need-returns-6
-returns-6 c = search needs
-
-returns-7 : tie.Need-returns-7
-returns-7 c = search needs
-
-returns-8 : tie.Need-returns-8
-returns-8 c = search needs
-
-returns-9 : tie.Need-returns-9
-returns-9 c = search needs
+unfolding targetOk
+returns-4 c = rw (sym (c .before .before .before .before .jumps-to .ensures) ∙ not-false _ (c .before .before .before .if1 .left), not-false (c .before .before .before .before .before .args .own) (c .before .before .if2 .left), sym (c .before .opens .ensures) ∙ c .if3 .left)
 
 pub target-ok-spec : {M : Type 1} → statement M
 target-ok-spec =
-    tie.close
-    (tie.spec
-    enum-told
-    enum-told-2
-    enum-told-3
-    enum-told-4
-    enum-told-5
-    enum-told-6
-    enum-told-7
-    enum-told-8
-    returns
-    returns-2
-    returns-3
-    returns-4
-    returns-5
-    returns-6
-    returns-7
-    returns-8
-    returns-9)
+    tie.close (tie.spec jumps-to-requires returns returns-2 opens-requires returns-3 returns-4)
