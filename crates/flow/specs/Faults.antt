@@ -7,15 +7,18 @@ use mathlib.Core.Path.{_≡_, refl, ap, sym, _∙_, subst}
 use native.Mathlib.Omega.{arith}
 use lib.Dec.{ltb, leb, eqb}
 use lib.ListN.{length, getD}
-use borrow.Author.Tests.{lt-ltb, le-ltb, eq-eqb, ne-eqb}
-use Rattle.model.specs.Choice.{if_then_else_, all}
+use borrow.Author.Tests.{lt-ltb, le-ltb, eq-eqb, ne-eqb, ltb-true}
+use Rattle.model.specs.Choice.{if_then_else_, all, if-both}
 use Rattle.model.specs.File.{byteAt, Ins, insAt, after, procAt, headOf, resultsMain, resultsPtr, mostMain, mostPtr}
 use Rattle.model.specs.Checker.{none, State, state, sameState, outer, passes, own, targetTests, nextTests, depthTests, leaveTests, Step, bad, next, need, meet, andThen}
 use Rattle.effects.specs.declared.State.{State as Numbers}
 use Rattle.effects.specs.declared.Shape.{Shape}
 use Rattle.effects.specs.Shape.{shapeOf}
 use Rattle.effects.specs.Site.{Table, Site}
-use Rattle.effects.specs.Tests.{asState, goesBy, jumpsBy, targetOk, depthOk, leaveOk, nextState, targetState, Fits, target-tests, next-tests, depth-tests, leave-tests, passes-are}
+use Rattle.exact.specs.Walk.{after-above}
+use Rattle.effects.specs.declared.Way.{Way}
+use Rattle.effects.specs.declared.Way.the-variants.{Next, Jump, Branch, Keep, Open, Close, Return, Raise}
+use Rattle.effects.specs.Tests.{asState, goesBy, jumpsBy, opensBy, innerBy, targetMain, depth-fits, targetOk, depthOk, leaveOk, nextState, targetState, Fits, target-tests, next-tests, depth-tests, leave-tests, passes-are}
 use Rattle.scan.specs.Marks.{unreached, stateIn, putIn, getD-any}
 use Rattle.code.specs.Heads.{HeadIs, headBytes}
 use Rattle.code.specs.declared.Head.{Head}
@@ -39,9 +42,16 @@ pub record StateIs (m : List ℕ) (q : ℕ) (r : Numbers) : Type 0 where
   pub ptr-small : r .ptr < 65536
   pub inner-small : r .inner < 65536
 
+pub record OuterIs (m : List ℕ) (s : State) (r : Numbers) : Type 0 where
+  pub is : asState r ≡ outer (stateIn m) s
+  pub inner-small : r .inner < 65536
+
 -- a handler's place: none, or one that the map has
 abbrev pub Held : List ℕ → ℕ → Type 0
 Held m h = (h ≡ 65535) ⊎ ((3 * h + 2 < length m) × (h < 4096))
+
+pub held-as : (m : List ℕ) (q : ℕ) (r : Numbers) → StateIs m q r → Held m (stateIn m q .inner) → Held m (r .inner)
+held-as m q r I h = rw (ap (λ (s : State). s .inner) (I .is)) h
 
 -- what a shape passes on
 abbrev pub shapePasses : Shape → ℕ → ℕ → State → State → List (ℕ × State)
@@ -221,27 +231,48 @@ onFault : ℕ → Step (List ℕ) → Step (List ℕ)
 onFault zero s = s
 onFault (suc n) s = bad (suc n)
 
+-- the tests in their order, and the numbers of the refusals
+faults : (t u g n d l : Bool) (r : Step (List ℕ)) →
+    need t 5 (need (u && (if g then n else true)) 6 (need d 7 (need l 8 r)))
+    ≡ onFault (if t then (if u then (if g then (if n then 0 else 6) else 0) else 6) else 5) (onFault (if d then (if l then 0 else 8) else 7) r)
+unfolding onFault
+faults false u g n d l r = refl
+faults true false g n d l r = refl
+faults true true true false d l r = refl
+faults true true true true false l r = refl
+faults true true true true true false r = refl
+faults true true true true true true r = refl
+faults true true false n false l r = refl
+faults true true false n true false r = refl
+faults true true false n true true r = refl
+
+early-inv : (t u g n : Bool) → _≡_ {A = ℕ} (if t then (if u then (if g then (if n then 0 else 6) else 0) else 6) else 5) 0 →
+    (t ≡ true) × (u ≡ true) × (g ≡ true → n ≡ true)
+early-inv false u g n e = absurd (omega arith)
+early-inv true false g n e = absurd (omega arith)
+early-inv true true true false e = absurd (omega arith)
+early-inv true true true true e = (refl, refl, λ z. refl)
+early-inv true true false n e = (refl, refl, λ z. absurd (true≢false (sym z)))
+
+late-inv : (d l : Bool) → _≡_ {A = ℕ} (if d then (if l then 0 else 8) else 7) 0 → d ≡ true
+late-inv false l e = absurd (omega arith)
+late-inv true l e = refl
+
 -- taking an instruction by its shape
 module _ (f table m : List ℕ) (k h e p : ℕ) (H : Here f table m k h e p) where
-  sh : Shape
+  abbrev sh : Shape
   sh = shapeOf f p (insAt f p)
-
-  byShape : State → State → Step (List ℕ)
-  byShape s o =
-      need (targetOk (sh .way) (sh .known) (ownIn m h e (sh .target)) (sh .target) p) 5
-      (need (isSetIn s && (if goesBy (sh .way) then ownIn m h e (after f p) else true)) 6
-      (need (depthOk sh s o (byteAt f (h + 5)) (byteAt f (h + 6))) 7
-      (need (leaveOk (sh .way) s (byteAt f (h + 3)) (byteAt f (h + 4))) 8
-      (passAllIn (shapePasses sh p (after f p) s o) m))))
 
   head-bytes : (mostMain f (procAt f p) ≡ byteAt f (h + 5)) × (mostPtr f (procAt f p) ≡ byteAt f (h + 6))
       × (resultsMain f (procAt f p) ≡ byteAt f (h + 3)) × (resultsPtr f (procAt f p) ≡ byteAt f (h + 4))
   unfolding mostMain mostPtr resultsMain resultsPtr
   head-bytes = rw (H .site .head) (refl, refl, refl, refl)
 
-  shape-takes : (s o : State) → takeInWith f p (insAt f p) m s o ≡ byShape s o
-  unfolding takeInWith byShape sh
-  shape-takes s o =
+  by-shape : (s o : State) →
+      takeInWith f p (insAt f p) m s o
+      ≡ onFault (earlyOf m sh h e p (after f p) s) (onFault (lateOf f h sh s o) (passAllIn (shapePasses sh p (after f p) s o) m))
+  unfolding takeInWith earlyOf lateOf
+  by-shape s o =
       let i = insAt f p in
       let b = head-bytes in
       rw (
@@ -254,6 +285,121 @@ module _ (f table m : List ℕ) (k h e p : ℕ) (H : Here f table m k h e p) whe
         b .1,
         b .2,
         b .3,
-        H .owns (shapeOf f p i .target),
-        H .owns (after f p),
+        ← H .owns (sh .target),
+        ← H .owns (after f p),
       )
+      (faults (targetOk (sh .way) (sh .known) (ownIn m h e (sh .target)) (sh .target) p) (isSetIn s) (goesBy (sh .way)) (ownIn m h e (after f p))
+      (depthOk sh s o (byteAt f (h + 5)) (byteAt f (h + 6))) (leaveOk (sh .way) s (byteAt f (h + 3)) (byteAt f (h + 4)))
+      (passAllIn (shapePasses sh p (after f p) s o) m))
+
+  -- what the function has in hand: the shape, the next place, the state and its handler's
+  module _ (sh′ : Shape) (q : ℕ) (s o : Numbers) (sh-is : sh′ ≡ sh) (q-is : q ≡ after f p) (s-is : StateIs m p s) where
+    from-state : (t : Step (List ℕ)) → ((o′ : State) → o′ ≡ outer (stateIn m) (asState s) → takeInWith f p (insAt f p) m (asState s) o′ ≡ t) → t ≡ takeIn f p m
+    unfolding takeIn
+    from-state t g = sym (g (outer (stateIn m) (asState s)) refl) ∙ rw (s-is .is)
+
+    fault-bad : (n : ℕ) (r : Step (List ℕ)) → (n ≡ 0 → ⊥) → onFault n r ≡ takeAns n m
+    unfolding onFault
+    fault-bad zero r z = absurd (z refl)
+    fault-bad (suc n) r z = refl
+
+    pub take-first : (n : ℕ) → n ≡ earlyOf m sh′ h e p q (asState s) → (n ≡ 0 → ⊥) → takeAns n m ≡ takeIn f p m
+    take-first n n-is z =
+        from-state (takeAns n m) (λ o′ w.
+        by-shape (asState s) o′ ∙ ap (λ (x : ℕ). onFault x (onFault (lateOf f h sh (asState s) o′) (passAllIn (shapePasses sh p (after f p) (asState s) o′) m))) (sym n-here)
+        ∙ fault-bad n _ z)
+      where
+        n-here : n ≡ earlyOf m sh h e p (after f p) (asState s)
+        n-here = n-is ∙ rw (sh-is, q-is)
+
+    module _ (o-is : OuterIs m (asState s) o) (first : earlyOf m sh′ h e p q (asState s) ≡ 0) where
+      first-here : earlyOf m sh h e p (after f p) (asState s) ≡ 0
+      first-here = rw (← sh-is, ← q-is) first
+
+      go-late : takeIn f p m ≡ onFault (lateOf f h sh (asState s) (asState o)) (passAllIn (shapePasses sh p (after f p) (asState s) (asState o)) m)
+      unfolding onFault
+      go-late =
+          sym (from-state _ (λ o′ w.
+          by-shape (asState s) o′ ∙ rw (first-here, w, ← o-is .is)))
+
+      late-here : (n : ℕ) → n ≡ lateOf f h sh′ (asState s) (asState o) → n ≡ lateOf f h sh (asState s) (asState o)
+      late-here n n-is = n-is ∙ rw sh-is
+
+      pub take-second : (n : ℕ) → n ≡ lateOf f h sh′ (asState s) (asState o) → (n ≡ 0 → ⊥) → takeAns n m ≡ takeIn f p m
+      take-second n n-is z =
+          sym (go-late ∙ ap (λ (x : ℕ). onFault x (passAllIn (shapePasses sh p (after f p) (asState s) (asState o)) m)) (sym (late-here n n-is)) ∙ fault-bad n _ z)
+
+      module _ (second : lateOf f h sh′ (asState s) (asState o) ≡ 0) where
+        go-pass : takeIn f p m ≡ passAllIn (shapePasses sh′ p q (asState s) (asState o)) m
+        unfolding onFault
+        go-pass = go-late ∙ rw (← sh-is, second, ← q-is)
+
+        pub take-done : (m′ : List ℕ) → passAns true m′ ≡ passAllIn (shapePasses sh′ p q (asState s) (asState o)) m → takeAns 0 m′ ≡ takeIn f p m
+        take-done m′ w = w ∙ sym go-pass
+
+        pub take-nine : (m′ : List ℕ) → passAns false m′ ≡ passAllIn (shapePasses sh′ p q (asState s) (asState o)) m → takeAns 9 m′ ≡ takeIn f p m
+        take-nine m′ w = w ∙ sym go-pass
+
+        tests-first : (targetOk (sh′ .way) (sh′ .known) (ownIn m h e (sh′ .target)) (sh′ .target) p ≡ true) × (isSetIn (asState s) ≡ true)
+            × (goesBy (sh′ .way) ≡ true → ownIn m h e q ≡ true)
+        unfolding earlyOf
+        tests-first = early-inv _ _ _ _ first
+
+        tests-second : depthOk sh′ (asState s) (asState o) (byteAt f (h + 5)) (byteAt f (h + 6)) ≡ true
+        unfolding lateOf
+        tests-second =
+            late-inv (depthOk sh′ (asState s) (asState o) (byteAt f (h + 5)) (byteAt f (h + 6)))
+            (leaveOk (sh′ .way) (asState s) (byteAt f (h + 3)) (byteAt f (h + 4))) second
+
+        below : s .main < 65534
+        below = ltb-true (s .main) 65534 (tests-first .1)
+
+        fits : Fits sh′ (asState s)
+        fits =
+            depth-fits sh′ (asState s) (asState o) (byteAt f (h + 5)) (byteAt f (h + 6)) (H .bytes (h + 5)) (H .bytes (h + 6)) (s-is .main-small)
+            tests-second
+
+        place : (r : ℕ) → ownIn m h e r ≡ true → (3 * r + 2 < length m) × (r < 4096)
+        place r w =
+            let a = H .own-low r (sym (H .owns r) ∙ w) in
+            let b = H .long in
+            let c = H .site .small in
+            (omega arith, omega arith)
+
+        inner-by : (w : Way) → innerBy w p (s .inner) (o .inner) < 65536
+        inner-by Next = s-is .inner-small
+        inner-by Jump = s-is .inner-small
+        inner-by Branch = s-is .inner-small
+        inner-by Keep = s-is .inner-small
+        inner-by Open = let a = H .site .inside in let b = H .site .small in let c = after-above f p in omega arith
+        inner-by Close = o-is .inner-small
+        inner-by Return = s-is .inner-small
+        inner-by Raise = s-is .inner-small
+
+        main-by : (w : Way) (x : ℕ) → x < 65536 → targetMain w (s .main) x (s .main + 1) < 65536
+        main-by Next x l = s-is .main-small
+        main-by Jump x l = s-is .main-small
+        main-by Branch x l = l
+        main-by Keep x l = s-is .main-small
+        main-by Open x l = let a = below in omega arith
+        main-by Close x l = s-is .main-small
+        main-by Return x l = s-is .main-small
+        main-by Raise x l = s-is .main-small
+
+        target-own : jumpsBy (sh′ .way) ≡ true → ownIn m h e (sh′ .target) ≡ true
+        unfolding targetOk
+        target-own j =
+            let t : (if ownIn m h e (sh′ .target) then (if opensBy (sh′ .way) then leb (suc p) (sh′ .target) else true) else false) ≡ true = rw j at (tests-first .0) in
+            if-both (ownIn m h e (sh′ .target)) _ t .0
+
+        pub take-room : Room m sh′ p q s o
+        unfolding nextState targetState
+        take-room =
+            record {
+              fits = fits;
+              next-in = λ g.
+                let w = place q (tests-first .2 g) in
+                record { inside = w .0; low = w .1; main-small = fits .main-small; ptr-small = fits .ptr-small; inner-small = inner-by (sh′ .way) };
+              target-in = λ j.
+                let w = place (sh′ .target) (target-own j) in
+                record { inside = w .0; low = w .1; main-small = main-by (sh′ .way) _ (fits .main-small); ptr-small = s-is .ptr-small; inner-small = s-is .inner-small } }

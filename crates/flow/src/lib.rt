@@ -11,7 +11,7 @@ ghost use Rattle.effects.specs.Tests.{asState};
 ghost use Rattle.scan.specs.Marks.{stateIn};
 ghost use Rattle.flow.specs.Own.{ownIn};
 ghost use Rattle.flow.specs.Takes.{passOneIn, passAllIn, takeIn};
-ghost use Rattle.flow.specs.Faults.{passAns, takeAns, StateIs, Held, Target, Room, shapePasses, earlyOf, lateOf, Here, endIn};
+ghost use Rattle.flow.specs.Faults.{passAns, takeAns, StateIs, OuterIs, Held, Target, Room, shapePasses, earlyOf, lateOf, Here, endIn};
 ghost use Rattle.flow.specs.Flowing.{Begun, Flowed};
 
 use effects::Shape;
@@ -59,7 +59,7 @@ fn own(m: &[u16], head: usize, end: usize, q: usize) -> bool
 // The state at the innermost open handler.
 fn outer_of(m: &[u16], s: State) -> State
     requires { ⌜ Held (now m) (s .inner) ⌝ }
-    ensures { λ r. ⌜ asState r ≡ outer (stateIn (now (m .entry))) (asState s) ⌝ }
+    ensures { λ r. ⌜ OuterIs (now (m .entry)) (asState s) r ⌝ }
 {
     let inner = s.inner;
     if inner == NONE {

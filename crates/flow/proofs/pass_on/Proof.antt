@@ -29,13 +29,13 @@ same-length : tie.Need-same-length
 same-length c = search needs
 
 returns : tie.Need-returns
-returns c = on-both (c .before .before .before .before .before .before .before .before .before .before .before .before .before .before .before .args .m .now) (c .before .before .before .before .before .before .before .before .before .before .before .before .before .before .before .args .sh) (c .before .before .before .before .before .before .before .before .before .before .before .before .before .before .before .args .p) (c .before .before .before .before .before .before .before .before .before .before .before .before .before .before .before .args .next) (asState (c .before .before .before .before .before .before .before .before .before .before .before .before .before .before .before .args .s)) (asState (c .before .before .before .before .before .before .before .before .before .before .before .before .before .before .before .args .o)) _ _ _ _ (c .before .before .before .before .before .before .before .before .before .before .before .before .before .next-state .ensures) (c .before .before .before .before .before .before .before .before .before .before .before .before .target-state .ensures) (c .before .before .before .before .before .before .before .before .before .before .goes .ensures) (c .before .before .before .before .before .before .before .before .before .before .before .jumps-to .ensures) _ _ _ (c .before .before .before .before .before .before .before .before .before .if1 .taken) (rw (c .before .before .before .before .if2 .taken) at (c .before .before .before .before .before .before .before .pass-one .ensures)) (c .before .before .pass-target .ensures)
+returns c = on-both (c .before .before .before .before .before .before .before .before .before .before .before .before .before .before .before .args .m .now) (c .before .before .before .before .before .before .before .before .before .before .before .before .before .before .before .args .sh) (c .before .before .before .before .before .before .before .before .before .before .before .before .before .before .before .args .p) (c .before .before .before .before .before .before .before .before .before .before .before .before .before .before .before .args .next) (asState (c .before .before .before .before .before .before .before .before .before .before .before .before .before .before .before .args .s)) (asState (c .before .before .before .before .before .before .before .before .before .before .before .before .before .before .before .args .o)) (asState (c .before .before .before .before .before .before .before .before .before .before .before .before .before .next-state .result)) (asState (c .before .before .before .before .before .before .before .before .before .before .before .before .target-state .result)) (c .before .before .before .before .before .before .before .before .before .before .goes .result) (c .before .before .before .before .before .before .before .before .before .before .before .jumps-to .result) (c .before .before .before .before .before .before .before .before .before .before .before .before .before .next-state .ensures) (c .before .before .before .before .before .before .before .before .before .before .before .before .target-state .ensures) (c .before .before .before .before .before .before .before .before .before .before .goes .ensures) (c .before .before .before .before .before .before .before .before .before .before .before .jumps-to .ensures) (c .before .before .before .before .before .before .before .pass-one .last .0) (c .before .before .pass-target .last .0) (c .before .before .pass-target .result) (c .before .before .before .before .before .before .before .before .before .if1 .taken) (rw (c .before .before .before .before .if2 .taken) at (c .before .before .before .before .before .before .before .pass-one .ensures)) (c .before .before .pass-target .ensures)
 
 same-length-2 : tie.Need-same-length-2
 same-length-2 c = search needs
 
 returns-2 : tie.Need-returns-2
-returns-2 c = on-bad (c .before .before .before .before .before .before .before .before .before .before .before .args .m .now) (c .before .before .before .before .before .before .before .before .before .before .before .args .sh) (c .before .before .before .before .before .before .before .before .before .before .before .args .p) (c .before .before .before .before .before .before .before .before .before .before .before .args .next) (asState (c .before .before .before .before .before .before .before .before .before .before .before .args .s)) (asState (c .before .before .before .before .before .before .before .before .before .before .before .args .o)) _ _ _ _ (c .before .before .before .before .before .before .before .before .before .next-state .ensures) (c .before .before .before .before .before .before .before .before .target-state .ensures) (c .before .before .before .before .before .before .goes .ensures) (c .before .before .before .before .before .before .before .jumps-to .ensures) _ (c .before .before .before .before .before .if1 .taken) (rw (c .if2 .left) at (c .before .before .before .pass-one .ensures))
+returns-2 c = on-bad (c .before .before .before .before .before .before .before .before .before .before .before .args .m .now) (c .before .before .before .before .before .before .before .before .before .before .before .args .sh) (c .before .before .before .before .before .before .before .before .before .before .before .args .p) (c .before .before .before .before .before .before .before .before .before .before .before .args .next) (asState (c .before .before .before .before .before .before .before .before .before .before .before .args .s)) (asState (c .before .before .before .before .before .before .before .before .before .before .before .args .o)) (asState (c .before .before .before .before .before .before .before .before .before .next-state .result)) (asState (c .before .before .before .before .before .before .before .before .target-state .result)) (c .before .before .before .before .before .before .goes .result) (c .before .before .before .before .before .before .before .jumps-to .result) (c .before .before .before .before .before .before .before .before .before .next-state .ensures) (c .before .before .before .before .before .before .before .before .target-state .ensures) (c .before .before .before .before .before .before .goes .ensures) (c .before .before .before .before .before .before .before .jumps-to .ensures) (c .before .before .before .pass-one .last .0) (c .before .before .before .before .before .if1 .taken) (rw (c .if2 .left) at (c .before .before .before .pass-one .ensures))
 
 pass-target-requires-2 : tie.Need-pass-target-requires-2
 pass-target-requires-2 c κs = λ z. fit-as _ _ _ _ (c .before .before .before .before .target-state .ensures) (c .before .before .before .before .before .before .before .pre .target-in (sym (c .before .before .before .jumps-to .ensures) ∙ z))
@@ -44,7 +44,7 @@ same-length-3 : tie.Need-same-length-3
 same-length-3 c = search needs
 
 returns-3 : tie.Need-returns-3
-returns-3 c = on-target (c .before .before .before .before .before .before .before .before .before .before .args .m .now) (c .before .before .before .before .before .before .before .before .before .before .args .sh) (c .before .before .before .before .before .before .before .before .before .before .args .p) (c .before .before .before .before .before .before .before .before .before .before .args .next) (asState (c .before .before .before .before .before .before .before .before .before .before .args .s)) (asState (c .before .before .before .before .before .before .before .before .before .before .args .o)) _ _ _ _ (c .before .before .before .before .before .before .before .before .next-state .ensures) (c .before .before .before .before .before .before .before .target-state .ensures) (c .before .before .before .before .before .goes .ensures) (c .before .before .before .before .before .before .jumps-to .ensures) _ _ (c .before .before .before .before .if1 .left) (c .before .before .pass-target2 .ensures)
+returns-3 c = on-target (c .before .before .before .before .before .before .before .before .before .before .args .m .now) (c .before .before .before .before .before .before .before .before .before .before .args .sh) (c .before .before .before .before .before .before .before .before .before .before .args .p) (c .before .before .before .before .before .before .before .before .before .before .args .next) (asState (c .before .before .before .before .before .before .before .before .before .before .args .s)) (asState (c .before .before .before .before .before .before .before .before .before .before .args .o)) (asState (c .before .before .before .before .before .before .before .before .next-state .result)) (asState (c .before .before .before .before .before .before .before .target-state .result)) (c .before .before .before .before .before .goes .result) (c .before .before .before .before .before .before .jumps-to .result) (c .before .before .before .before .before .before .before .before .next-state .ensures) (c .before .before .before .before .before .before .before .target-state .ensures) (c .before .before .before .before .before .goes .ensures) (c .before .before .before .before .before .before .jumps-to .ensures) (c .before .before .pass-target2 .last .0) (c .before .before .pass-target2 .result) (c .before .before .before .before .if1 .left) (c .before .before .pass-target2 .ensures)
 
 pub pass-on-spec : {M : Type 1} → statement M
 pass-on-spec =
