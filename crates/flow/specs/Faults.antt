@@ -398,8 +398,9 @@ module _ (f table m : List ℕ) (k h e p : ℕ) (H : Here f table m k h e p) whe
             record {
               fits = fits;
               next-in = λ g.
-                let w = place q (tests-first .2 g) in
-                record { inside = w .0; low = w .1; main-small = fits .main-small; ptr-small = fits .ptr-small; inner-small = inner-by (sh′ .way) };
+                  let w = place q (tests-first .2 g) in
+                  record { inside = w .0; low = w .1; main-small = fits .main-small; ptr-small = fits .ptr-small; inner-small = inner-by (sh′ .way) };
               target-in = λ j.
-                let w = place (sh′ .target) (target-own j) in
-                record { inside = w .0; low = w .1; main-small = main-by (sh′ .way) _ (fits .main-small); ptr-small = s-is .ptr-small; inner-small = s-is .inner-small } }
+                  let w = place (sh′ .target) (target-own j) in
+                  record { inside = w .0; low = w .1; main-small = main-by (sh′ .way) _ (fits .main-small); ptr-small = s-is .ptr-small; inner-small = s-is .inner-small };
+            }

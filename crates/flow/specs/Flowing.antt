@@ -82,7 +82,8 @@ module _ (f m₀ table : List ℕ) (k : ℕ) (B : Begun f m₀ table k) where
         good = B .good;
         so-far = rw (e, ← B .placed .count);
         in-proc = inl refl;
-        low = omega arith }
+        low = omega arith;
+      }
 
   -- the first head stands at place 0
   head-zero : headOf f 0 ≡ 0
@@ -100,20 +101,24 @@ module _ (f m₀ table : List ℕ) (k : ℕ) (B : Begun f m₀ table k) where
         few = B .placed .few;
         heads = B .placed .heads;
         none = λ n l. past n (rw (B .placed .count) at l);
-        whole = λ n. at n (decLt n (procs f)) }
+        whole = λ n. at n (decLt n (procs f));
+      }
     where
       beyond : (l : List ℕ) (n : ℕ) → length l ≤ n → getD l n 0 ≡ 0
       beyond [] n w = refl
       beyond (x ∷ l) zero w = absurd (omega arith)
       beyond (x ∷ l) (suc n) w = beyond l n (omega arith)
+
       past : (n : ℕ) → procs f ≤ n → headOf f n ≡ 0
       past n l = unfold headOf procs in beyond (heads f) n l
+
       room : (g : ℕ) → Mem g (heads f) → g + 6 < length f
       room g i =
           let w = head-in f (B .places) (B .records) g i in
           let a = walk-above f 0 (B .places) (walk f (B .places) (B .records)) g (w .0) .1 in
           let b = after-head f (B .places) (B .records) g (w .1) in
           omega arith
+
       at : (n : ℕ) → Dec (n < procs f) → headOf f n + 6 < length f
       at n (yes l) = room (headOf f n) (unfold headOf procs in getD-in (heads f) n 0 l)
       at n (no l) =
@@ -136,13 +141,13 @@ module _ (f m₀ table : List ℕ) (k : ℕ) (B : Begun f m₀ table k) where
     unfolding isHead headOf procs endOf
     flowing-head z e′ ee =
         let heads-are : drop c (heads f) ≡ p ∷ select (isHead f) (next-is .1 .0) =
-            F .to-come ∙ ap (select (isHead f)) (next-is .1 .2) ∙ rw (eq-eqb (byteAt f p) 240 z) in
+        F .to-come ∙ ap (select (isHead f)) (next-is .1 .2) ∙ rw (eq-eqb (byteAt f p) 240 z) in
         let a : length (heads f) - c ≡ suc (length (select (isHead f) (next-is .1 .0))) = sym (length-drop c (heads f)) ∙ ap length heads-are in
         let at : getD (heads f) c 0 ≡ p =
-            let w : c ≡ c + 0 = omega arith in
-            ap (λ (n : ℕ). getD (heads f) n 0) w ∙ sym (getD-drop c (heads f) 0 0) ∙ ap (λ (l : List ℕ). getD l 0 0) heads-are in
+        let w : c ≡ c + 0 = omega arith in
+        ap (λ (n : ℕ). getD (heads f) n 0) w ∙ sym (getD-drop c (heads f) 0 0) ∙ ap (λ (l : List ℕ). getD l 0 0) heads-are in
         let skip : ins f (F .rest) ≡ ins f (next-is .1 .0) =
-            ap (ins f) (next-is .1 .2) ∙ rw (eq-eqb (byteAt f p) 240 z) in
+        ap (ins f) (next-is .1 .2) ∙ rw (eq-eqb (byteAt f p) 240 z) in
         let up = after-above f p in
         record {
           rest = next-is .1 .0;
@@ -159,7 +164,8 @@ module _ (f m₀ table : List ℕ) (k : ℕ) (B : Begun f m₀ table k) where
             ee ∙ ends (c + 1) (B .placed .count) (decLt (c + 1) k),
             omega arith,
           );
-          low = flowing-inside }
+          low = flowing-inside;
+        }
       where
         ends : (n : ℕ) → k ≡ length (heads f) → Dec (n < k) → endIn table k n (length f) ≡ (if ltb n (length (heads f)) then getD (heads f) n 0 else length f)
         ends n q (yes l) =
@@ -207,9 +213,11 @@ module _ (f m₀ table : List ℕ) (k : ℕ) (B : Begun f m₀ table k) where
             where
               some-left : c < procs f → 0 < length (drop c (heads f))
               some-left l = rw (length-drop c (heads f)) (unfold procs in omega arith)
+
               first-in : (l : List ℕ) → 0 < length l → Mem (getD l 0 0) l
               first-in [] z = absurd (omega arith)
               first-in (x ∷ l) z = inl refl
+
               far : p ≤ headOf f c → isHead f (headOf f c) ≡ true → Dec (p ≡ headOf f c) → p < headOf f c
               far a t (yes z) = absurd (other (rw z (eqb-true (byteAt f (headOf f c)) 240 (unfold isHead in t))))
               far a t (no z) = omega arith
@@ -236,17 +244,21 @@ module _ (f m₀ table : List ℕ) (k : ℕ) (B : Begun f m₀ table k) where
         where
           G : Good f (F .known) m
           G = F .good
+
           in? : member p (instructions f) ≡ true
           in? = in-member p (instructions f) flowing-ins
+
           place : (q : ℕ) → isSet (stateAt (F .known) q) ≡ true → (3 * q + 2 < length m) × (q < 4096)
           place q h =
               let a = instruction-below f (B .places) (B .records) q (member-in q (instructions f) (G .shows .only q h)) in
               let l = G .shows .long in
               let b = B .few in
               (omega arith, omega arith)
+
           to-held : (q : ℕ) → (q ≡ none) ⊎ (isSet (stateAt (F .known) q) ≡ true) → Held m q
           to-held q (inl z) = inl z
           to-held q (inr z) = inr (place q z)
+
           go : (t : Bool) → isSet (stateAt (F .known) p) ≡ t → Held m (stateIn m p .inner)
           go true z = rw (in-set f (F .known) m G p in? below z) (to-held (stateAt (F .known) p .inner) (G .fits p z .held))
           go false z = rw (in-unset f (F .known) m G p in? below z) (inl refl)
@@ -261,12 +273,13 @@ module _ (f m₀ table : List ℕ) (k : ℕ) (B : Begun f m₀ table k) where
             site = record { inside = flowing-inside; small = B .few; head = I .head ∙ ap (headOf f) (sym proc-is); low = I .above };
             long = F .good .shows .long;
             owns = λ q.
-              rw (I .head, I .end ∙ ap (endOf f) (sym z))
-              (own-alike f (B .places) (B .records) (F .known) m (F .good .shows) p (c - 1) proc-is n-low head-zero q);
+                rw (I .head, I .end ∙ ap (endOf f) (sym z))
+                (own-alike f (B .places) (B .records) (F .known) m (F .good .shows) p (c - 1) proc-is n-low head-zero q);
             end-low = rw (I .end) (end-low f (B .places) (B .records) c);
             own-low = λ q w. instruction-below f (B .places) (B .records) q (own-in f p q w .0);
             held = held;
-            bytes = B .bytes }
+            bytes = B .bytes;
+          }
 
       abbrev Took : Step Known → ℕ → List ℕ → Type 0
       Took s r m′ = ((r ≡ 0) × ((k′ : Known) × (s ≡ next k′) × Good f k′ m′)) ⊎ ((s ≡ bad r) × (r ≡ 0 → ⊥))
@@ -311,7 +324,8 @@ module _ (f m₀ table : List ℕ) (k : ℕ) (B : Begun f m₀ table k) where
                 good = y .1 .2;
                 so-far = come ∙ rw (y .1 .1);
                 in-proc = inr (I .one, I .head, I .end, omega (arith, after-above f p));
-                low = flowing-inside }
+                low = flowing-inside;
+              }
 
   -- the end of the file: the part is the finished map
   by-states : (k : Known) (n p : ℕ) (m : List ℕ) → length m ≡ 3 * n → ((q : ℕ) → q < n → stateIn m q ≡ stateAt k (p + q)) → m ≡ mapFrom k n p

@@ -83,8 +83,10 @@ module _ (f ps : List ℕ) (e : recordsOf f ≡ starts ps) where
     where
       r : Rising (heads f)
       r = heads-rise f ps e
+
       low : suc n ≤ upTo q (heads f)
       low = upTo-least q (heads f) n r l a
+
       go : Dec (suc n < length (heads f)) → upTo q (heads f) - 1 ≡ n
       go (yes h) =
           let c : q < getD (heads f) (suc n) 0 = rw (lt-ltb (suc n) (length (heads f)) h) at b in
@@ -134,8 +136,10 @@ module _ (f ps : List ℕ) (e : recordsOf f ≡ starts ps) where
       where
         not-head : q ≡ headOf f n → ⊥
         not-head z = ins-in f ps e q (member-in q (instructions f) w) .1 (rw z (head-kind n n-low))
+
         far : (q < headOf f n) ⊎ (endOf f (suc n) ≤ q) → eqb (procAt f q) n ≡ false
         far a = ne-eqb (procAt f q) n (beside n q n-low h a (inr (omega arith)))
+
         go : Dec (headOf f n < q) → Dec (q < endOf f (suc n)) → (if ltb (headOf f n) q then (if ltb q (endOf f (suc n)) then true else false) else false) ≡ eqb (procAt f q) n
         go (yes a) (yes b) = rw (lt-ltb (headOf f n) q a, lt-ltb q (endOf f (suc n)) b) (sym (eq-eqb (procAt f q) n (between n q n-low (omega arith) b)))
         go (yes a) (no b) = rw (lt-ltb (headOf f n) q a, le-ltb q (endOf f (suc n)) (omega arith)) (sym (far (inr (omega arith))))

@@ -90,7 +90,8 @@ good-put f k m q s G in? low F =
     let h = byte-set s (F .main-byte) in
     record {
       shows = put-shows f k m (G .shows) q s h in? low;
-      fits = λ r e. at r e (eqb r q) refl }
+      fits = λ r e. at r e (eqb r q) refl;
+    }
   where
     at : (r : ℕ) → isSet (if eqb r q then s else stateAt k r) ≡ true → (t : Bool) → eqb r q ≡ t →
         Fit ((q, s) ∷ k) (if eqb r q then s else stateAt k r)
@@ -122,12 +123,15 @@ all-alike f (o ∷ os) k m G S = go (isSet (stateAt k (o .0))) refl (λ k′ m�
   where
     in? : member (o .0) (instructions f) ≡ true
     in? = S .0 .0
+
     both : (t : Bool) → (isSet (stateAt k (o .0)) ≡ t) → isSetIn (stateIn m (o .0)) ≡ t
     both t h = set-alike f k m G (o .0) in? (S .0 .1) ∙ h
+
     same? : (b : Bool) → Good f k m → ((k′ : Known) (m′ : List ℕ) → Good f k′ m′ → Sendable f k′ os → Alike f (passAll os k′) (passAllIn os m′)) →
         Alike f (andThen (meet true b k ((o .0, o .1) ∷ k)) (λ k′. passAll os k′)) (andThen (meet true b m (putIn m (o .0) (o .1))) (λ m′. passAllIn os m′))
     same? true G r = r k m G (S .1)
     same? false G r = refl
+
     go : (t : Bool) → isSet (stateAt k (o .0)) ≡ t →
         ((k′ : Known) (m′ : List ℕ) → Good f k′ m′ → Sendable f k′ os → Alike f (passAll os k′) (passAllIn os m′)) →
         Alike f (passAll (o ∷ os) k) (passAllIn (o ∷ os) m)
@@ -173,8 +177,7 @@ module _ (f ps : List ℕ) (B : Bytes f) (e : recordsOf f ≡ starts ps) (k : Kn
         (member q (instructions f) ≡ true) × (q < length f) × Fit k u
     unfolding mostMain mostPtr
     fit-moved q u M =
-        let F = G .fits p set? in
-        (
+        let F = G .fits p set? in (
           in-member q (instructions f) (M .there),
           instruction-below f ps e q (M .there),
           record { main-byte = small-main (M .depths); ptr-byte = small-ptr (M .depths); held = inner-held (M .inner) },
@@ -183,9 +186,11 @@ module _ (f ps : List ℕ) (B : Bytes f) (e : recordsOf f ≡ starts ps) (k : Kn
         small-main : Depths f p (stateAt k p) u → u .main < 256
         small-main (inl d) = omega (arith, d .0, B (headOf f (procAt f p) + 5))
         small-main (inr d) = omega (arith, d .0, G .fits p set? .main-byte)
+
         small-ptr : Depths f p (stateAt k p) u → u .ptr < 256
         small-ptr (inl d) = omega (arith, d .1, B (headOf f (procAt f p) + 6))
         small-ptr (inr d) = omega (arith, d .1, G .fits p set? .ptr-byte)
+
         inner-held : Inner f p (stateAt k p) (outer (stateAt k) (stateAt k p)) u → (u .inner ≡ none) ⊎ (isSet (stateAt k (u .inner)) ≡ true)
         inner-held (inl z) = rw z (G .fits p set? .held)
         inner-held (inr (inl z)) = inr (rw (z .0) set?)
@@ -214,7 +219,8 @@ module _ (f ps : List ℕ) (B : Bytes f) (e : recordsOf f ≡ starts ps) (k : Kn
           targets = rw z (all-true (targetTests f p i) t);
           nexts = rw z (all-true (nextTests f p i) n);
           depths = rw z (all-true (depthTests f p i (stateAt k p) o) d);
-          leaves = rw z (all-true (leaveTests f p i (stateAt k p)) l) })
+          leaves = rw z (all-true (leaveTests f p i (stateAt k p)) l);
+        })
         q u (rw z w)))))))))
 
   unknown-alike : (p : ℕ) (i : Ins) (s s′ o o′ : State) → isSet s ≡ false → isSetIn s′ ≡ false → Alike f (takeWith f p i k s o) (takeInWith f p i m s′ o′)
@@ -227,6 +233,7 @@ module _ (f ps : List ℕ) (B : Bytes f) (e : recordsOf f ≡ starts ps) (k : Kn
     where
       in? : member p (instructions f) ≡ true
       in? = in-member p (instructions f) h
+
       go : (t : Bool) → isSet (stateAt k p) ≡ t →
           Alike f (takeWith f p (insAt f p) k (stateAt k p) (outer (stateAt k) (stateAt k p)))
           (takeInWith f p (insAt f p) m (stateIn m p) (outer (stateIn m) (stateIn m p)))

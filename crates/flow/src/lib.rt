@@ -13,7 +13,6 @@ ghost use Rattle.flow.specs.Own.{ownIn};
 ghost use Rattle.flow.specs.Takes.{passOneIn, passAllIn, takeIn};
 ghost use Rattle.flow.specs.Faults.{passAns, takeAns, StateIs, OuterIs, Held, Target, Room, shapePasses, earlyOf, lateOf, Here, endIn};
 ghost use Rattle.flow.specs.Flowing.{Begun, Flowed};
-
 use effects::Shape;
 use effects::State;
 use model::Answer;
@@ -161,7 +160,15 @@ fn late(file: &[u8], head: usize, sh: Shape, s: State, o: State) -> u32
 }
 
 // The instruction at p of the procedure between head and end, of k procedures: the number of its refusal, or 0.
-fn take(file: &[u8], table: &[usize; 64], m: &mut [u16], k: usize, head: usize, end: usize, p: usize) -> u32
+fn take(
+    file: &[u8],
+    table: &[usize; 64],
+    m: &mut [u16],
+    k: usize,
+    head: usize,
+    end: usize,
+    p: usize,
+) -> u32
     requires { ⌜ Here (now file) (now table) (now m) k head end p ⌝ }
     ensures { λ r. ⌜ takeAns r (now (m .exit)) ≡ takeIn (now (file .entry)) p (now (m .entry)) ⌝ }
 {
