@@ -9,7 +9,7 @@ use mathlib.Core.Path.{_≡_, refl, subst, _∙_}
 use lib.Dec.{T, eqb, eqb→eq}
 use borrow.Author.Tests.{ne-eqb}
 use Rattle.model.specs.Choice.{if_then_else_, member}
-use Rattle.model.specs.File.{bodies, bodyOf, Ins, raise, insOf}
+use Rattle.model.specs.File.{bodies, bodyOf, raise, insOf}
 
 -- what holds at each of n numbers from a on
 abbrev pub Each : (ℕ → Type 0) → ℕ → ℕ → Type 0
@@ -75,7 +75,7 @@ ranged =
     map (λ n. n ∷ [])
     (1 ∷ 2 ∷ 3 ∷ 4 ∷ 5 ∷ 6 ∷ 20 ∷ 21 ∷ 22 ∷ 23 ∷ 30 ∷ 31 ∷ 32 ∷ 33 ∷ [])
 
--- the others, but 162
+-- the others, but 162, as the arms of `shape_at` have them, the last arm first
 abbrev pub single : List (List ℕ)
 single =
     (141 ∷ 143 ∷ [])

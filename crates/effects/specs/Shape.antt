@@ -1,10 +1,10 @@
 -- What the checker looks at in an instruction, as one record: the shape of an instruction. Every rule of the flow is a test on it
 -- (`Tests`).
 use Prim.Native.Nat.{ℕ, suc}
-use mathlib.Core.Bool.{Bool, true, false}
+use mathlib.Core.Bool.{Bool, true}
 use mathlib.Core.List.{List}
 use lib.Dec.{leb}
-use Rattle.model.specs.File.{Side, onMain, onPtr, Basic, local, assign, field, setField, form, literal, nil, root, setRoot, retract, binary, samePtr, unary, Ins, basic, jump, branch, branchKeep, call, return, enter, exit, raise, procs}
+use Rattle.model.specs.File.{onMain, onPtr, Basic, local, assign, field, setField, form, literal, nil, root, setRoot, retract, binary, samePtr, unary, Ins, basic, jump, branch, branchKeep, call, return, enter, exit, raise, procs}
 use Rattle.model.specs.Checker.{Effect, effect, basicEffect, effectOf, handlerAt}
 use Rattle.effects.specs.declared.Way.{Way}
 use Rattle.effects.specs.declared.Way.the-variants.{Next, Jump, Branch, Keep, Open, Close, Return, Raise}

@@ -1,7 +1,7 @@
 -- `effects::shape_at`: in each arm the code is known, and the definition computes.
 use borrow.Author.Needs.{needs}
 use mathlib.Core.Logic.{⊎-elim, inl, inr}
-use mathlib.Core.Path.{_∙_, ap, sym, refl}
+use mathlib.Core.Path.{ap}
 use native.Mathlib.Omega.{arith}
 use Rattle.model.specs.File.{bodies, bodyOf, byteAt, insOf, insAt}
 use Rattle.model.specs.Checker.{basicEffect, handlerAt}
