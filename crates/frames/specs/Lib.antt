@@ -1,2 +1,3 @@
 pub mod Registers
 pub mod Places
+pub mod Records

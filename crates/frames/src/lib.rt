@@ -86,3 +86,28 @@ pub fn put_regs(bytes: &mut [u8], regs: Regs)
     put_word(bytes, 5, regs.ctop);
     put_word(bytes, 6, regs.state);
 }
+
+// A control record's words.
+pub struct Record {
+    pub w0: usize,
+    pub w1: usize,
+    pub w2: usize,
+    pub w3: usize,
+    pub w4: usize,
+}
+
+// What the records above tell of the frame that is still to be read.
+pub struct Reading {
+    pub inner: usize, // its innermost handler that is still to be read, or 65,535
+    pub place: usize, // its place, or the call that it waits for
+    pub frame: usize, // the number of its record
+    pub handler: usize, // the number of the nearest handler's record
+    pub main: usize, // its main base
+    pub ptr: usize, // its pointer base
+}
+
+// What a record tells: the verdict, or what to read on with.
+pub enum Below {
+    End(bool),
+    On(Reading),
+}
