@@ -11,7 +11,7 @@ use lib.Dec.{ltb, leb, eqb}
 use lib.ListN.{length, getD}
 use borrow.Author.Tests.{lt-ltb, le-ltb, le-leb, lt-leb, eq-eqb, ne-eqb, eqb-true}
 use Rattle.model.specs.Choice.{if_then_else_, Mem, member}
-use Rattle.model.specs.File.{byteAt, headKind, isHead, select, after, instructions, heads, procs, headOf, procAt, upTo, recordsOf, starts, mostMain}
+use Rattle.model.specs.File.{byteAt, headKind, isHead, select, after, instructions, heads, procs, headOf, procAt, upTo, recordsOf, starts, paramsMain, paramsPtr, resultsMain, resultsPtr, mostMain, mostPtr}
 use Rattle.model.specs.Checker.{none, State}
 use Rattle.model.specs.Sound.{mainAt, isIns}
 use Rattle.model.specs.Calls.{pass, verdictOf}
@@ -64,6 +64,12 @@ upTo-less q (h ∷ hs) (suc j) r l b = go (leb h q) (upTo-less q hs j (r .1) (om
     go : (t : Bool) → upTo q hs ≤ j → (if t then suc (upTo q hs) else upTo q hs) ≤ suc j
     go true w = omega arith
     go false w = omega arith
+
+-- past a list's end
+pub beyond : (l : List ℕ) (i d : ℕ) → length l ≤ i → getD l i d ≡ d
+beyond [] i d h = refl
+beyond (x ∷ l) zero d h = absurd (omega arith)
+beyond (x ∷ l) (suc i) d h = beyond l i d (omega arith)
 
 -- where procedure n ends: at the next head, or with the file
 unfoldable pub endOf : List ℕ → ℕ → ℕ
@@ -211,7 +217,12 @@ module _ (f map table : List ℕ) (k : ℕ) (R : Ready f map table k) (n p : ℕ
 
 -- the head of procedure n
 pub record HeadFor (f : List ℕ) (n : ℕ) (v : Head) : Type 0 where
-  pub is : v ≡ procHead f n
+  pub a-is : v .a ≡ paramsMain f n
+  pub b-is : v .b ≡ paramsPtr f n
+  pub r-is : v .r ≡ resultsMain f n
+  pub s-is : v .s ≡ resultsPtr f n
+  pub x-is : v .x ≡ mostMain f n
+  pub y-is : v .y ≡ mostPtr f n
   pub a-small : v .a < 256
   pub b-small : v .b < 256
   pub x-small : v .x < 256
@@ -226,11 +237,28 @@ module _ (f map table : List ℕ) (k : ℕ) (R : Ready f map table k) (n : ℕ) 
       omega arith
 
   pub head-for : (v : Head) → n < k → HeadIs f (getD table n 0) v → HeadFor f n v
+  unfolding procHead
   head-for v h H =
+      let e = H .is ∙ head-of f n (getD table n 0) (head-here f map table k R n 0 h) in
       record {
-        is = H .is ∙ head-of f n (getD table n 0) (head-here f map table k R n 0 h);
+        a-is = ap (λ (x : Head). x .a) e;
+        b-is = ap (λ (x : Head). x .b) e;
+        r-is = ap (λ (x : Head). x .r) e;
+        s-is = ap (λ (x : Head). x .s) e;
+        x-is = ap (λ (x : Head). x .x) e;
+        y-is = ap (λ (x : Head). x .y) e;
         a-small = H .a-small;
         b-small = H .b-small;
         x-small = H .x-small;
         y-small = H .y-small;
       }
+
+  pub in-proc-below : (p : ℕ) → inProc f n p ≡ true → n < k
+  in-proc-below p e =
+      let a = in-proc-true f n p e in
+      let b = proc-below f (R .places) (R .records) p in
+      let c = R .placed .count in
+      omega arith
+
+  pub some-proc : 0 < k
+  some-proc = let a = procs-some f (R .places) (R .records) in let c = R .placed .count in omega arith

@@ -10,7 +10,7 @@ use lib.Dec.{leb, eqb}
 use lib.ListN.{length}
 use borrow.Author.Tests.{eq-eqb, ne-eqb, eqb-true}
 use Rattle.model.specs.Choice.{if_then_else_, Test, same, most, yes?, all, all-true}
-use Rattle.model.specs.File.{operand, procAt, paramsMain, paramsPtr, mostMain, mostPtr}
+use Rattle.model.specs.File.{byteAt, operand, procAt, paramsMain, paramsPtr, mostMain, mostPtr}
 use Rattle.model.specs.Checker.{none}
 use Rattle.model.specs.Control.{Rec, rec, recAt, down}
 use Rattle.model.specs.Sound.{mainAt, ptrAt, innerAt, isIns, isCall, callSize, frameTests, firstTests, callerTests, handlerTests, stack?}
@@ -18,6 +18,7 @@ use Rattle.frames.specs.declared.Record.{Record}
 use Rattle.frames.specs.declared.Reading.{Reading}
 use Rattle.frames.specs.declared.Below.{Below}
 use Rattle.frames.specs.declared.Below.the-variants.{End, On}
+use Rattle.frames.specs.Tests.{Fails, test, fails, last}
 use Rattle.frames.specs.Places.{inProc, in-proc-true}
 
 abbrev pub asRec : Record → Rec
@@ -34,6 +35,14 @@ pub record Near (s : Reading) : Type 0 where
   pub main : s .main < 4294967296
   pub ptr : s .ptr < 4294967296
 
+-- what is known where a record is read: the lengths of the main and the pointer stack are in 01's range
+pub record Reads (lm lp left : ℕ) (w : Record) (s : Reading) : Type 0 where
+  pub near : Near s
+  pub main : lm ≤ 4096
+  pub ptr : lp ≤ 4096
+  pub few : left < 4294967296
+  pub small : w .w3 < 4294967296
+
 -- the tests of a record on top of `left` others. A frame's procedure is taken to be the one that its record names, or n
 abbrev pub frameList : List ℕ → ℕ → ℕ → ℕ → Record → Reading → List Test
 frameList f lm lp left w s =
@@ -48,29 +57,119 @@ frameList f lm lp left w s =
 unfoldable pub frameOk : List ℕ → ℕ → ℕ → ℕ → Record → Reading → Bool
 frameOk f lm lp left w s = all (frameList f lm lp left w s)
 
-unfoldable pub firstOk : ℕ → Record → Reading → Bool
-firstOk n w s =
-    all (same n 0 ∷ same (s .main) 0 ∷ same (s .ptr) 0 ∷ same (w .w3) 0 ∷ same (w .w4) 0 ∷ same (s .handler) 0 ∷ [])
+abbrev pub firstList : ℕ → Record → Reading → List Test
+firstList n w s =
+    same n 0 ∷ same (s .main) 0 ∷ same (s .ptr) 0 ∷ same (w .w3) 0 ∷ same (w .w4) 0 ∷ same (s .handler) 0 ∷ []
 
-unfoldable pub callerOk : List ℕ → List ℕ → ℕ → Record → Reading → ℕ → Bool
-callerOk f map n w s c =
-    all
-    (yes? (isCall f c)
+unfoldable pub firstOk : ℕ → Record → Reading → Bool
+firstOk n w s = all (firstList n w s)
+
+abbrev pub callerList : List ℕ → List ℕ → ℕ → Record → Reading → ℕ → List Test
+callerList f map n w s c =
+    same (byteAt f c) 72
     ∷ same (operand f c) n
     ∷ same (w .w3) (c + callSize)
     ∷ most (mainAt map c) (s .main + paramsMain f n)
     ∷ most (ptrAt map c) (s .ptr + paramsPtr f n)
-    ∷ [])
+    ∷ []
 
-unfoldable pub handlerOk : List ℕ → ℕ → Record → Reading → Bool
-handlerOk map left w s =
-    all
-    (same (s .handler) (left + 1)
+unfoldable pub callerOk : List ℕ → List ℕ → ℕ → Record → Reading → ℕ → Bool
+callerOk f map n w s c = all (callerList f map n w s c)
+
+abbrev pub handlerList : List ℕ → ℕ → Record → Reading → List Test
+handlerList map left w s =
+    same (s .handler) (left + 1)
     ∷ same (w .w0) (s .inner)
     ∷ same (w .w1) (s .main + mainAt map (s .inner))
     ∷ same (w .w2) (s .ptr + ptrAt map (s .inner))
     ∷ same (w .w3) (s .frame)
-    ∷ [])
+    ∷ []
+
+unfoldable pub handlerOk : List ℕ → ℕ → Record → Reading → Bool
+handlerOk map left w s = all (handlerList map left w s)
+
+-- these one after the other
+module _ (w : Record) (s : Reading) where
+  module _ (f : List ℕ) (lm lp left : ℕ) where
+    pub frame-fails : (k : ℕ) → Fails (test k (frameList f lm lp left w s)) → false ≡ frameOk f lm lp left w s
+    unfolding frameOk
+    frame-fails k h = fails k (frameList f lm lp left w s) h
+
+    pub frame-last : (d : ℕ) → inProc f (w .w2) (s .place) ≡ true → s .frame ≡ left + 1 → w .w0 ≡ s .main → w .w1 ≡ s .ptr →
+        s .main + mostMain f (w .w2) ≤ lm → d ≡ s .ptr + mostPtr f (w .w2) → leb d lp ≡ frameOk f lm lp left w s
+    unfolding frameOk
+    frame-last d a b c h i e =
+        last
+        (yes? (inProc f (w .w2) (s .place))
+        ∷ same (s .frame) (left + 1)
+        ∷ same (w .w0) (s .main)
+        ∷ same (w .w1) (s .ptr)
+        ∷ most (s .main + mostMain f (w .w2)) lm
+        ∷ [])
+        (most (s .ptr + mostPtr f (w .w2)) lp)
+        (leb d lp)
+        (ap (λ (x : ℕ). leb x lp) e)
+        (a, (b, (c, (h, (i, tt)))))
+
+    pub frame-in : frameOk f lm lp left w s ≡ true → inProc f (w .w2) (s .place) ≡ true
+    unfolding frameOk
+    frame-in e = all-true (frameList f lm lp left w s) e .0
+
+    -- the bases of a frame that fits are small
+    pub frame-fits : frameOk f lm lp left w s ≡ true → (s .main ≤ lm) × (s .ptr ≤ lp)
+    unfolding frameOk
+    frame-fits e = let h = all-true (frameList f lm lp left w s) e .1 .1 .1 .1 in (omega arith, omega arith)
+
+  pub first-fails : (n k : ℕ) → Fails (test k (firstList n w s)) → false ≡ firstOk n w s
+  unfolding firstOk
+  first-fails n k h = fails k (firstList n w s) h
+
+  pub first-last : (n : ℕ) → n ≡ 0 → s .main ≡ 0 → s .ptr ≡ 0 → w .w3 ≡ 0 → w .w4 ≡ 0 → eqb (s .handler) 0 ≡ firstOk n w s
+  unfolding firstOk
+  first-last n a b c h i =
+      last (same n 0 ∷ same (s .main) 0 ∷ same (s .ptr) 0 ∷ same (w .w3) 0 ∷ same (w .w4) 0 ∷ []) (same (s .handler) 0) (eqb (s .handler) 0)
+      refl
+      (a, (b, (c, (h, (i, tt)))))
+
+  module _ (f map : List ℕ) (n c : ℕ) where
+    pub caller-fails : (k : ℕ) → Fails (test k (callerList f map n w s c)) → false ≡ callerOk f map n w s c
+    unfolding callerOk
+    caller-fails k h = fails k (callerList f map n w s c) h
+
+    pub caller-last : (d e : ℕ) → byteAt f c ≡ 72 → operand f c ≡ n → w .w3 ≡ c + callSize → mainAt map c ≤ s .main + paramsMain f n →
+        d ≡ ptrAt map c → e ≡ s .ptr + paramsPtr f n → leb d e ≡ callerOk f map n w s c
+    unfolding callerOk
+    caller-last d e a b h i x y =
+        last
+        (same (byteAt f c) 72
+        ∷ same (operand f c) n
+        ∷ same (w .w3) (c + callSize)
+        ∷ most (mainAt map c) (s .main + paramsMain f n)
+        ∷ [])
+        (most (ptrAt map c) (s .ptr + paramsPtr f n))
+        (leb d e)
+        (λ j. leb (x j) (y j))
+        (a, (b, (h, (i, tt))))
+
+  module _ (map : List ℕ) (left : ℕ) where
+    pub handler-fails : (k : ℕ) → Fails (test k (handlerList map left w s)) → false ≡ handlerOk map left w s
+    unfolding handlerOk
+    handler-fails k h = fails k (handlerList map left w s) h
+
+    pub handler-last : s .handler ≡ left + 1 → w .w0 ≡ s .inner → w .w1 ≡ s .main + mainAt map (s .inner) →
+        w .w2 ≡ s .ptr + ptrAt map (s .inner) → eqb (w .w3) (s .frame) ≡ handlerOk map left w s
+    unfolding handlerOk
+    handler-last a b c h =
+        last
+        (same (s .handler) (left + 1)
+        ∷ same (w .w0) (s .inner)
+        ∷ same (w .w1) (s .main + mainAt map (s .inner))
+        ∷ same (w .w2) (s .ptr + ptrAt map (s .inner))
+        ∷ [])
+        (same (w .w3) (s .frame))
+        (eqb (w .w3) (s .frame))
+        refl
+        (a, (b, (c, (h, tt))))
 
 abbrev pub told : Below → (Reading → Bool) → Bool
 told (End t) k = t
@@ -127,8 +226,7 @@ module _ (f map : List ℕ) (lm lp : ℕ) (rs : List Rec) (left : ℕ) (count : 
       go false u e = refl
 
   own-proc : frameOk f lm lp left w s ≡ true → procAt f (s .place) ≡ w .w2
-  unfolding frameOk
-  own-proc e = sym (in-proc-true f (w .w2) (s .place) (all-true (frameList f lm lp left w s) e .0))
+  own-proc e = sym (in-proc-true f (w .w2) (s .place) (frame-in w s f lm lp left e))
 
   -- what follows a frame's own tests
   abbrev frame-rest : ℕ → Bool
@@ -139,37 +237,80 @@ module _ (f map : List ℕ) (lm lp : ℕ) (rs : List Rec) (left : ℕ) (count : 
 
   module _ (bare : s .inner ≡ none) where
     stack-frame : stackOf f map lm lp (asRec w ∷ rs) s ≡ (if frameOk f lm lp left w s then frame-rest (procAt f (s .place)) else false)
-    unfolding stackOf stack? firstOk callerOk
+    unfolding stackOf stack? firstOk callerOk isCall
     stack-frame =
         rw (eq-eqb (s .inner) none bare)
         (λ i. if sym frame-alike i then frame-rest (procAt f (s .place)) else false)
 
-    pub frame-no : frameOk f lm lp left w s ≡ false → stackOf f map lm lp (asRec w ∷ rs) s ≡ false
-    frame-no e = stack-frame ∙ rw e
+    pub told-frame : frameOk f lm lp left w s ≡ false → Told f map lm lp rs w s (End false)
+    told-frame e = record { is = stack-frame ∙ rw e; near = tt }
 
     module _ (e : frameOk f lm lp left w s ≡ true) where
       frame-yes : stackOf f map lm lp (asRec w ∷ rs) s ≡ frame-rest (w .w2)
       frame-yes = stack-frame ∙ rw e (ap frame-rest (own-proc e))
 
-      pub frame-first : s .frame ≡ 1 → stackOf f map lm lp (asRec w ∷ rs) s ≡ firstOk (w .w2) w s
-      frame-first h = frame-yes ∙ rw (eq-eqb (s .frame) 1 h)
+      pub told-first : (r : Bool) → s .frame ≡ 1 → r ≡ firstOk (w .w2) w s → Told f map lm lp rs w s (End r)
+      told-first r h d = record { is = frame-yes ∙ rw (eq-eqb (s .frame) 1 h) (sym d); near = tt }
 
-      pub caller-no : (s .frame ≡ 1 → ⊥) → callerOk f map (w .w2) w s calls ≡ false → stackOf f map lm lp (asRec w ∷ rs) s ≡ false
-      caller-no h d =
-          frame-yes ∙ rw (ne-eqb (s .frame) 1 h, d)
+      module _ (later : s .frame ≡ 1 → ⊥) (c : ℕ) (c-is : c ≡ w .w3 - callSize) where
+        pub told-call : callerOk f map (w .w2) w s c ≡ false → Told f map lm lp rs w s (End false)
+        told-call h =
+            let d : callerOk f map (w .w2) w s calls ≡ false = rw c-is at h in
+            record { is = frame-yes ∙ rw (ne-eqb (s .frame) 1 later, d); near = tt }
 
-      pub caller-on : (s .frame ≡ 1 → ⊥) → callerOk f map (w .w2) w s calls ≡ true →
-          stackOf f map lm lp (asRec w ∷ rs) s ≡ stackOf f map lm lp rs (caller (w .w2))
-      caller-on h d =
-          frame-yes ∙ rw (ne-eqb (s .frame) 1 h, d)
+        pub told-caller : (t i j : ℕ) → callerOk f map (w .w2) w s c ≡ true → t ≡ innerAt map c → i ≡ s .main + paramsMain f (w .w2) - mainAt map c →
+            j ≡ s .ptr + paramsPtr f (w .w2) - ptrAt map c → Near (reading t c (w .w4) (s .handler) i j) →
+            Told f map lm lp rs w s (On (reading t c (w .w4) (s .handler) i j))
+        told-caller t i j h et ei ej near =
+            let d : callerOk f map (w .w2) w s calls ≡ true = rw c-is at h in
+            record {
+              is = frame-yes ∙ rw (ne-eqb (s .frame) 1 later, d, et, ei, ej, c-is);
+              near = near;
+            }
 
   module _ (held : s .inner ≡ none → ⊥) where
     stack-handler : stackOf f map lm lp (asRec w ∷ rs) s ≡ (if handlerOk map left w s then stackOf f map lm lp rs outside else false)
     unfolding stackOf stack? handlerOk
     stack-handler = rw (ne-eqb (s .inner) none held, above)
 
-    pub handler-no : handlerOk map left w s ≡ false → stackOf f map lm lp (asRec w ∷ rs) s ≡ false
-    handler-no e = stack-handler ∙ rw e
+    pub told-handler : handlerOk map left w s ≡ false → Told f map lm lp rs w s (End false)
+    told-handler e = record { is = stack-handler ∙ rw e; near = tt }
 
-    pub handler-on : handlerOk map left w s ≡ true → stackOf f map lm lp (asRec w ∷ rs) s ≡ stackOf f map lm lp rs outside
-    handler-on e = stack-handler ∙ rw e
+    pub told-outside : (t : ℕ) → handlerOk map left w s ≡ true → t ≡ innerAt map (s .inner) → t < 4294967296 → Near s →
+        Told f map lm lp rs w s (On (reading t (s .place) (s .frame) (w .w4) (s .main) (s .ptr)))
+    told-outside t e et small N =
+        record {
+          is = stack-handler ∙ rw (e, et);
+          near = record { inner = small; place = N .place; main = N .main; ptr = N .ptr };
+        }
+
+-- the records that are left
+down-length : (l : List ℕ) (n : ℕ) → length (down l n) ≡ n
+down-length l zero = refl
+down-length l (suc n) = ap suc (down-length l n)
+
+module _ (f map : List ℕ) (lm lp : ℕ) (l : List ℕ) (count left : ℕ) (top s : Reading)
+    (so-far : stackOf f map lm lp (down l count) top ≡ stackOf f map lm lp (down l left) s) where
+  pub read-none : left ≤ 0 → false ≡ stackOf f map lm lp (down l count) top
+  unfolding stackOf stack?
+  read-none h = let e : left ≡ 0 = omega arith in sym (so-far ∙ ap (λ (n : ℕ). stackOf f map lm lp (down l n) s) e)
+
+  module _ (w : Record) (r : Below) (some : 0 < left) (w-is : RecordIs l (left - 1) w)
+      (tells : (rs : List Rec) → length rs ≡ left - 1 → Told f map lm lp rs w s r) where
+    read : stackOf f map lm lp (down l count) top ≡ told r (stackOf f map lm lp (down l (left - 1)))
+    read =
+        let e : left ≡ suc (left - 1) = omega arith in
+        so-far
+        ∙ ap (λ (n : ℕ). stackOf f map lm lp (down l n) s) e
+        ∙ ap (λ (v : Rec). stackOf f map lm lp (v ∷ down l (left - 1)) s) (sym (w-is .is))
+        ∙ tells (down l (left - 1)) (down-length l (left - 1)) .is
+
+    pub read-end : (t : Bool) → r ≡ End t → t ≡ stackOf f map lm lp (down l count) top
+    read-end t e = sym (read ∙ ap (λ (b : Below). told b (stackOf f map lm lp (down l (left - 1)))) e)
+
+    pub read-on : (s′ : Reading) → r ≡ On s′ →
+        Near s′ × (stackOf f map lm lp (down l count) top ≡ stackOf f map lm lp (down l (left - 1)) s′)
+    read-on s′ e = (
+      rw e at (tells (down l (left - 1)) (down-length l (left - 1)) .near),
+      read ∙ ap (λ (b : Below). told b (stackOf f map lm lp (down l (left - 1)))) e,
+    )

@@ -81,11 +81,12 @@ module _ (b : List ℕ) (long : length b ≡ registerBytes) (small : (i : ℕ) �
           let two : 4 * i + 2 ≡ suc (suc (4 * i)) = omega arith in
           let three : 4 * i + 3 ≡ suc (suc (suc (4 * i))) = omega arith in
           rw (add-one (4 * i), two, three)
-          (simp
-          (drop-cons b (4 * i) 0 (omega arith),
-          drop-cons b (suc (4 * i)) 0 (omega arith),
-          drop-cons b (suc (suc (4 * i))) 0 (omega arith),
-          drop-cons b (suc (suc (suc (4 * i)))) 0 (omega arith)))
+          (simp (
+            drop-cons b (4 * i) 0 (omega arith),
+            drop-cons b (suc (4 * i)) 0 (omega arith),
+            drop-cons b (suc (suc (4 * i))) 0 (omega arith),
+            drop-cons b (suc (suc (suc (4 * i)))) 0 (omega arith),
+          ))
 
   more : (x : List ℕ) (i : ℕ) → i < 7 → x ≡ take (4 * i) b → x ++ bytesOf (wordFrom b i) ≡ take (4 * i + 4) b
   more x i h e = (λ j. e j ++ word-back i h j) ∙ sym (take-add (4 * i) 4 b)
