@@ -10,10 +10,11 @@ use lib.Dec.{leb, eqb}
 use lib.ListN.{length, getD, drop}
 use lib.Seq.{drop-cons}
 use borrow.Author.Tests.{eq-eqb, ne-eqb}
-use Rattle.model.specs.Choice.{if_then_else_, Test, same, most, yes?, holds, all, All}
+use Rattle.model.specs.Choice.{if_then_else_, Test, same, most, yes?, all, all-true}
 use Rattle.model.specs.File.{resultsMain, resultsPtr}
-use Rattle.model.specs.Control.{Machine, machine, Rec, recordWords, recAt, down, records}
-use Rattle.model.specs.Sound.{mainAt, ptrAt, innerAt, stack?, zeros, stackTests, runningTests, finishedTests, sound?}
+use Rattle.model.specs.Heap.{objectsOf}
+use Rattle.model.specs.Control.{Machine, recordWords, down, records}
+use Rattle.model.specs.Sound.{mainAt, ptrAt, innerAt, zeros, pointers, stackTests, runningTests, finishedTests, sound?}
 use Rattle.model.specs.declared.Regs.{Regs}
 use Rattle.frames.specs.declared.Reading.{Reading}
 use Rattle.frames.specs.Tests.{Fails, test, fails, last, all-both}
@@ -83,6 +84,24 @@ done-last f r d a b c h i e =
 unfoldable pub restOk : Machine → Bool
 restOk m = all (stackTests m)
 
+pub rest-fails : (m : Machine) (k : ℕ) → Fails (test k (stackTests m)) → false ≡ restOk m
+unfolding restOk
+rest-fails m k h = fails k (stackTests m) h
+
+pub rest-last : (m : Machine) (r : Bool) → zeros (drop (m .regs .mtop) (m .main)) ≡ true → zeros (drop (m .regs .ptop) (m .ptr)) ≡ true →
+    zeros (drop (m .regs .ctop) (m .ctl)) ≡ true → r ≡ pointers (objectsOf (m .heap)) (m .ptr) → r ≡ restOk m
+unfolding restOk
+rest-last m r a b c e =
+    last
+    (yes? (zeros (drop (m .regs .mtop) (m .main)))
+    ∷ yes? (zeros (drop (m .regs .ptop) (m .ptr)))
+    ∷ yes? (zeros (drop (m .regs .ctop) (m .ctl)))
+    ∷ [])
+    (yes? (pointers (objectsOf (m .heap)) (m .ptr)))
+    r
+    e
+    (a, (b, (c, tt)))
+
 -- what the registers tell of the topmost frame
 unfoldable pub topmost : List ℕ → Regs → Reading
 topmost map r =
@@ -93,21 +112,50 @@ unfoldable pub recordsOk : List ℕ → List ℕ → Machine → Bool
 recordsOk f map m =
     stackOf f map (length (m .main)) (length (m .ptr)) (down (m .ctl) (records m)) (topmost map (m .regs))
 
-pub sound-is : (f map : List ℕ) (m : Machine) →
-    sound? f map m
-    ≡ (if eqb (m .regs .state) 1
-    then (if doneOk f (m .regs) then restOk m else false)
-    else (if topsOk map (m .regs) (length (m .ctl)) then (if recordsOk f map m then restOk m else false) else false))
-unfolding sound? runningTests finishedTests topsOk doneOk restOk recordsOk topmost stackOf
-sound-is f map m = go (eqb (m .regs .state) 1)
-  where
-    go : (t : Bool) →
-        (if t then all (finishedTests f m) else all (runningTests f map m))
-        ≡ (if t
-        then (if doneOk f (m .regs) then restOk m else false)
-        else (if topsOk map (m .regs) (length (m .ctl)) then (if recordsOk f map m then restOk m else false) else false))
-    go true = all-both (doneList f (m .regs)) (stackTests m)
-    go false = all-both (topsList map (m .regs) (length (m .ctl))) (yes? (recordsOk f map m) ∷ stackTests m)
+module _ (f map : List ℕ) (m : Machine) where
+  sound-is :
+      sound? f map m
+      ≡ (if eqb (m .regs .state) 1
+      then (if doneOk f (m .regs) then restOk m else false)
+      else (if topsOk map (m .regs) (length (m .ctl)) then (if recordsOk f map m then restOk m else false) else false))
+  unfolding sound? runningTests finishedTests topsOk doneOk restOk recordsOk topmost stackOf
+  sound-is = go (eqb (m .regs .state) 1)
+    where
+      go : (t : Bool) →
+          (if t then all (finishedTests f m) else all (runningTests f map m))
+          ≡ (if t
+          then (if doneOk f (m .regs) then restOk m else false)
+          else (if topsOk map (m .regs) (length (m .ctl)) then (if recordsOk f map m then restOk m else false) else false))
+      go true = all-both (doneList f (m .regs)) (stackTests m)
+      go false = all-both (topsList map (m .regs) (length (m .ctl))) (yes? (recordsOk f map m) ∷ stackTests m)
+
+  module _ (done : m .regs .state ≡ 1) where
+    pub sound-done : (r : Bool) → doneOk f (m .regs) ≡ true → r ≡ restOk m → r ≡ sound? f map m
+    sound-done r e h = h ∙ sym (sound-is ∙ rw (eq-eqb (m .regs .state) 1 done, e))
+
+    pub sound-undone : doneOk f (m .regs) ≡ false → false ≡ sound? f map m
+    sound-undone e = sym (sound-is ∙ rw (eq-eqb (m .regs .state) 1 done, e))
+
+  module _ (on : m .regs .state ≡ 1 → ⊥) where
+    pub sound-tops : topsOk map (m .regs) (length (m .ctl)) ≡ false → false ≡ sound? f map m
+    sound-tops e = sym (sound-is ∙ rw (ne-eqb (m .regs .state) 1 on, e))
+
+    module _ (t : topsOk map (m .regs) (length (m .ctl)) ≡ true) (top : Reading) (top-is : top ≡ topmost map (m .regs)) (b : Bool)
+        (b-is : b ≡ stackOf f map (length (m .main)) (length (m .ptr)) (down (m .ctl) (records m)) top) where
+      records-are : b ≡ recordsOk f map m
+      unfolding recordsOk
+      records-are = b-is ∙ ap (stackOf f map (length (m .main)) (length (m .ptr)) (down (m .ctl) (records m))) top-is
+
+      pub sound-records : b ≡ false → false ≡ sound? f map m
+      sound-records e = sym (sound-is ∙ rw (ne-eqb (m .regs .state) 1 on, t, sym records-are ∙ e))
+
+      pub sound-rest : (r : Bool) → b ≡ true → r ≡ restOk m → r ≡ sound? f map m
+      sound-rest r e h = h ∙ sym (sound-is ∙ rw (ne-eqb (m .regs .state) 1 on, t, sym records-are ∙ e))
+
+-- the control stack has room for the records
+pub tops-room : (map : List ℕ) (r : Regs) (n : ℕ) → topsOk map r n ≡ true → recordWords * (r .ctop / recordWords) ≤ n
+unfolding topsOk
+tops-room map r n e = let a = all-true (topsList map r n) e in let b = a .1 .0 in let c = a .1 .1 .0 in omega arith
 
 -- zeros from i on
 module _ (l : List ℕ) (i : ℕ) where
