@@ -1,0 +1,316 @@
+-- Control records from the top downwards: the tests with the procedure that the record names are the model's, since a frame whose
+-- place is an instruction of that procedure has it; and what one record leaves of `stack?` to the records below.
+use Prim.Native.Nat.{ℕ, zero, suc, _+_, _-_, _*_, _<_, _≤_}
+use mathlib.Core.Bool.{Bool, true, false, true≢false, _&&_}
+use mathlib.Core.List.{List, [], _∷_}
+use mathlib.Core.Path.{_≡_, refl, ap, sym, _∙_}
+use native.Mathlib.Numerals.{add-one}
+use native.Mathlib.Omega.{arith}
+use lib.Dec.{leb, eqb}
+use lib.ListN.{length}
+use borrow.Author.Tests.{eq-eqb, ne-eqb, eqb-true}
+use Rattle.model.specs.Choice.{if_then_else_, Test, same, most, yes?, all, all-true}
+use Rattle.model.specs.File.{byteAt, operand, procAt, paramsMain, paramsPtr, mostMain, mostPtr}
+use Rattle.model.specs.Checker.{none}
+use Rattle.model.specs.Control.{Rec, rec, recAt, down}
+use Rattle.model.specs.Sound.{mainAt, ptrAt, innerAt, isIns, isCall, callSize, frameTests, firstTests, callerTests, handlerTests, stack?}
+use Rattle.frames.specs.declared.Record.{Record}
+use Rattle.frames.specs.declared.Reading.{Reading}
+use Rattle.frames.specs.declared.Below.{Below}
+use Rattle.frames.specs.declared.Below.the-variants.{End, On}
+use Rattle.frames.specs.Tests.{Fails, test, fails, last}
+use Rattle.frames.specs.Places.{inProc, in-proc-true}
+
+abbrev pub asRec : Record → Rec
+asRec w = rec (w .w0) (w .w1) (w .w2) (w .w3) (w .w4)
+
+pub record RecordIs (l : List ℕ) (k : ℕ) (w : Record) : Type 0 where
+  pub is : asRec w ≡ recAt l k
+  pub small : w .w3 < 4294967296
+
+-- what indexes the map, or is added to, is a word
+pub record Near (s : Reading) : Type 0 where
+  pub inner : s .inner < 4294967296
+  pub place : s .place < 4294967296
+  pub main : s .main < 4294967296
+  pub ptr : s .ptr < 4294967296
+
+-- what is known where a record is read: the lengths of the main and the pointer stack are in 01's range
+pub record Reads (lm lp left : ℕ) (w : Record) (s : Reading) : Type 0 where
+  pub near : Near s
+  pub main : lm ≤ 4096
+  pub ptr : lp ≤ 4096
+  pub few : left < 4294967296
+  pub small : w .w3 < 4294967296
+
+-- the tests of a record on top of `left` others. A frame's procedure is taken to be the one that its record names, or n
+abbrev pub frameList : List ℕ → ℕ → ℕ → ℕ → Record → Reading → List Test
+frameList f lm lp left w s =
+    yes? (inProc f (w .w2) (s .place))
+    ∷ same (s .frame) (left + 1)
+    ∷ same (w .w0) (s .main)
+    ∷ same (w .w1) (s .ptr)
+    ∷ most (s .main + mostMain f (w .w2)) lm
+    ∷ most (s .ptr + mostPtr f (w .w2)) lp
+    ∷ []
+
+unfoldable pub frameOk : List ℕ → ℕ → ℕ → ℕ → Record → Reading → Bool
+frameOk f lm lp left w s = all (frameList f lm lp left w s)
+
+abbrev pub firstList : ℕ → Record → Reading → List Test
+firstList n w s =
+    same n 0 ∷ same (s .main) 0 ∷ same (s .ptr) 0 ∷ same (w .w3) 0 ∷ same (w .w4) 0 ∷ same (s .handler) 0 ∷ []
+
+unfoldable pub firstOk : ℕ → Record → Reading → Bool
+firstOk n w s = all (firstList n w s)
+
+abbrev pub callerList : List ℕ → List ℕ → ℕ → Record → Reading → ℕ → List Test
+callerList f map n w s c =
+    same (byteAt f c) 72
+    ∷ same (operand f c) n
+    ∷ same (w .w3) (c + callSize)
+    ∷ most (mainAt map c) (s .main + paramsMain f n)
+    ∷ most (ptrAt map c) (s .ptr + paramsPtr f n)
+    ∷ []
+
+unfoldable pub callerOk : List ℕ → List ℕ → ℕ → Record → Reading → ℕ → Bool
+callerOk f map n w s c = all (callerList f map n w s c)
+
+abbrev pub handlerList : List ℕ → ℕ → Record → Reading → List Test
+handlerList map left w s =
+    same (s .handler) (left + 1)
+    ∷ same (w .w0) (s .inner)
+    ∷ same (w .w1) (s .main + mainAt map (s .inner))
+    ∷ same (w .w2) (s .ptr + ptrAt map (s .inner))
+    ∷ same (w .w3) (s .frame)
+    ∷ []
+
+unfoldable pub handlerOk : List ℕ → ℕ → Record → Reading → Bool
+handlerOk map left w s = all (handlerList map left w s)
+
+-- these one after the other
+module _ (w : Record) (s : Reading) where
+  module _ (f : List ℕ) (lm lp left : ℕ) where
+    pub frame-fails : (k : ℕ) → Fails (test k (frameList f lm lp left w s)) → false ≡ frameOk f lm lp left w s
+    unfolding frameOk
+    frame-fails k h = fails k (frameList f lm lp left w s) h
+
+    pub frame-last : (d : ℕ) → inProc f (w .w2) (s .place) ≡ true → s .frame ≡ left + 1 → w .w0 ≡ s .main → w .w1 ≡ s .ptr →
+        s .main + mostMain f (w .w2) ≤ lm → d ≡ s .ptr + mostPtr f (w .w2) → leb d lp ≡ frameOk f lm lp left w s
+    unfolding frameOk
+    frame-last d a b c h i e =
+        last
+        (yes? (inProc f (w .w2) (s .place))
+        ∷ same (s .frame) (left + 1)
+        ∷ same (w .w0) (s .main)
+        ∷ same (w .w1) (s .ptr)
+        ∷ most (s .main + mostMain f (w .w2)) lm
+        ∷ [])
+        (most (s .ptr + mostPtr f (w .w2)) lp)
+        (leb d lp)
+        (ap (λ (x : ℕ). leb x lp) e)
+        (a, (b, (c, (h, (i, tt)))))
+
+    pub frame-in : frameOk f lm lp left w s ≡ true → inProc f (w .w2) (s .place) ≡ true
+    unfolding frameOk
+    frame-in e = all-true (frameList f lm lp left w s) e .0
+
+    -- the bases of a frame that fits are small
+    pub frame-fits : frameOk f lm lp left w s ≡ true → (s .main ≤ lm) × (s .ptr ≤ lp)
+    unfolding frameOk
+    frame-fits e = let h = all-true (frameList f lm lp left w s) e .1 .1 .1 .1 in (omega arith, omega arith)
+
+  pub first-fails : (n k : ℕ) → Fails (test k (firstList n w s)) → false ≡ firstOk n w s
+  unfolding firstOk
+  first-fails n k h = fails k (firstList n w s) h
+
+  pub first-last : (n : ℕ) → n ≡ 0 → s .main ≡ 0 → s .ptr ≡ 0 → w .w3 ≡ 0 → w .w4 ≡ 0 → eqb (s .handler) 0 ≡ firstOk n w s
+  unfolding firstOk
+  first-last n a b c h i =
+      last (same n 0 ∷ same (s .main) 0 ∷ same (s .ptr) 0 ∷ same (w .w3) 0 ∷ same (w .w4) 0 ∷ []) (same (s .handler) 0) (eqb (s .handler) 0)
+      refl
+      (a, (b, (c, (h, (i, tt)))))
+
+  module _ (f map : List ℕ) (n c : ℕ) where
+    pub caller-fails : (k : ℕ) → Fails (test k (callerList f map n w s c)) → false ≡ callerOk f map n w s c
+    unfolding callerOk
+    caller-fails k h = fails k (callerList f map n w s c) h
+
+    pub caller-last : (d e : ℕ) → byteAt f c ≡ 72 → operand f c ≡ n → w .w3 ≡ c + callSize → mainAt map c ≤ s .main + paramsMain f n →
+        d ≡ ptrAt map c → e ≡ s .ptr + paramsPtr f n → leb d e ≡ callerOk f map n w s c
+    unfolding callerOk
+    caller-last d e a b h i x y =
+        last
+        (same (byteAt f c) 72
+        ∷ same (operand f c) n
+        ∷ same (w .w3) (c + callSize)
+        ∷ most (mainAt map c) (s .main + paramsMain f n)
+        ∷ [])
+        (most (ptrAt map c) (s .ptr + paramsPtr f n))
+        (leb d e)
+        (λ j. leb (x j) (y j))
+        (a, (b, (h, (i, tt))))
+
+  module _ (map : List ℕ) (left : ℕ) where
+    pub handler-fails : (k : ℕ) → Fails (test k (handlerList map left w s)) → false ≡ handlerOk map left w s
+    unfolding handlerOk
+    handler-fails k h = fails k (handlerList map left w s) h
+
+    pub handler-last : s .handler ≡ left + 1 → w .w0 ≡ s .inner → w .w1 ≡ s .main + mainAt map (s .inner) →
+        w .w2 ≡ s .ptr + ptrAt map (s .inner) → eqb (w .w3) (s .frame) ≡ handlerOk map left w s
+    unfolding handlerOk
+    handler-last a b c h =
+        last
+        (same (s .handler) (left + 1)
+        ∷ same (w .w0) (s .inner)
+        ∷ same (w .w1) (s .main + mainAt map (s .inner))
+        ∷ same (w .w2) (s .ptr + ptrAt map (s .inner))
+        ∷ [])
+        (same (w .w3) (s .frame))
+        (eqb (w .w3) (s .frame))
+        refl
+        (a, (b, (c, (h, tt))))
+
+abbrev pub told : Below → (Reading → Bool) → Bool
+told (End t) k = t
+told (On s) k = k s
+
+abbrev pub NearBelow : Below → Type 0
+NearBelow (End t) = Unit {0}
+NearBelow (On s) = Near s
+
+abbrev pub reading : ℕ → ℕ → ℕ → ℕ → ℕ → ℕ → Reading
+reading t p n h i j = record { inner = t; place = p; frame = n; handler = h; main = i; ptr = j }
+
+unfoldable pub stackOf : List ℕ → List ℕ → ℕ → ℕ → List Rec → Reading → Bool
+stackOf f map lm lp rs s = stack? f map lm lp rs (s .inner) (s .place) (s .frame) (s .handler) (s .main) (s .ptr)
+
+-- what a record tells
+pub record Told (f map : List ℕ) (lm lp : ℕ) (rs : List Rec) (w : Record) (s : Reading) (r : Below) : Type 0 where
+  pub is : stackOf f map lm lp (asRec w ∷ rs) s ≡ told r (stackOf f map lm lp rs)
+  pub near : NearBelow r
+
+module _ (f map : List ℕ) (lm lp : ℕ) (rs : List Rec) (left : ℕ) (count : length rs ≡ left) (w : Record) (s : Reading) where
+  abbrev outside : Reading
+  outside = reading (innerAt map (s .inner)) (s .place) (s .frame) (w .w4) (s .main) (s .ptr)
+
+  abbrev calls : ℕ
+  calls = w .w3 - callSize
+
+  abbrev caller : ℕ → Reading
+  caller n =
+      reading (innerAt map calls) calls (w .w4) (s .handler) (s .main + paramsMain f n - mainAt map calls)
+      (s .ptr + paramsPtr f n - ptrAt map calls)
+
+  above : suc (length rs) ≡ left + 1
+  above = omega arith
+
+  frame-alike : frameOk f lm lp left w s ≡ all (frameTests f map lm lp (asRec w) rs (s .place) (s .frame) (s .main) (s .ptr))
+  unfolding frameOk inProc
+  frame-alike = rw above (go (isIns f (s .place)) (eqb (w .w2) (procAt f (s .place))) refl)
+    where
+      rest : ℕ → Bool
+      rest n = all (most (s .main + mostMain f n) lm ∷ most (s .ptr + mostPtr f n) lp ∷ [])
+
+      dead : (a b c : Bool) → false ≡ (if a then (if b then (if c then false else false) else false) else false)
+      dead true true true = refl
+      dead true true false = refl
+      dead true false c = refl
+      dead false b c = refl
+
+      go : (t u : Bool) → eqb (w .w2) (procAt f (s .place)) ≡ u →
+          (if t && u then (if eqb (s .frame) (left + 1) then (if eqb (w .w0) (s .main) then (if eqb (w .w1) (s .ptr) then rest (w .w2) else false) else false) else false) else false)
+          ≡ (if t then (if eqb (s .frame) (left + 1) then (if eqb (w .w0) (s .main) then (if eqb (w .w1) (s .ptr) then (if u then rest (procAt f (s .place)) else false) else false) else false) else false) else false)
+      go true true e = rw (eqb-true (w .w2) (procAt f (s .place)) e)
+      go true false e = dead (eqb (s .frame) (left + 1)) (eqb (w .w0) (s .main)) (eqb (w .w1) (s .ptr))
+      go false u e = refl
+
+  own-proc : frameOk f lm lp left w s ≡ true → procAt f (s .place) ≡ w .w2
+  own-proc e = sym (in-proc-true f (w .w2) (s .place) (frame-in w s f lm lp left e))
+
+  -- what follows a frame's own tests
+  abbrev frame-rest : ℕ → Bool
+  frame-rest n =
+      if eqb (s .frame) 1
+      then firstOk n w s
+      else (if callerOk f map n w s calls then stackOf f map lm lp rs (caller n) else false)
+
+  module _ (bare : s .inner ≡ none) where
+    stack-frame : stackOf f map lm lp (asRec w ∷ rs) s ≡ (if frameOk f lm lp left w s then frame-rest (procAt f (s .place)) else false)
+    unfolding stackOf stack? firstOk callerOk isCall
+    stack-frame =
+        rw (eq-eqb (s .inner) none bare)
+        (λ i. if sym frame-alike i then frame-rest (procAt f (s .place)) else false)
+
+    pub told-frame : frameOk f lm lp left w s ≡ false → Told f map lm lp rs w s (End false)
+    told-frame e = record { is = stack-frame ∙ rw e; near = tt }
+
+    module _ (e : frameOk f lm lp left w s ≡ true) where
+      frame-yes : stackOf f map lm lp (asRec w ∷ rs) s ≡ frame-rest (w .w2)
+      frame-yes = stack-frame ∙ rw e (ap frame-rest (own-proc e))
+
+      pub told-first : (r : Bool) → s .frame ≡ 1 → r ≡ firstOk (w .w2) w s → Told f map lm lp rs w s (End r)
+      told-first r h d = record { is = frame-yes ∙ rw (eq-eqb (s .frame) 1 h) (sym d); near = tt }
+
+      module _ (later : s .frame ≡ 1 → ⊥) (c : ℕ) (c-is : c ≡ w .w3 - callSize) where
+        pub told-call : callerOk f map (w .w2) w s c ≡ false → Told f map lm lp rs w s (End false)
+        told-call h =
+            let d : callerOk f map (w .w2) w s calls ≡ false = rw c-is at h in
+            record { is = frame-yes ∙ rw (ne-eqb (s .frame) 1 later, d); near = tt }
+
+        pub told-caller : (t i j : ℕ) → callerOk f map (w .w2) w s c ≡ true → t ≡ innerAt map c → i ≡ s .main + paramsMain f (w .w2) - mainAt map c →
+            j ≡ s .ptr + paramsPtr f (w .w2) - ptrAt map c → Near (reading t c (w .w4) (s .handler) i j) →
+            Told f map lm lp rs w s (On (reading t c (w .w4) (s .handler) i j))
+        told-caller t i j h et ei ej near =
+            let d : callerOk f map (w .w2) w s calls ≡ true = rw c-is at h in
+            record {
+              is = frame-yes ∙ rw (ne-eqb (s .frame) 1 later, d, et, ei, ej, c-is);
+              near = near;
+            }
+
+  module _ (held : s .inner ≡ none → ⊥) where
+    stack-handler : stackOf f map lm lp (asRec w ∷ rs) s ≡ (if handlerOk map left w s then stackOf f map lm lp rs outside else false)
+    unfolding stackOf stack? handlerOk
+    stack-handler = rw (ne-eqb (s .inner) none held, above)
+
+    pub told-handler : handlerOk map left w s ≡ false → Told f map lm lp rs w s (End false)
+    told-handler e = record { is = stack-handler ∙ rw e; near = tt }
+
+    pub told-outside : (t : ℕ) → handlerOk map left w s ≡ true → t ≡ innerAt map (s .inner) → t < 4294967296 → Near s →
+        Told f map lm lp rs w s (On (reading t (s .place) (s .frame) (w .w4) (s .main) (s .ptr)))
+    told-outside t e et small N =
+        record {
+          is = stack-handler ∙ rw (e, et);
+          near = record { inner = small; place = N .place; main = N .main; ptr = N .ptr };
+        }
+
+-- the records that are left
+down-length : (l : List ℕ) (n : ℕ) → length (down l n) ≡ n
+down-length l zero = refl
+down-length l (suc n) = ap suc (down-length l n)
+
+module _ (f map : List ℕ) (lm lp : ℕ) (l : List ℕ) (count left : ℕ) (top s : Reading)
+    (so-far : stackOf f map lm lp (down l count) top ≡ stackOf f map lm lp (down l left) s) where
+  pub read-none : left ≤ 0 → false ≡ stackOf f map lm lp (down l count) top
+  unfolding stackOf stack?
+  read-none h = let e : left ≡ 0 = omega arith in sym (so-far ∙ ap (λ (n : ℕ). stackOf f map lm lp (down l n) s) e)
+
+  module _ (w : Record) (r : Below) (some : 0 < left) (w-is : RecordIs l (left - 1) w)
+      (tells : (rs : List Rec) → length rs ≡ left - 1 → Told f map lm lp rs w s r) where
+    read : stackOf f map lm lp (down l count) top ≡ told r (stackOf f map lm lp (down l (left - 1)))
+    read =
+        let e : left ≡ suc (left - 1) = omega arith in
+        so-far
+        ∙ ap (λ (n : ℕ). stackOf f map lm lp (down l n) s) e
+        ∙ ap (λ (v : Rec). stackOf f map lm lp (v ∷ down l (left - 1)) s) (sym (w-is .is))
+        ∙ tells (down l (left - 1)) (down-length l (left - 1)) .is
+
+    pub read-end : (t : Bool) → r ≡ End t → t ≡ stackOf f map lm lp (down l count) top
+    read-end t e = sym (read ∙ ap (λ (b : Below). told b (stackOf f map lm lp (down l (left - 1)))) e)
+
+    pub read-on : (s′ : Reading) → r ≡ On s′ →
+        Near s′ × (stackOf f map lm lp (down l count) top ≡ stackOf f map lm lp (down l (left - 1)) s′)
+    read-on s′ e = (
+      rw e at (tells (down l (left - 1)) (down-length l (left - 1)) .near),
+      read ∙ ap (λ (b : Below). told b (stackOf f map lm lp (down l (left - 1)))) e,
+    )

@@ -1,0 +1,100 @@
+-- Registers as bytes: seven words stored one after the other are all the bytes, and 28 bytes that are read as words and stored again
+-- are the same, since the digits of a sum of four bytes are these.
+use Prim.Native.Nat.{ℕ, suc, _+_, _*_, _/_, _%_, _<_, _≤_}
+use mathlib.Core.Path.{_≡_, refl, ap, sym, _∙_}
+use mathlib.Core.List.{List, [], _∷_, _++_, append-assoc}
+use native.Mathlib.Numerals.{add-one}
+use native.Mathlib.Omega.{arith}
+use lib.ListN.{length, getD, take, drop, set, length-append}
+use lib.Seq.{sets, sets-eq, length-sets, take-all, take-at, take-add, drop-cons, length-take-le, getD-drop}
+use Rattle.model.specs.Words.{wordAt}
+use Rattle.model.specs.Control.{registerBytes, wordFrom, regsFrom, bytesOf, regBytes}
+use Rattle.model.specs.declared.Regs.{Regs}
+
+-- the registers are words
+pub record Words (r : Regs) : Type 0 where
+  pub place : r .place < 4294967296
+  pub frame : r .frame < 4294967296
+  pub handler : r .handler < 4294967296
+  pub mtop : r .mtop < 4294967296
+  pub ptop : r .ptop < 4294967296
+  pub ctop : r .ctop < 4294967296
+  pub state : r .state < 4294967296
+
+-- register i is stored behind those before it
+pub record Stored (b : List ℕ) (i w : ℕ) (b′ : List ℕ) : Type 0 where
+  pub long : length b′ ≡ length b
+  pub front : take (4 * i + 4) b′ ≡ take (4 * i) b ++ bytesOf w
+
+pub stored : (b : List ℕ) (i w at : ℕ) → 4 * i + 4 ≤ length b → at ≡ 4 * i →
+    Stored b i w
+    (set (set (set (set b at (w / 16777216 % 256)) (at + 1) (w / 65536 % 256)) (at + 2) (w / 256 % 256)) (at + 3) (w % 256))
+stored b i w at h e = rw (add-one at, two, three, e) (record { long = length-sets b (4 * i) (bytesOf w); front = front })
+  where
+    two : at + 2 ≡ suc (suc at)
+    two = omega arith
+
+    three : at + 3 ≡ suc (suc (suc at))
+    three = omega arith
+
+    front : take (4 * i + 4) (sets b (4 * i) (bytesOf w)) ≡ take (4 * i) b ++ bytesOf w
+    front =
+        ap (take (4 * i + 4)) (sets-eq (bytesOf w) b (4 * i) h)
+        ∙ take-at (take (4 * i) b ++ bytesOf w) (drop (4 * i + 4) b) (4 * i + 4)
+        (length-append (take (4 * i) b) (bytesOf w) ∙ ap (λ (n : ℕ). n + 4) (length-take-le (4 * i) b (omega arith)))
+
+-- all seven
+pub registers-stored : (b₀ b₁ b₂ b₃ b₄ b₅ b₆ b₇ : List ℕ) (r : Regs) → length b₀ ≡ registerBytes → Stored b₀ 0 (r .place) b₁ →
+    Stored b₁ 1 (r .frame) b₂ → Stored b₂ 2 (r .handler) b₃ → Stored b₃ 3 (r .mtop) b₄ → Stored b₄ 4 (r .ptop) b₅ →
+    Stored b₅ 5 (r .ctop) b₆ → Stored b₆ 6 (r .state) b₇ → b₇ ≡ regBytes r
+unfolding regBytes
+registers-stored b₀ b₁ b₂ b₃ b₄ b₅ b₆ b₇ r h s₀ s₁ s₂ s₃ s₄ s₅ s₆ =
+    sym (take-all 28 b₇ (omega arith))
+    ∙ s₆ .front
+    ∙ on (r .state) (s₅ .front ∙ on (r .ctop) (s₄ .front ∙ on (r .ptop) (s₃ .front ∙ on (r .mtop) (s₂ .front ∙ on (r .handler) (s₁ .front ∙ on (r .frame) (s₀ .front))))))
+  where
+    on : (w : ℕ) {x y : List ℕ} → x ≡ y → x ++ bytesOf w ≡ y ++ bytesOf w
+    on w e = ap (λ (l : List ℕ). l ++ bytesOf w) e
+
+-- the four digits of a sum of four bytes
+digits : (a b c d : ℕ) → a < 256 → b < 256 → c < 256 → d < 256 →
+    bytesOf (a * 16777216 + b * 65536 + c * 256 + d) ≡ a ∷ b ∷ c ∷ d ∷ []
+digits a b c d ha hb hc hd =
+    let w = a * 16777216 + b * 65536 + c * 256 + d in
+    let x : w / 16777216 % 256 ≡ a = omega arith in
+    let y : w / 65536 % 256 ≡ b = omega arith in
+    let z : w / 256 % 256 ≡ c = omega arith in
+    let v : w % 256 ≡ d = omega arith in
+    λ i. x i ∷ y i ∷ z i ∷ v i ∷ []
+
+module _ (b : List ℕ) (long : length b ≡ registerBytes) (small : (i : ℕ) → wordAt b i < 256) where
+  word-back : (i : ℕ) → i < 7 → bytesOf (wordFrom b i) ≡ take 4 (drop (4 * i) b)
+  unfolding wordFrom
+  word-back i h =
+      digits (wordAt b (4 * i)) (wordAt b (4 * i + 1)) (wordAt b (4 * i + 2)) (wordAt b (4 * i + 3)) (small (4 * i)) (small (4 * i + 1))
+      (small (4 * i + 2))
+      (small (4 * i + 3))
+      ∙ sym four
+    where
+      four : take 4 (drop (4 * i) b) ≡ wordAt b (4 * i) ∷ wordAt b (4 * i + 1) ∷ wordAt b (4 * i + 2) ∷ wordAt b (4 * i + 3) ∷ []
+      four =
+          let two : 4 * i + 2 ≡ suc (suc (4 * i)) = omega arith in
+          let three : 4 * i + 3 ≡ suc (suc (suc (4 * i))) = omega arith in
+          rw (add-one (4 * i), two, three)
+          (simp (
+            drop-cons b (4 * i) 0 (omega arith),
+            drop-cons b (suc (4 * i)) 0 (omega arith),
+            drop-cons b (suc (suc (4 * i))) 0 (omega arith),
+            drop-cons b (suc (suc (suc (4 * i)))) 0 (omega arith),
+          ))
+
+  more : (x : List ℕ) (i : ℕ) → i < 7 → x ≡ take (4 * i) b → x ++ bytesOf (wordFrom b i) ≡ take (4 * i + 4) b
+  more x i h e = (λ j. e j ++ word-back i h j) ∙ sym (take-add (4 * i) 4 b)
+
+  pub bytes-back : regBytes (regsFrom b) ≡ b
+  unfolding regBytes regsFrom
+  bytes-back =
+      more _ 6 (omega arith)
+      (more _ 5 (omega arith)
+      (more _ 4 (omega arith) (more _ 3 (omega arith) (more _ 2 (omega arith) (more _ 1 (omega arith) (more [] 0 (omega arith) refl))))))
+      ∙ take-all 28 b (omega arith)

@@ -1,0 +1,48 @@
+-- Lists of tests as code makes them, one after the other: one test that fails decides, and behind tests that hold the last one does.
+use Prim.Native.Nat.{ℕ, zero, suc, _<_}
+use mathlib.Core.Bool.{Bool, true, false}
+use mathlib.Core.List.{List, [], _∷_, _++_}
+use mathlib.Core.Path.{_≡_, refl, ap, sym, _∙_}
+use lib.Dec.{leb, eqb}
+use lib.ListN.{getD}
+use borrow.Author.Tests.{ne-eqb, lt-leb}
+use Rattle.model.specs.Choice.{if_then_else_, Test, same, most, yes?, holds, all, All, true-all}
+
+-- a test fails
+abbrev pub Fails : Test → Type 0
+Fails (same m n) = m ≡ n → ⊥
+Fails (most m n) = n < m
+Fails (yes? t) = t ≡ false
+
+fails-false : (t : Test) → Fails t → holds t ≡ false
+fails-false (same m n) h = ne-eqb m n h
+fails-false (most m n) h = lt-leb m n h
+fails-false (yes? t) h = h
+
+abbrev pub test : ℕ → List Test → Test
+test k ts = getD ts k (yes? true)
+
+pub fails : (k : ℕ) (ts : List Test) → Fails (test k ts) → false ≡ all ts
+fails k [] h = sym h
+fails zero (t ∷ ts) h = rw (fails-false t h)
+fails (suc k) (t ∷ ts) h = go (holds t) (fails k ts h)
+  where
+    go : (b : Bool) → false ≡ all ts → false ≡ (if b then all ts else false)
+    go true e = e
+    go false e = refl
+
+pub all-both : (ts us : List Test) → all (ts ++ us) ≡ (if all ts then all us else false)
+all-both [] us = refl
+all-both (t ∷ ts) us = go (holds t) (all-both ts us)
+  where
+    go : (b : Bool) → all (ts ++ us) ≡ (if all ts then all us else false) →
+        (if b then all (ts ++ us) else false) ≡ (if (if b then all ts else false) then all us else false)
+    go true e = e
+    go false e = refl
+
+pub last : (ts : List Test) (t : Test) (r : Bool) → r ≡ holds t → All ts → r ≡ all (ts ++ (t ∷ []))
+last ts t r e h = e ∙ alone (holds t) ∙ sym (all-both ts (t ∷ []) ∙ rw (true-all ts h))
+  where
+    alone : (b : Bool) → b ≡ (if b then true else false)
+    alone true = refl
+    alone false = refl
