@@ -1,19 +1,24 @@
 -- What a step leads to, with every list then, as one value; the exceptions' codes; and what is asked of a machine before a raise.
-use Prim.Native.Nat.{ℕ, _+_, _*_, _<_, _≤_}
+use Prim.Native.Nat.{ℕ, _+_, _-_, _*_, _<_, _≤_}
 use mathlib.Core.Path.{_≡_, refl, sym}
 use mathlib.Core.Bool.{Bool, true, false, true≢false}
 use mathlib.Core.List.{List}
 use native.Mathlib.Omega.{arith}
 use lib.ListN.{length, getD}
+use Rattle.model.specs.Words.{wordAt}
+use Rattle.model.specs.Calls.{mainMost}
 use Rattle.model.specs.File.{fileMost, procsMost, headOf}
 use Rattle.model.specs.Control.{Machine, machine, recOf, recordWords}
-use Rattle.model.specs.Instructions.{mtop, mainWord}
+use Rattle.model.specs.Instructions.{mtop}
 use Rattle.model.specs.Step.{Stepped, next, uncaught, raised, settle}
+use Rattle.model.specs.declared.Regs.{Regs}
 use Rattle.model.specs.declared.Put.{Put}
 use Rattle.model.specs.declared.Plan.{Plan}
 use Rattle.model.specs.declared.Plan.the-variants.{Write, Overflow, NilObject, BadField, HeapFull, NoRoom, Thrown}
 use Rattle.exec.specs.declared.Outcome.{Outcome}
-use Rattle.exec.specs.Applies.{Stands, Applies}
+use Rattle.exec.specs.declared.Guard.{Guard}
+use Rattle.exec.specs.Lists.{Topped}
+use Rattle.exec.specs.Applies.{Applies}
 
 -- the step leads on to a state, or to an uncaught exception, the state being as before it
 pub record Ended : Type 0 where
@@ -39,18 +44,18 @@ unfolding endedOf
 ended-uncaught m (next m′) e = absurd (true≢false e)
 ended-uncaught m (uncaught code) e = (refl, refl)
 
--- the code of the exception that a plan raises
-unfoldable pub codeOf : Machine → Plan → ℕ
-codeOf m (Write put) = 0
-codeOf m Overflow = 1
-codeOf m NilObject = 2
-codeOf m BadField = 3
-codeOf m HeapFull = 4
-codeOf m NoRoom = 5
-codeOf m Thrown = mainWord m 1
+-- the code of the exception that a plan raises; main and its top
+unfoldable pub codeOf : List ℕ → ℕ → Plan → ℕ
+codeOf main t (Write put) = 0
+codeOf main t Overflow = 1
+codeOf main t NilObject = 2
+codeOf main t BadField = 3
+codeOf main t HeapFull = 4
+codeOf main t NoRoom = 5
+codeOf main t Thrown = wordAt main (t - 1)
 
 pub settle-raised : (f : List ℕ) (m : Machine) (plan : Plan) → ((put : Put) → plan ≡ Write put → ⊥) →
-    settle f m plan ≡ raised f m (codeOf m plan)
+    settle f m plan ≡ raised f m (codeOf (m .main) (mtop m) plan)
 unfolding settle codeOf
 settle-raised f m (Write put) never = absurd (never put refl)
 settle-raised f m Overflow never = refl
@@ -60,24 +65,36 @@ settle-raised f m HeapFull never = refl
 settle-raised f m NoRoom never = refl
 settle-raised f m Thrown never = refl
 
--- the table of the heads, and the innermost handler's record: an open handler gives its tops, its 160 and its frame
-pub record Catches (f table : List ℕ) (m : Machine) : Type 0 where
-  -- a word is free where the handler's main top is: the checker counts the code that is pushed there
-  pub main-top : recOf (m .ctl) (m .regs .handler) .w1 < length (m .main)
-  pub operand : recOf (m .ctl) (m .regs .handler) .w0 + 2 < length f
-  pub frame-some : 1 ≤ recOf (m .ctl) (m .regs .handler) .w3
-  pub frame : recordWords * recOf (m .ctl) (m .regs .handler) .w3 ≤ m .regs .ctop
-  pub proc : recOf (m .ctl) (recOf (m .ctl) (m .regs .handler) .w3) .w2 < procsMost
+-- the handler's record as the code reads it
+unfoldable pub guardAt : List ℕ → ℕ → Guard
+guardAt l n =
+    record { at = recOf l n .w0; mtop = recOf l n .w1; ptop = recOf l n .w2; frame = recOf l n .w3; outer = recOf l n .w4 }
 
-pub record Raises (f table : List ℕ) (m : Machine) : Type 0 where
-  pub stands : Stands f m
+-- the table of the heads, and a handler's 160 and frame
+pub record Targets (f table ctl : List ℕ) (at frame : ℕ) : Type 0 where
   pub heads : (n : ℕ) → n < procsMost → getD table n 0 ≡ headOf f n
   pub head-most : (n : ℕ) → headOf f n ≤ fileMost
-  pub catches : (m .regs .handler ≡ 0 → ⊥) → Catches f table m
+  pub operand : at + 2 < length f
+  pub frame-some : 1 ≤ frame
+  pub frame-fits : recordWords * frame ≤ length ctl
+  pub proc : recOf ctl frame .w2 < procsMost
+
+-- what a raise asks for. An open handler's record lies on the stack, with a free word at its main top for the code that is pushed
+pub record Caught (f table : List ℕ) (r : Regs) (main ctl : List ℕ) : Type 0 where
+  pub main-top : recOf ctl (r .handler) .w1 < length main
+  pub targets : Targets f table ctl (recOf ctl (r .handler) .w0) (recOf ctl (r .handler) .w3)
+
+pub record Raises (f table : List ℕ) (r : Regs) (main ptr ctl : List ℕ) : Type 0 where
+  pub main-top : Topped (r .mtop) main
+  pub ptr-top : Topped (r .ptop) ptr
+  pub ctl-top : Topped (r .ctop) ctl
+  pub main-most : length main ≤ mainMost
+  pub handler : recordWords * r .handler ≤ r .ctop
+  pub caught : (r .handler ≡ 0 → ⊥) → Caught f table r main ctl
 
 -- what is asked of a plan at a machine
 pub record Settles (f table : List ℕ) (m : Machine) (plan : Plan) : Type 0 where
   pub writes : (put : Put) → plan ≡ Write put → Applies f put m
-  pub raises : ((put : Put) → plan ≡ Write put → ⊥) → Raises f table m
+  pub raises : ((put : Put) → plan ≡ Write put → ⊥) → Raises f table (m .regs) (m .main) (m .ptr) (m .ctl)
   -- 162 pops a word
   pub thrown : plan ≡ Thrown → 1 ≤ mtop m
