@@ -3,14 +3,14 @@ use Prim.Native.Nat.{ℕ, _+_, _-_, _*_, _<_, _≤_}
 use mathlib.Core.Path.{_≡_, refl, sym}
 use mathlib.Core.Bool.{Bool, true, false, true≢false}
 use mathlib.Core.List.{List}
-use native.Mathlib.Omega.{arith}
-use lib.ListN.{length, getD}
-use Rattle.model.specs.Words.{wordAt}
+use lib.ListN.{length, getD, set}
+use borrow.Author.Tests.{eq-eqb, ne-eqb}
+use Rattle.model.specs.Words.{wordAt, cut}
 use Rattle.model.specs.Calls.{mainMost}
-use Rattle.model.specs.File.{fileMost, procsMost, headOf}
-use Rattle.model.specs.Control.{Machine, machine, recOf, recordWords}
+use Rattle.model.specs.File.{fileMost, procsMost, headOf, operand}
+use Rattle.model.specs.Control.{Machine, machine, regs, recOf, recordWords}
 use Rattle.model.specs.Instructions.{mtop}
-use Rattle.model.specs.Step.{Stepped, next, uncaught, raised, settle}
+use Rattle.model.specs.Step.{Stepped, next, uncaught, caught, raised, settle}
 use Rattle.model.specs.declared.Regs.{Regs}
 use Rattle.model.specs.declared.Put.{Put}
 use Rattle.model.specs.declared.Plan.{Plan}
@@ -91,6 +91,43 @@ pub record Raises (f table : List ℕ) (r : Regs) (main ptr ctl : List ℕ) : Ty
   pub main-most : length main ≤ mainMost
   pub handler : recordWords * r .handler ≤ r .ctop
   pub caught : (r .handler ≡ 0 → ⊥) → Caught f table r main ctl
+
+-- an exception that nothing catches, and one that the handler whose record is g catches
+module _ (f : List ℕ) (m : Machine) (code : ℕ) where
+  pub uncaught-ends : m .regs .handler ≡ 0 →
+      ended (record { on = false; code = code; regs = m .regs }) (m .main) (m .ptr) (m .ctl) (m .heap) ≡ endedOf m (raised f m code)
+  unfolding endedOf raised
+  uncaught-ends h = rw (eq-eqb (m .regs .handler) 0 h)
+
+  pub caught-ends : (g : Guard) (place : ℕ) (main ptr ctl : List ℕ) → (m .regs .handler ≡ 0 → ⊥) → g ≡ guardAt (m .ctl) (m .regs .handler) →
+      place ≡ headOf f (recOf (m .ctl) (g .frame) .w2) + operand f (g .at) →
+      main ≡ cut (g .mtop) (m .main) →
+      ptr ≡ cut (g .ptop) (m .ptr) →
+      ctl ≡ cut (recordWords * (m .regs .handler - 1)) (m .ctl) →
+      ended
+      (record {
+        on = true;
+        code = 0;
+        regs = regs place (g .frame) (g .outer) (g .mtop + 1) (g .ptop) (recordWords * (m .regs .handler - 1)) (m .regs .state);
+      })
+      (set main (g .mtop) code)
+      ptr
+      ctl
+      (m .heap)
+      ≡ endedOf m (raised f m code)
+  unfolding endedOf raised caught guardAt
+  caught-ends g place main ptr ctl h eg e em ep ec = rw (ne-eqb (m .regs .handler) 0 h, e, em, ep, ec, eg)
+
+-- its main top has a word, and its 160 leads to a place
+module _ (f table : List ℕ) (r : Regs) (main ptr ctl : List ℕ) (g : Guard) (R : Raises f table r main ptr ctl)
+    (h : r .handler ≡ 0 → ⊥) (e : g ≡ guardAt ctl (r .handler)) where
+  pub guard-top : g .mtop < length main
+  unfolding guardAt
+  guard-top = rw e (R .caught h .main-top)
+
+  pub guard-targets : Targets f table ctl (g .at) (g .frame)
+  unfolding guardAt
+  guard-targets = rw e (R .caught h .targets)
 
 -- what is asked of a plan at a machine
 pub record Settles (f table : List ℕ) (m : Machine) (plan : Plan) : Type 0 where

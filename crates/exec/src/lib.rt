@@ -95,7 +95,15 @@ fn call(file: &[u8], ctl: &mut [u32], regs: Regs, put: Put) -> Regs
     let top = regs.ctop;
     let callee = code::operand(file, place);
     let back = place + 3;
-    put_record(ctl, top, put.at as u32, put.word, callee as u32, back as u32, regs.frame as u32);
+    put_record(
+        ctl,
+        top,
+        put.at as u32,
+        put.word,
+        callee as u32,
+        back as u32,
+        regs.frame as u32,
+    );
     Regs {
         place: put.place,
         frame: top / 5 + 1,
@@ -339,11 +347,12 @@ pub fn raise(
     cut_to(ptr, guard.ptop, regs.ptop);
     cut_to(ctl, under, regs.ctop);
     main[top] = code;
+    let above = top + 1;
     let next = Regs {
         place,
         frame: guard.frame,
         handler: guard.outer,
-        mtop: top + 1,
+        mtop: above,
         ptop: guard.ptop,
         ctop: under,
         state: regs.state,

@@ -1,144 +1,142 @@
+-- `exec::apply` meets its contract: each arm knows where the plan writes, and what it calls leaves what the model applies there.
+use mathlib.Core.Path.{_∙_}
+use native.Mathlib.Omega.{arith}
+use Rattle.model.specs.Control.{machine}
+use Rattle.model.specs.Step.{applied}
+use Rattle.exec.specs.Lists.{length-cut}
+use Rattle.exec.specs.Writes.{to-call, to-open, to-close, to-form, to-view, to-plain, call-applied, leave-applied, open-applied, close-applied, view-applied}
+use Rattle.exec.proofs.Tags.{plain-applied}
 use borrow.Author.Needs.{needs}
 use Rattle.exec.proofs.apply.Statement.{statement}
 use Rattle.exec.proofs.apply.Tie as tie
-use Rattle.exec.proofs.apply.Reads as reads
-use Rattle.exec.proofs.apply.Lts as lts
-use Rattle.exec.proofs.call.Reads as call-reads
-use Rattle.exec.proofs.close.Reads as close-reads
-use Rattle.exec.proofs.cut_to.Reads as cut-to-reads
-use Rattle.exec.proofs.form.Reads as form-reads
-use Rattle.exec.proofs.leave.Reads as leave-reads
-use Rattle.exec.proofs.onward.Reads as onward-reads
-use Rattle.exec.proofs.open.Reads as open-reads
-use Rattle.exec.proofs.plain.Reads as plain-reads
 
--- src/lib.rt:261:9
 onward-requires : tie.Need-onward-requires
 onward-requires c κs = search needs
 
--- src/lib.rt:263:35
 enum-told : tie.Need-enum-told
 enum-told c = search needs
 
--- src/lib.rt:263:24
 call-requires : tie.Need-call-requires
-call-requires c κs = ?
+call-requires c κs =
+    let S = c .before .before .before .before .before .before .before .before .before in
+    to-call (S .args .file .now) (S .args .put) (machine (S .args .regs) (S .args .main .now) (S .args .ptr .now) (S .args .ctl .now) (S .args .heap .now)) (S .pre) (c .before .enum-told .given .1)
 
--- src/lib.rt:264:31
 enum-told-2 : tie.Need-enum-told-2
 enum-told-2 c = search needs
 
--- src/lib.rt:264:25
 leave-requires : tie.Need-leave-requires
 leave-requires c κs = search needs
 
--- src/lib.rt:265:31
 enum-told-3 : tie.Need-enum-told-3
 enum-told-3 c = search needs
 
--- src/lib.rt:265:26
 open-requires : tie.Need-open-requires
-open-requires c κs = ?
+open-requires c κs =
+    let S = c .before .before .before .before .before .before .before .before .before in
+    to-open (S .args .file .now) (S .args .put) (machine (S .args .regs) (S .args .main .now) (S .args .ptr .now) (S .args .ctl .now) (S .args .heap .now)) (S .pre) (c .before .enum-told3 .given .1)
 
--- src/lib.rt:266:30
 enum-told-4 : tie.Need-enum-told-4
 enum-told-4 c = search needs
 
--- src/lib.rt:266:24
 close-requires : tie.Need-close-requires
-close-requires c κs = ?
+close-requires c κs =
+    let S = c .before .before .before .before .before .before .before .before .before in
+    to-close (S .args .file .now) (S .args .put) (machine (S .args .regs) (S .args .main .now) (S .args .ptr .now) (S .args .ctl .now) (S .args .heap .now)) (S .pre) (c .before .enum-told4 .given .1)
 
--- src/lib.rt:268:18
 enum-told-5 : tie.Need-enum-told-5
 enum-told-5 c = search needs
 
--- src/lib.rt:268:13
 form-requires : tie.Need-form-requires
-form-requires c κs = ?
+form-requires c κs =
+    let S = c .before .before .before .before .before .before .before .before .before .before .before in
+    to-form (S .args .file .now) (S .args .put) (machine (S .args .regs) (S .args .main .now) (S .args .ptr .now) (S .args .ctl .now) (S .args .heap .now)) (S .pre) (c .before .before .before .enum-told5 .given .1)
 
--- src/lib.rt:269:13
 cut-to-requires : tie.Need-cut-to-requires
 cut-to-requires c κs = search needs
 
--- src/lib.rt:270:13
 cut-to-requires-2 : tie.Need-cut-to-requires-2
 cut-to-requires-2 c κs = search needs
 
--- src/lib.rt:271:13
 mul-ptr : tie.Need-mul-ptr
-mul-ptr c = ?
+mul-ptr c =
+    let S = c .before .before .before .before .before .before .before .before .before .before .before .before .before .before .before .before .before .before .before .before .before .before in
+    omega (arith, S .pre .stands .ptr-most, to-view (S .args .file .now) (S .args .put) (machine (S .args .regs) (S .args .main .now) (S .args .ptr .now) (S .args .ctl .now) (S .args .heap .now)) (S .pre) (c .before .before .before .before .before .before .before .before .before .before .before .before .before .before .enum-told5 .given .1))
 
--- src/lib.rt:271:13
 slice-write-ptr : tie.Need-slice-write-ptr
-slice-write-ptr c = ?
+slice-write-ptr c =
+    let S = c .before .before .before .before .before .before .before .before .before .before .before .before .before .before .before .before .before .before .before .before .before .before in
+    rw (c .before .before .cut-to2 .ensures, length-cut) (to-view (S .args .file .now) (S .args .put) (machine (S .args .regs) (S .args .main .now) (S .args .ptr .now) (S .args .ctl .now) (S .args .heap .now)) (S .pre) (c .before .before .before .before .before .before .before .before .before .before .before .before .before .before .enum-told5 .given .1))
 
--- src/lib.rt:275:13
 plain-requires : tie.Need-plain-requires
-plain-requires c κs = ?
+plain-requires c κs =
+    let S = c .before .before .before .before .before .before .before .before .before .before in
+    to-plain (S .args .file .now) (S .args .put) (machine (S .args .regs) (S .args .main .now) (S .args .ptr .now) (S .args .ctl .now) (S .args .heap .now)) (S .pre)
 
--- src/lib.rt:247:1
 same-length : tie.Need-same-length
 same-length c = search needs
 
--- src/lib.rt:247:1
 returns : tie.Need-returns
-returns c = ?
+returns c =
+    let S = c .before .before .before .before .before .before .before .before .before .before .before .before in
+    c .before .before .call .ensures (S .args .main .now) (S .args .ptr .now) (S .args .heap .now)
+    ∙ call-applied (S .args .file .now) (S .args .put) (machine (S .args .regs) (S .args .main .now) (S .args .ptr .now) (S .args .ctl .now) (S .args .heap .now)) (c .before .before .before .before .enum-told .given .1)
 
--- src/lib.rt:247:1
 same-length-2 : tie.Need-same-length-2
 same-length-2 c = search needs
 
--- src/lib.rt:247:1
 returns-2 : tie.Need-returns-2
-returns-2 c = ?
+returns-2 c =
+    let S = c .before .before .before .before .before .before .before .before .before .before .before .before in
+    c .before .before .leave .ensures (S .args .main .now) (S .args .ptr .now) (S .args .heap .now)
+    ∙ leave-applied (S .args .file .now) (S .args .put) (machine (S .args .regs) (S .args .main .now) (S .args .ptr .now) (S .args .ctl .now) (S .args .heap .now)) (c .before .before .before .before .enum-told2 .given .1)
 
--- src/lib.rt:247:1
 same-length-3 : tie.Need-same-length-3
 same-length-3 c = search needs
 
--- src/lib.rt:247:1
 returns-3 : tie.Need-returns-3
-returns-3 c = ?
+returns-3 c =
+    let S = c .before .before .before .before .before .before .before .before .before .before .before .before in
+    c .before .before .«open» .ensures (S .args .main .now) (S .args .ptr .now) (S .args .heap .now)
+    ∙ open-applied (S .args .file .now) (S .args .put) (machine (S .args .regs) (S .args .main .now) (S .args .ptr .now) (S .args .ctl .now) (S .args .heap .now)) (c .before .before .before .before .enum-told3 .given .1)
 
--- src/lib.rt:247:1
 same-length-4 : tie.Need-same-length-4
 same-length-4 c = search needs
 
--- src/lib.rt:247:1
 returns-4 : tie.Need-returns-4
-returns-4 c = ?
+returns-4 c =
+    let S = c .before .before .before .before .before .before .before .before .before .before .before .before in
+    c .before .before .close .ensures (S .args .main .now) (S .args .ptr .now) (S .args .heap .now)
+    ∙ close-applied (S .args .file .now) (S .args .put) (machine (S .args .regs) (S .args .main .now) (S .args .ptr .now) (S .args .ctl .now) (S .args .heap .now)) (c .before .before .before .before .enum-told4 .given .1)
 
--- src/lib.rt:247:1
 same-length-5 : tie.Need-same-length-5
 same-length-5 c = search needs
 
--- src/lib.rt:247:1
 same-length-6 : tie.Need-same-length-6
 same-length-6 c = search needs
 
--- src/lib.rt:247:1
 same-length-7 : tie.Need-same-length-7
 same-length-7 c = search needs
 
--- src/lib.rt:247:1
 returns-5 : tie.Need-returns-5
-returns-5 c = ?
+returns-5 c =
+    let S = c .before .before .before .before .before .before .before .before .before .before .before .before .before .before .before .before .before .before .before .before .before .before in
+    view-applied (S .args .file .now) (S .args .put) (machine (S .args .regs) (S .args .main .now) (S .args .ptr .now) (S .args .ctl .now) (S .args .heap .now)) _ _ _ _ (c .before .before .before .before .before .before .before .before .before .before .before .before .before .before .enum-told5 .given .1) (c .before .before .before .before .before .before .before .before .before .before .before .before .before .before .before .before .onward .ensures) (c .before .before .before .before .before .before .cut-to .ensures) (c .before .before .cut-to2 .ensures) (c .before .before .before .before .before .before .before .before .before .before .form .ensures)
 
--- src/lib.rt:247:1
 same-length-8 : tie.Need-same-length-8
 same-length-8 c = search needs
 
--- src/lib.rt:247:1
 same-length-9 : tie.Need-same-length-9
 same-length-9 c = search needs
 
--- src/lib.rt:247:1
 same-length-10 : tie.Need-same-length-10
 same-length-10 c = search needs
 
--- src/lib.rt:247:1
 returns-6 : tie.Need-returns-6
-returns-6 c = ?
+unfolding applied
+returns-6 c =
+    let S = c .before .before .before .before .before .before .before .before .before .before .before .before .before .before .before .before .before in
+    rw (c .before .before .before .before .before .before .before .before .before .before .before .onward .ensures)
+    (c .before .before .before .before .before .before .plain .ensures (S .args .ctl .now) ∙ plain-applied (S .args .file .now) (S .args .put .into) (S .args .put) (machine (S .args .regs) (S .args .main .now) (S .args .ptr .now) (S .args .ctl .now) (S .args .heap .now)) (c .before .before .before .before .before .before .before .before .before .before .match .keys6))
 
 pub apply-spec : {M : Type 1} → statement M
 apply-spec =

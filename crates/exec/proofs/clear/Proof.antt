@@ -8,8 +8,6 @@ use Rattle.model.specs.Words.{cut}
 use Rattle.exec.specs.Lists.{cut-above, cut-next}
 use Rattle.exec.proofs.clear.Statement.{statement}
 use Rattle.exec.proofs.clear.Tie as tie
-use Rattle.exec.proofs.clear.Reads as reads
-use Rattle.exec.proofs.clear.Lts as lts
 
 abbrev Inv-loop : tie.InvT-loop
 Inv-loop l₀ new old i₀ l i = (new ≤ i) × (i ≤ old) × (l ≡ cut i l₀) × (length l ≡ length l₀)
@@ -17,27 +15,21 @@ Inv-loop l₀ new old i₀ l i = (new ≤ i) × (i ≤ old) × (l ≡ cut i l₀
 abbrev μ-loop : tie.MeasureT-loop
 μ-loop l₀ new old i₀ l i = i - new
 
--- src/lib.rt:32:5
 loop-holds : tie.Need-loop-holds Inv-loop μ-loop
 loop-holds c = (c .pre .0, omega arith, cut-above _ _ _ (omega arith) (c .pre .1), refl)
 
--- src/lib.rt:33:9
 sub-i : tie.Need-sub-i Inv-loop μ-loop
 sub-i c = omega arith
 
--- src/lib.rt:34:9
 mul-l : tie.Need-mul-l Inv-loop μ-loop
 mul-l c = search needs
 
--- src/lib.rt:34:9
 slice-write-l : tie.Need-slice-write-l Inv-loop μ-loop
 slice-write-l c = omega arith
 
--- src/lib.rt:32:5
 loop-less : tie.Need-loop-less Inv-loop μ-loop
 loop-less c = omega arith
 
--- src/lib.rt:32:5
 loop-again : tie.Need-loop-again Inv-loop μ-loop
 loop-again c =
     let L = c .before .loop in (
@@ -47,11 +39,9 @@ loop-again c =
       length-set (L .l) (L .i - 1) 0 ∙ L .inv .3,
     )
 
--- src/lib.rt:27:1
 same-length : tie.Need-same-length Inv-loop μ-loop
 same-length c = c .before .loop .inv .3
 
--- src/lib.rt:27:1
 returns : tie.Need-returns Inv-loop μ-loop
 returns c =
     let e : c .before .loop .i ≡ c .before .before .args .new = omega arith in

@@ -4,80 +4,61 @@ use Rattle.exec.specs.Ended.{codeOf}
 use borrow.Author.Needs.{needs}
 use Rattle.exec.proofs.code_of.Statement.{statement}
 use Rattle.exec.proofs.code_of.Tie as tie
-use Rattle.exec.proofs.code_of.Reads as reads
-use Rattle.exec.proofs.code_of.Lts as lts
 
--- src/lib.rt:363:27
 enum-told : tie.Need-enum-told
 enum-told c = search needs
 
--- src/lib.rt:364:27
 enum-told-2 : tie.Need-enum-told-2
 enum-told-2 c = search needs
 
--- src/lib.rt:365:28
 enum-told-3 : tie.Need-enum-told-3
 enum-told-3 c = search needs
 
--- src/lib.rt:366:27
 enum-told-4 : tie.Need-enum-told-4
 enum-told-4 c = search needs
 
--- src/lib.rt:367:27
 enum-told-5 : tie.Need-enum-told-5
 enum-told-5 c = search needs
 
--- src/lib.rt:368:25
 enum-told-6 : tie.Need-enum-told-6
 enum-told-6 c = search needs
 
--- src/lib.rt:369:30
 enum-told-7 : tie.Need-enum-told-7
 enum-told-7 c = search needs
 
--- src/lib.rt:369:30
 sub-result : tie.Need-sub-result
 sub-result c = c .before .before .pre .1 (c .enum-told7 .given .1)
 
--- src/lib.rt:369:25
 mul-result : tie.Need-mul-result
 mul-result c = search needs
 
--- src/lib.rt:369:25
 shared-slice-read-result : tie.Need-shared-slice-read-result
 shared-slice-read-result c = omega (arith, c .before .before .before .pre .1 (c .before .enum-told7 .given .1))
 
--- src/lib.rt:358:1
 returns : tie.Need-returns
 unfolding codeOf
 returns c = rw (c .enum-told .given .1)
 
--- src/lib.rt:358:1
 returns-2 : tie.Need-returns-2
 unfolding codeOf
 returns-2 c = rw (c .enum-told2 .given .1)
 
--- src/lib.rt:358:1
 returns-3 : tie.Need-returns-3
 unfolding codeOf
 returns-3 c = rw (c .enum-told3 .given .1)
 
--- src/lib.rt:358:1
 returns-4 : tie.Need-returns-4
 unfolding codeOf
 returns-4 c = rw (c .enum-told4 .given .1)
 
--- src/lib.rt:358:1
 returns-5 : tie.Need-returns-5
 unfolding codeOf
 returns-5 c = rw (c .enum-told5 .given .1)
 
--- src/lib.rt:358:1
 returns-6 : tie.Need-returns-6
 unfolding codeOf
 returns-6 c = rw (c .enum-told6 .given .1)
 
--- src/lib.rt:358:1
 returns-7 : tie.Need-returns-7
 unfolding codeOf
 returns-7 c = rw (c .before .enum-told7 .given .1)

@@ -9,8 +9,6 @@ use borrow.Author.Needs.{needs}
 use Rattle.exec.specs.Lists.{copy-more}
 use Rattle.exec.proofs.copy.Statement.{statement}
 use Rattle.exec.proofs.copy.Tie as tie
-use Rattle.exec.proofs.copy.Reads as reads
-use Rattle.exec.proofs.copy.Lts as lts
 
 abbrev Inv-loop : tie.InvT-loop
 Inv-loop heap₀ to from start end i₀ j₀ heap i j =
@@ -19,39 +17,30 @@ Inv-loop heap₀ to from start end i₀ j₀ heap i j =
 abbrev μ-loop : tie.MeasureT-loop
 μ-loop heap₀ to from start end i₀ j₀ heap i j = end - i
 
--- src/lib.rt:81:5
 loop-holds : tie.Need-loop-holds Inv-loop μ-loop
 loop-holds c = (omega arith, omega arith, omega arith, refl, rw (slice-empty (c .args .start) (c .args .from .now)) refl)
 
--- src/lib.rt:82:19
 mul-heap : tie.Need-mul-heap Inv-loop μ-loop
 mul-heap c = search needs
 
--- src/lib.rt:82:19
 shared-slice-read-heap : tie.Need-shared-slice-read-heap Inv-loop μ-loop
 shared-slice-read-heap c = omega arith
 
--- src/lib.rt:82:9
 mul-heap-2 : tie.Need-mul-heap-2 Inv-loop μ-loop
 mul-heap-2 c = search needs
 
--- src/lib.rt:82:9
 slice-write-heap : tie.Need-slice-write-heap Inv-loop μ-loop
 slice-write-heap c = omega arith
 
--- src/lib.rt:83:9
 add-i : tie.Need-add-i Inv-loop μ-loop
 add-i c = omega arith
 
--- src/lib.rt:84:9
 add-j : tie.Need-add-j Inv-loop μ-loop
 add-j c = omega arith
 
--- src/lib.rt:81:5
 loop-less : tie.Need-loop-less Inv-loop μ-loop
 loop-less c = omega arith
 
--- src/lib.rt:81:5
 loop-again : tie.Need-loop-again Inv-loop μ-loop
 loop-again c =
     let L = c .before .before .loop in
@@ -64,11 +53,9 @@ loop-again c =
           ∙ copy-more (A .heap .now) (A .from .now) (A .to) (A .start) (L .i) (L .j) (omega arith) (omega arith) (omega arith),
     )
 
--- src/lib.rt:75:1
 same-length : tie.Need-same-length Inv-loop μ-loop
 same-length c = c .before .loop .inv .3
 
--- src/lib.rt:75:1
 returns : tie.Need-returns Inv-loop μ-loop
 returns c =
     let A = c .before .before .args in

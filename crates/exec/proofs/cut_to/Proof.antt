@@ -8,31 +8,22 @@ use Rattle.exec.specs.Lists.{length-cut, cut-above, cut-last, cut-cut, c
 use borrow.Author.Needs.{needs}
 use Rattle.exec.proofs.cut_to.Statement.{statement}
 use Rattle.exec.proofs.cut_to.Tie as tie
-use Rattle.exec.proofs.cut_to.Reads as reads
-use Rattle.exec.proofs.cut_to.Lts as lts
-use Rattle.exec.proofs.clear.Reads as clear-reads
 
--- src/lib.rt:44:9
 returns : tie.Need-returns
 returns c = cut-above _ _ _ (c .if1 .taken) (c .before .before .pre)
 
--- src/lib.rt:46:16
 sub-last : tie.Need-sub-last
 sub-last c = search needs
 
--- src/lib.rt:47:5
 mul-l : tie.Need-mul-l
 mul-l c = search needs
 
--- src/lib.rt:47:5
 slice-write-l : tie.Need-slice-write-l
 slice-write-l c = search needs
 
--- src/lib.rt:49:9
 same-length : tie.Need-same-length
 same-length c = search needs
 
--- src/lib.rt:49:9
 returns-2 : tie.Need-returns-2
 returns-2 c =
     let S = c .before .before .before in
@@ -40,20 +31,17 @@ returns-2 c =
     cut-last (S .args .new) (S .args .old) (S .args .l .now) (c .before .if1 .left) (S .pre)
     ∙ ap (λ (k : ℕ). cut k (S .args .l .now)) e
 
--- src/lib.rt:51:5
 clear-requires : tie.Need-clear-requires
 clear-requires c κs =
     let S = c .before .before .before .before in (
       omega arith,
       rw (cut-last (S .args .new) (S .args .old) (S .args .l .now) (c .before .before .if1 .left) (S .pre))
-      (cut-topped (S .args .old - 1) (S .args .l .now) (omega (arith, S .pre .fits))),
+          (cut-topped (S .args .old - 1) (S .args .l .now) (omega (arith, S .pre .fits))),
     )
 
--- src/lib.rt:39:1
 same-length-2 : tie.Need-same-length-2
 same-length-2 c = ap length (c .before .before .clear .ensures) ∙ simp (length-cut, length-set)
 
--- src/lib.rt:39:1
 returns-3 : tie.Need-returns-3
 returns-3 c =
     let S = c .before .before .before .before .before .before .before in

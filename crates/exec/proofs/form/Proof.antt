@@ -6,107 +6,80 @@ use Rattle.exec.specs.Writes.{form-long, form-writes}
 use borrow.Author.Needs.{needs}
 use Rattle.exec.proofs.form.Statement.{statement}
 use Rattle.exec.proofs.form.Tie as tie
-use Rattle.exec.proofs.form.Reads as reads
-use Rattle.exec.proofs.form.Lts as lts
-use Rattle.exec.proofs.copy.Reads as copy-reads
 
--- src/lib.rt:197:20
 sub-pointers : tie.Need-sub-pointers
 sub-pointers c = search needs
 
--- src/lib.rt:198:33
 sub-size : tie.Need-sub-size
 sub-size c = search needs
 
--- src/lib.rt:198:21
 add-size : tie.Need-add-size
 add-size c = search needs
 
--- src/lib.rt:198:16
 add-size-2 : tie.Need-add-size-2
 add-size-2 c = search needs
 
--- src/lib.rt:199:16
 slice-read-mark : tie.Need-slice-read-mark
 slice-read-mark c = search needs
 
--- src/lib.rt:199:16
 cast-mark : tie.Need-cast-mark
 cast-mark c = search needs
 
--- src/lib.rt:200:17
 add-head : tie.Need-add-head
 add-head c = search needs
 
--- src/lib.rt:200:16
 cast-head : tie.Need-cast-head
 cast-head c = search needs
 
--- src/lib.rt:201:5
 mul-heap : tie.Need-mul-heap
 mul-heap c = search needs
 
--- src/lib.rt:201:5
 slice-write-heap : tie.Need-slice-write-heap
 slice-write-heap c = search needs
 
--- src/lib.rt:202:22
 cast-heap : tie.Need-cast-heap
 cast-heap c = search needs
 
--- src/lib.rt:202:10
 add-heap : tie.Need-add-heap
 add-heap c = search needs
 
--- src/lib.rt:202:5
 mul-heap-2 : tie.Need-mul-heap-2
 mul-heap-2 c = search needs
 
--- src/lib.rt:202:5
 slice-write-heap-2 : tie.Need-slice-write-heap-2
 slice-write-heap-2 c = rw length-set (omega arith)
 
--- src/lib.rt:203:16
 add-copy : tie.Need-add-copy
 add-copy c = search needs
 
--- src/lib.rt:203:5
 copy-requires : tie.Need-copy-requires
 copy-requires c κs = (c .before .before .before .before .before .before .before .pre .pointers, c .before .before .before .before .before .before .before .pre .ptr-fits, simp length-set (omega arith))
 
--- src/lib.rt:204:16
 add-copy-2 : tie.Need-add-copy-2
 add-copy-2 c = search needs
 
--- src/lib.rt:204:16
 add-copy-3 : tie.Need-add-copy-3
 add-copy-3 c = search needs
 
--- src/lib.rt:204:5
 copy-requires-2 : tie.Need-copy-requires-2
 copy-requires-2 c κs = (c .before .before .before .before .before .before .before .before .before .before .before .pre .words, c .before .before .before .before .before .before .before .before .before .before .before .pre .main-fits, rw (c .before .before .before .copy .ensures) (simp (length-sets, length-set) (omega arith)))
 
--- src/lib.rt:205:16
 add-heap-2 : tie.Need-add-heap-2
 add-heap-2 c = search needs
 
--- src/lib.rt:205:15
 cast-heap-2 : tie.Need-cast-heap-2
 cast-heap-2 c = search needs
 
--- src/lib.rt:205:5
 slice-write-heap-3 : tie.Need-slice-write-heap-3
 slice-write-heap-3 c =
     let S = c .before .before .before .before .before .before .before .before .before .before .before .before .before .before in
     omega (arith, form-long (S .args .main .now) (S .args .ptr .now) (S .args .heap .now) (S .args .regs) (S .args .put) _ _ (c .before .before .before .before .before .before .copy .ensures) (c .before .before .copy2 .ensures))
 
--- src/lib.rt:191:1
 same-length : tie.Need-same-length
 same-length c =
     let S = c .before .before .before .before .before .before .before .before .before .before .before .before .before .before in
     simp length-set (form-long (S .args .main .now) (S .args .ptr .now) (S .args .heap .now) (S .args .regs) (S .args .put) _ _ (c .before .before .before .before .before .before .copy .ensures) (c .before .before .copy2 .ensures))
 
--- src/lib.rt:191:1
 returns : tie.Need-returns
 returns c =
     let S = c .before .before .before .before .before .before .before .before .before .before .before .before .before .before in

@@ -4,55 +4,40 @@ use Rattle.exec.specs.Ended.{guardAt}
 use borrow.Author.Needs.{needs}
 use Rattle.exec.proofs.guard_at.Statement.{statement}
 use Rattle.exec.proofs.guard_at.Tie as tie
-use Rattle.exec.proofs.guard_at.Reads as reads
-use Rattle.exec.proofs.guard_at.Lts as lts
-use Rattle.exec.proofs.load.Reads as load-reads
 
--- src/lib.rt:293:22
 sub-under : tie.Need-sub-under
 sub-under c = search needs
 
--- src/lib.rt:293:17
 mul-under : tie.Need-mul-under
 mul-under c = search needs
 
--- src/lib.rt:295:13
 load-requires : tie.Need-load-requires
 load-requires c κs = search needs
 
--- src/lib.rt:296:25
 add-load : tie.Need-add-load
 add-load c = search needs
 
--- src/lib.rt:296:15
 load-requires-2 : tie.Need-load-requires-2
 load-requires-2 c κs = search needs
 
--- src/lib.rt:297:25
 add-load-2 : tie.Need-add-load-2
 add-load-2 c = search needs
 
--- src/lib.rt:297:15
 load-requires-3 : tie.Need-load-requires-3
 load-requires-3 c κs = search needs
 
--- src/lib.rt:298:26
 add-load-3 : tie.Need-add-load-3
 add-load-3 c = search needs
 
--- src/lib.rt:298:16
 load-requires-4 : tie.Need-load-requires-4
 load-requires-4 c κs = search needs
 
--- src/lib.rt:299:26
 add-load-4 : tie.Need-add-load-4
 add-load-4 c = search needs
 
--- src/lib.rt:299:16
 load-requires-5 : tie.Need-load-requires-5
 load-requires-5 c κs = search needs
 
--- src/lib.rt:289:1
 returns : tie.Need-returns
 unfolding guardAt recAt
 returns c = rw (c .before .before .before .before .load .ensures, c .before .before .before .load2 .ensures, c .before .before .load3 .ensures, c .before .load4 .ensures, c .load5 .ensures)

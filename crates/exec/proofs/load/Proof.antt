@@ -3,22 +3,16 @@ use native.Mathlib.Omega.{arith}
 use borrow.Author.Needs.{needs}
 use Rattle.exec.proofs.load.Statement.{statement}
 use Rattle.exec.proofs.load.Tie as tie
-use Rattle.exec.proofs.load.Reads as reads
-use Rattle.exec.proofs.load.Lts as lts
 
--- src/lib.rt:59:5
 mul-result : tie.Need-mul-result
 mul-result c = search needs
 
--- src/lib.rt:59:5
 shared-slice-read-result : tie.Need-shared-slice-read-result
 shared-slice-read-result c = search needs
 
--- src/lib.rt:59:5
 cast-result : tie.Need-cast-result
 cast-result c = omega (arith, c .shared-slice-known .given (c .before .args .i))
 
--- src/lib.rt:55:1
 returns : tie.Need-returns
 returns c = search needs
 

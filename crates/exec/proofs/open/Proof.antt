@@ -3,47 +3,34 @@ use Rattle.exec.specs.Writes.{open-writes}
 use borrow.Author.Needs.{needs}
 use Rattle.exec.proofs.open.Statement.{statement}
 use Rattle.exec.proofs.open.Tie as tie
-use Rattle.exec.proofs.open.Reads as reads
-use Rattle.exec.proofs.open.Lts as lts
-use Rattle.exec.proofs.put_record.Reads as put-record-reads
 
--- src/lib.rt:152:9
 cast-put-record : tie.Need-cast-put-record
 cast-put-record c = search needs
 
--- src/lib.rt:153:9
 cast-put-record-2 : tie.Need-cast-put-record-2
 cast-put-record-2 c = search needs
 
--- src/lib.rt:154:9
 cast-put-record-3 : tie.Need-cast-put-record-3
 cast-put-record-3 c = search needs
 
--- src/lib.rt:155:9
 cast-put-record-4 : tie.Need-cast-put-record-4
 cast-put-record-4 c = search needs
 
--- src/lib.rt:156:9
 cast-put-record-5 : tie.Need-cast-put-record-5
 cast-put-record-5 c = search needs
 
--- src/lib.rt:149:5
 put-record-requires : tie.Need-put-record-requires
 put-record-requires c κs = search needs
 
--- src/lib.rt:161:18
 add-t14 : tie.Need-add-t14
 add-t14 c = search needs
 
--- src/lib.rt:164:15
 add-t15 : tie.Need-add-t15
 add-t15 c = search needs
 
--- src/lib.rt:144:1
 same-length : tie.Need-same-length
 same-length c = search needs
 
--- src/lib.rt:144:1
 returns : tie.Need-returns
 returns c main ptr heap =
     let S = c .before .before .before .before .before .before .before .before .before .before in

@@ -8,123 +8,96 @@ use Rattle.exec.proofs.Tags.{cut-only}
 use borrow.Author.Needs.{needs}
 use Rattle.exec.proofs.plain.Statement.{statement}
 use Rattle.exec.proofs.plain.Tie as tie
-use Rattle.exec.proofs.plain.Reads as reads
-use Rattle.exec.proofs.plain.Lts as lts
-use Rattle.exec.proofs.cut_to.Reads as cut-to-reads
 
--- src/lib.rt:230:5
 cut-to-requires : tie.Need-cut-to-requires
 cut-to-requires c κs = search needs
 
--- src/lib.rt:231:5
 cut-to-requires-2 : tie.Need-cut-to-requires-2
 cut-to-requires-2 c κs = search needs
 
--- src/lib.rt:234:13
 enum-told : tie.Need-enum-told
 enum-told c = search needs
 
--- src/lib.rt:234:13
 mul-main : tie.Need-mul-main
-mul-main c = 
+mul-main c =
     let S = c .before .before .before .before .before .before .before .before .before .before .before .before .before in
     omega (arith, S .pre .in-main (c .enum-told .given .1))
 
--- src/lib.rt:234:13
 slice-write-main : tie.Need-slice-write-main
-slice-write-main c = 
+slice-write-main c =
     let S = c .before .before .before .before .before .before .before .before .before .before .before .before .before in
     rw (c .before .before .before .before .before .before .before .before .cut-to .ensures, length-cut) (S .pre .in-main (c .enum-told .given .1))
 
--- src/lib.rt:237:13
 enum-told-2 : tie.Need-enum-told-2
 enum-told-2 c = search needs
 
--- src/lib.rt:237:13
 mul-ptr : tie.Need-mul-ptr
-mul-ptr c = 
+mul-ptr c =
     let S = c .before .before .before .before .before .before .before .before .before .before .before .before .before in
     omega (arith, S .pre .in-ptr (c .enum-told2 .given .1))
 
--- src/lib.rt:237:13
 slice-write-ptr : tie.Need-slice-write-ptr
-slice-write-ptr c = 
+slice-write-ptr c =
     let S = c .before .before .before .before .before .before .before .before .before .before .before .before .before in
     rw (c .before .before .before .before .cut-to2 .ensures, length-cut) (S .pre .in-ptr (c .enum-told2 .given .1))
 
--- src/lib.rt:240:13
 enum-told-3 : tie.Need-enum-told-3
 enum-told-3 c = search needs
 
--- src/lib.rt:240:13
 mul-heap : tie.Need-mul-heap
-mul-heap c = 
+mul-heap c =
     let S = c .before .before .before .before .before .before .before .before .before .before .before .before .before in
     omega (arith, S .pre .in-heap (c .enum-told3 .given .1))
 
--- src/lib.rt:240:13
 slice-write-heap : tie.Need-slice-write-heap
-slice-write-heap c = 
+slice-write-heap c =
     let S = c .before .before .before .before .before .before .before .before .before .before .before .before .before in
     S .pre .in-heap (c .enum-told3 .given .1)
 
--- src/lib.rt:224:1
 same-length : tie.Need-same-length
 same-length c = search needs
 
--- src/lib.rt:224:1
 same-length-2 : tie.Need-same-length-2
 same-length-2 c = search needs
 
--- src/lib.rt:224:1
 returns : tie.Need-returns
-returns c ctl = 
+returns c ctl =
     let S = c .before .before .before .before .before .before .before .before .before .before .before .before .before in
     main-plainly (S .args .put) (machine (S .args .regs) (S .args .main .now) (S .args .ptr .now) ctl (S .args .heap .now)) _ _ (c .before .before .before .before .before .before .before .before .cut-to .ensures) (c .before .before .before .before .cut-to2 .ensures) (c .enum-told .given .1)
 
--- src/lib.rt:224:1
 same-length-3 : tie.Need-same-length-3
 same-length-3 c = search needs
 
--- src/lib.rt:224:1
 same-length-4 : tie.Need-same-length-4
 same-length-4 c = search needs
 
--- src/lib.rt:224:1
 returns-2 : tie.Need-returns-2
-returns-2 c ctl = 
+returns-2 c ctl =
     let S = c .before .before .before .before .before .before .before .before .before .before .before .before .before in
     ptr-plainly (S .args .put) (machine (S .args .regs) (S .args .main .now) (S .args .ptr .now) ctl (S .args .heap .now)) _ _ (c .before .before .before .before .before .before .before .before .cut-to .ensures) (c .before .before .before .before .cut-to2 .ensures) (c .enum-told2 .given .1)
 
--- src/lib.rt:224:1
 same-length-5 : tie.Need-same-length-5
 same-length-5 c = search needs
 
--- src/lib.rt:224:1
 same-length-6 : tie.Need-same-length-6
 same-length-6 c = search needs
 
--- src/lib.rt:224:1
 same-length-7 : tie.Need-same-length-7
 same-length-7 c = search needs
 
--- src/lib.rt:224:1
 returns-3 : tie.Need-returns-3
-returns-3 c ctl = 
+returns-3 c ctl =
     let S = c .before .before .before .before .before .before .before .before .before .before .before .before .before in
     heap-plainly (S .args .put) (machine (S .args .regs) (S .args .main .now) (S .args .ptr .now) ctl (S .args .heap .now)) _ _ (c .before .before .before .before .before .before .before .before .cut-to .ensures) (c .before .before .before .before .cut-to2 .ensures) (c .enum-told3 .given .1)
 
--- src/lib.rt:224:1
 same-length-8 : tie.Need-same-length-8
 same-length-8 c = search needs
 
--- src/lib.rt:224:1
 same-length-9 : tie.Need-same-length-9
 same-length-9 c = search needs
 
--- src/lib.rt:224:1
 returns-4 : tie.Need-returns-4
-returns-4 c ctl = 
+returns-4 c ctl =
     let S = c .before .before .before .before .before .before .before .before .before .before .before .before in
     cut-plainly (S .args .put) (machine (S .args .regs) (S .args .main .now) (S .args .ptr .now) ctl (S .args .heap .now)) _ _ (c .before .before .before .before .before .before .before .cut-to .ensures) (c .before .before .before .cut-to2 .ensures)
     ∙ cut-only (S .args .put .into) (S .args .put) (machine (S .args .regs) (S .args .main .now) (S .args .ptr .now) ctl (S .args .heap .now)) (c .match .keys4)

@@ -1,71 +1,69 @@
+-- `exec::raise` meets its contract: no handler, and nothing is written; or the stacks are cut to the handler's tops, its record and
+-- those above it go, and the code is pushed.
+use native.Mathlib.Omega.{arith}
+use Rattle.model.specs.Control.{machine}
+use Rattle.exec.specs.Lists.{length-cut}
+use Rattle.exec.specs.Ended.{uncaught-ends, caught-ends, guard-top, guard-targets}
 use borrow.Author.Needs.{needs}
 use Rattle.exec.proofs.raise.Statement.{statement}
 use Rattle.exec.proofs.raise.Tie as tie
-use Rattle.exec.proofs.raise.Reads as reads
-use Rattle.exec.proofs.raise.Lts as lts
-use Rattle.exec.proofs.cut_to.Reads as cut-to-reads
-use Rattle.exec.proofs.guard_at.Reads as guard-at-reads
-use Rattle.exec.proofs.target.Reads as target-reads
 
--- src/lib.rt:327:9
 returns : tie.Need-returns
-returns c = ?
+returns c heap =
+    let S = c .before .before .before .before .before in
+    uncaught-ends (S .args .file .now) (machine (S .args .regs) (S .args .main .now) (S .args .ptr .now) (S .args .ctl .now) heap) (S .args .code) (c .if1 .taken)
 
--- src/lib.rt:333:9
 guard-at-requires : tie.Need-guard-at-requires
 guard-at-requires c κs = search needs
 
--- src/lib.rt:334:9
 target-requires : tie.Need-target-requires
-target-requires c κs = ?
+target-requires c κs =
+    let S = c .before .before .before .before .before .before .before .before in
+    guard-targets (S .args .file .now) (S .args .table .now) (S .args .regs) (S .args .main .now) (S .args .ptr .now) (S .args .ctl .now) _ (S .pre) (c .before .before .before .if1 .left) (c .before .guard-at .ensures)
 
--- src/lib.rt:336:22
 sub-under : tie.Need-sub-under
 sub-under c = search needs
 
--- src/lib.rt:336:17
 mul-under : tie.Need-mul-under
 mul-under c = search needs
 
--- src/lib.rt:337:5
 cut-to-requires : tie.Need-cut-to-requires
 cut-to-requires c κs = search needs
 
--- src/lib.rt:338:5
 cut-to-requires-2 : tie.Need-cut-to-requires-2
 cut-to-requires-2 c κs = search needs
 
--- src/lib.rt:339:5
 cut-to-requires-3 : tie.Need-cut-to-requires-3
 cut-to-requires-3 c κs = search needs
 
--- src/lib.rt:340:5
 mul-main : tie.Need-mul-main
-mul-main c = ?
+mul-main c =
+    let S = c .before .before .before .before .before .before .before .before .before .before .before .before .before .before .before .before .before .before .before .before .before in
+    omega (arith, S .pre .main-most, guard-top (S .args .file .now) (S .args .table .now) (S .args .regs) (S .args .main .now) (S .args .ptr .now) (S .args .ctl .now) _ (S .pre) (c .before .before .before .before .before .before .before .before .before .before .before .before .before .before .before .before .if1 .left) (c .before .before .before .before .before .before .before .before .before .before .before .before .before .before .guard-at .ensures))
 
--- src/lib.rt:340:5
 slice-write-main : tie.Need-slice-write-main
-slice-write-main c = ?
+slice-write-main c =
+    let S = c .before .before .before .before .before .before .before .before .before .before .before .before .before .before .before .before .before .before .before .before .before in
+    rw (c .before .before .before .before .before .before .before .before .before .before .cut-to .ensures, length-cut) (guard-top (S .args .file .now) (S .args .table .now) (S .args .regs) (S .args .main .now) (S .args .ptr .now) (S .args .ctl .now) _ (S .pre) (c .before .before .before .before .before .before .before .before .before .before .before .before .before .before .before .before .if1 .left) (c .before .before .before .before .before .before .before .before .before .before .before .before .before .before .guard-at .ensures))
 
--- src/lib.rt:345:15
-add-t19 : tie.Need-add-t19
-add-t19 c = ?
+add-above : tie.Need-add-above
+add-above c =
+    let S = c .before .before .before .before .before .before .before .before .before .before .before .before .before .before .before .before .before .before .before .before .before in
+    omega (arith, S .pre .main-most, guard-top (S .args .file .now) (S .args .table .now) (S .args .regs) (S .args .main .now) (S .args .ptr .now) (S .args .ctl .now) _ (S .pre) (c .before .before .before .before .before .before .before .before .before .before .before .before .before .before .before .before .if1 .left) (c .before .before .before .before .before .before .before .before .before .before .before .before .before .before .guard-at .ensures))
 
--- src/lib.rt:313:1
 same-length : tie.Need-same-length
 same-length c = search needs
 
--- src/lib.rt:313:1
 same-length-2 : tie.Need-same-length-2
 same-length-2 c = search needs
 
--- src/lib.rt:313:1
 same-length-3 : tie.Need-same-length-3
 same-length-3 c = search needs
 
--- src/lib.rt:313:1
 returns-2 : tie.Need-returns-2
-returns-2 c = ?
+returns-2 c heap =
+    let S = c .before .before .before .before .before .before .before .before .before .before .before .before .before .before .before .before .before .before .before .before .before in
+    caught-ends (S .args .file .now) (machine (S .args .regs) (S .args .main .now) (S .args .ptr .now) (S .args .ctl .now) heap) (S .args .code) _ _ _ _ _ (c .before .before .before .before .before .before .before .before .before .before .before .before .before .before .before .before .if1 .left) (c .before .before .before .before .before .before .before .before .before .before .before .before .before .before .guard-at .ensures) (c .before .before .before .before .before .before .before .before .before .before .before .before .target .ensures) (c .before .before .before .before .before .before .before .before .before .before .cut-to .ensures) (c .before .before .before .before .before .before .cut-to2 .ensures) (c .before .before .cut-to3 .ensures)
 
 pub raise-spec : {M : Type 1} → statement M
 raise-spec =
@@ -81,7 +79,7 @@ raise-spec =
     cut-to-requires-3
     mul-main
     slice-write-main
-    add-t19
+    add-above
     same-length
     same-length-2
     same-length-3
