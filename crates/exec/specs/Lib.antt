@@ -1,0 +1,4 @@
+pub mod Lists
+pub mod Applies
+pub mod Ended
+pub mod Writes
