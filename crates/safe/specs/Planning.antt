@@ -8,13 +8,12 @@ use native.Mathlib.Decide.{decLt}
 use native.Mathlib.Omega.{arith}
 use lib.ListN.{length, getD}
 use Rattle.model.specs.Choice.{All, Mem}
-use Rattle.model.specs.File.{basic, local, assign, onMain, onPtr, call, after, heads, headOf, procs, procAt, instructions, insAt, mostMain, mostPtr}
-use Rattle.model.specs.Checker.{outer, effectOf, depthTests, targetTests}
+use Rattle.model.specs.File.{local, assign, onMain, onPtr, call, heads, headOf, procs, instructions}
+use Rattle.model.specs.Checker.{effectOf, depthTests, targetTests}
 use Rattle.model.specs.Heap.{Pointer}
 use Rattle.model.specs.Control.{Machine, recOf, down}
 use Rattle.model.specs.Instructions.{mtop, ptop}
-use Rattle.model.specs.Sound.{mainAt, ptrAt, isIns, frameTests}
-use Rattle.model.specs.Claim.{assigned}
+use Rattle.model.specs.Sound.{isIns, frameTests}
 use Rattle.exact.specs.Walk.{member-in, getD-in, walk, walk-above, head-in, after-head, instruction-whole}
 use Rattle.sound.specs.Stack.{stack-frame, stack-numbers}
 use Rattle.sound.specs.Laws.{CodeLaws, rules}
@@ -24,6 +23,10 @@ use Rattle.sound.specs.Plan.{bases, frame-words}
 use Rattle.theory.specs.Demand.{heap-laws}
 use Rattle.plan.specs.Ready.{Ready, placeOf, here}
 use Rattle.safe.specs.Alive.{Alive, alive-laws, alive-running}
+
+pub instruction-at : (f : List ℕ) (p : ℕ) → isIns f p ≡ true → Mem p (instructions f)
+unfolding isIns
+instruction-at f p h = member-in p (instructions f) h
 
 -- the heads of a file in order
 module _ (f map : List ℕ) (L : CodeLaws f map) where
