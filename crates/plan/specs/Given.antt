@@ -1,17 +1,20 @@
 -- What each family of codes asks for, in the words of the lists that it reads.
 use Prim.Native.Nat.{ℕ, suc, _+_, _-_, _*_, _<_, _≤_}
 use mathlib.Core.List.{List}
-use mathlib.Core.Path.{_≡_}
+use mathlib.Core.Path.{_≡_, _∙_, ap}
 use lib.ListN.{length, getD}
 use mathlib.Core.Bool.{true, false}
-use borrow.Author.Tests.{eq-eqb, ne-eqb}
+use borrow.Author.Tests.{eq-eqb, ne-eqb, le-leb, lt-leb}
 use Rattle.model.specs.Words.{truth}
-use Rattle.model.specs.File.{operand, headOf, insOf, paramsMain, paramsPtr}
+use Rattle.model.specs.File.{call, operand, headOf, entry, insOf, paramsMain, paramsPtr, mostMain, mostPtr}
 use Rattle.model.specs.Control.{Machine}
 use Rattle.model.specs.Instructions.{mainWord, mtop, ptop, write, onValue, planOf}
 use Rattle.model.specs.declared.Regs.{Regs}
 use Rattle.model.specs.declared.Value.{Value}
-use Rattle.model.specs.declared.Into.the-variants.{Main}
+use Rattle.model.specs.declared.Into.the-variants.{Main, Frame}
+use Rattle.model.specs.declared.Plan.the-variants.{NoRoom}
+use Rattle.code.specs.declared.Head.{Head}
+use Rattle.code.specs.Heads.{procHead, HeadIs, head-of}
 
 -- a number of a word
 pub record Word (w r : ℕ) : Type 0 where
@@ -56,3 +59,59 @@ is-true w h = rw (ne-eqb w 0 h)
 pub is-false : (w : ℕ) → w ≡ 0 → truth w ≡ false
 unfolding truth
 is-false w h = rw (eq-eqb w 0 h)
+
+-- the numbers of procedure n, whose head v stands at h
+pub record Numbers (f : List ℕ) (n h : ℕ) (v : Head) : Type 0 where
+  pub at : h ≡ headOf f n
+  pub main : v .a ≡ paramsMain f n
+  pub ptr : v .b ≡ paramsPtr f n
+  pub most-main : v .x ≡ mostMain f n
+  pub most-ptr : v .y ≡ mostPtr f n
+  pub small : v .x < 256
+  pub small-ptr : v .y < 256
+
+pub numbers : {f table : List ℕ} {r : Regs} (s : ℕ) {v : Head} → Callee f table r → s ≡ operand f (r .place) →
+    HeadIs f (getD table s 0) v → Numbers f (operand f (r .place)) (getD table s 0) v
+unfolding procHead
+numbers {f} {table} {r} s {v} C e H =
+    let n = operand f (r .place) in
+    let t : getD table s 0 ≡ headOf f n = rw e (C .head) in
+    let k : v ≡ procHead f n = H .is ∙ head-of f n (getD table s 0) t in
+    record {
+      at = t;
+      main = ap (λ x. x .a) k;
+      ptr = ap (λ x. x .b) k;
+      most-main = ap (λ x. x .x) k;
+      most-ptr = ap (λ x. x .y) k;
+      small = H .x-small;
+      small-ptr = H .y-small;
+    }
+
+-- a call that finds no room, and one that does
+module _ {f : List ℕ} {n h : ℕ} {v : Head} (N : Numbers f n h v) (m : Machine) (q : ℕ) where
+  pub no-main : length (m .main) < mtop m - v .a + v .x → NoRoom ≡ planOf f m q (call n)
+  unfolding planOf
+  no-main t = let t′ : length (m .main) < mtop m - paramsMain f n + mostMain f n = rw (N .main, N .most-main) at t in rw (lt-leb _ _ t′)
+
+  pub no-ptr : mtop m - v .a + v .x ≤ length (m .main) → length (m .ptr) < ptop m - v .b + v .y → NoRoom ≡ planOf f m q (call n)
+  unfolding planOf
+  no-ptr s t =
+      let s′ : mtop m - paramsMain f n + mostMain f n ≤ length (m .main) = rw (N .main, N .most-main) at s in
+      let t′ : length (m .ptr) < ptop m - paramsPtr f n + mostPtr f n = rw (N .ptr, N .most-ptr) at t in
+      rw (le-leb _ _ s′, lt-leb _ _ t′)
+
+  pub no-ctl : mtop m - v .a + v .x ≤ length (m .main) → ptop m - v .b + v .y ≤ length (m .ptr) →
+      length (m .ctl) < m .regs .ctop + 5 → NoRoom ≡ planOf f m q (call n)
+  unfolding planOf
+  no-ctl s t u =
+      let s′ : mtop m - paramsMain f n + mostMain f n ≤ length (m .main) = rw (N .main, N .most-main) at s in
+      let t′ : ptop m - paramsPtr f n + mostPtr f n ≤ length (m .ptr) = rw (N .ptr, N .most-ptr) at t in
+      rw (le-leb _ _ s′, le-leb _ _ t′, lt-leb _ _ u)
+
+  pub room : mtop m - v .a + v .x ≤ length (m .main) → ptop m - v .b + v .y ≤ length (m .ptr) →
+      m .regs .ctop + 5 ≤ length (m .ctl) → write Frame (h + 7) (mtop m) (ptop m) (mtop m - v .a) (ptop m - v .b) ≡ planOf f m q (call n)
+  unfolding planOf entry
+  room s t u =
+      let s′ : mtop m - paramsMain f n + mostMain f n ≤ length (m .main) = rw (N .main, N .most-main) at s in
+      let t′ : ptop m - paramsPtr f n + mostPtr f n ≤ length (m .ptr) = rw (N .ptr, N .most-ptr) at t in
+      rw (le-leb _ _ s′, le-leb _ _ t′, le-leb _ _ u, N .at, N .main, N .ptr)

@@ -135,8 +135,8 @@ fn forms(file: &[u8], heap: &[u32], regs: Regs) -> Plan
 fn retracts(file: &[u8], main: &[u32], ptr: &[u32], regs: Regs, kind: u8) -> Plan
     requires { ⌜ Body (now file) (regs .place) 4 × Within (now main) (regs .mtop) × Within (now ptr) (regs .ptop)
         × (model.operand (now file) (regs .place) ≤ regs .mtop) × (model.operand2 (now file) (regs .place) ≤ regs .ptop)
-        × (((kind ≡ 60) × (model.operand (now file) (regs .place) < regs .mtop))
-        ⊎ (((kind ≡ 62) × (model.operand2 (now file) (regs .place) < regs .ptop)) ⊎ (kind ≡ 64))) ⌝ }
+        × (kind ≡ 60 → model.operand (now file) (regs .place) < regs .mtop)
+        × (kind ≡ 62 → model.operand2 (now file) (regs .place) < regs .ptop) × ((kind ≡ 60) ⊎ ((kind ≡ 62) ⊎ (kind ≡ 64))) ⌝ }
     ensures { λ r. ⌜ ((c h : List ℕ) → r ≡ planned (now (file .entry)) (machine regs (now (main .entry)) (now (ptr .entry)) c h) 5 kind) ⌝ }
 {
     let place = regs.place;

@@ -1,3 +1,10 @@
+-- `plan::calls`: the table has the callee's head, where its numbers stand (`numbers`); the definition's tests of the room are the code's.
+use Rattle.plan.specs.Given.{numbers, no-main, no-ptr, no-ctl, room}
+use Rattle.plan.specs.Ready.{planned}
+use Rattle.model.specs.File.{insOf}
+use Rattle.model.specs.Control.{machine}
+use native.Mathlib.Omega.{arith}
+use mathlib.Core.Path.{_∙_}
 use borrow.Author.Needs.{needs}
 use Rattle.plan.proofs.calls.Statement.{statement}
 use Rattle.plan.proofs.calls.Tie as tie
@@ -21,47 +28,59 @@ element-copy-out-h c = search needs
 
 -- src/lib.rt:166:9
 head-at-requires : tie.Need-head-at-requires
-head-at-requires c κs = ?
+head-at-requires c κs = rw (c .before .operand .ensures .is) (omega (arith, c .before .before .before .before .before .before .pre .4))
 
 -- src/lib.rt:167:13
 sub-m : tie.Need-sub-m
-sub-m c = ?
+sub-m c = let k = numbers _ (c .before .before .before .before .before .before .before .before .before .pre .4) (c .before .before .before .before .operand .ensures .is) (c .before .before .head-at .ensures) in omega (arith, c .before .before .before .before .before .before .before .before .before .pre .4)
 
 -- src/lib.rt:168:13
 sub-q : tie.Need-sub-q
-sub-q c = ?
+sub-q c = let k = numbers _ (c .before .before .before .before .before .before .before .before .before .before .before .pre .4) (c .before .before .before .before .before .before .operand .ensures .is) (c .before .before .before .before .head-at .ensures) in omega (arith, c .before .before .before .before .before .before .before .before .before .before .before .pre .4)
 
 -- src/lib.rt:169:21
 add-if1 : tie.Need-add-if1
-add-if1 c = ?
+add-if1 c = omega (arith, c .before .before .before .before .before .head-at .ensures, c .before .before .before .before .before .before .before .before .before .before .before .before .pre)
 
 -- src/lib.rt:170:9
 returns : tie.Need-returns
-returns c = ?
+unfolding planned insOf
+returns c =
+    λ h.
+    let k = numbers _ (c .before .before .before .before .before .before .before .before .before .before .before .before .before .pre .4) (c .before .before .before .before .before .before .before .before .operand .ensures .is) (c .before .before .before .before .before .before .head-at .ensures) in
+    no-main k (machine _ _ _ _ h) _ (c .if1 .taken)
 
 -- src/lib.rt:172:20
 add-if2 : tie.Need-add-if2
-add-if2 c = ?
+add-if2 c = omega (arith, c .before .before .before .before .before .before .before .head-at .ensures, c .before .before .before .before .before .before .before .before .before .before .before .before .before .before .pre)
 
 -- src/lib.rt:173:9
 returns-2 : tie.Need-returns-2
-returns-2 c = ?
+unfolding planned insOf
+returns-2 c =
+    λ h.
+    let k = numbers _ (c .before .before .before .before .before .before .before .before .before .before .before .before .before .before .before .pre .4) (c .before .before .before .before .before .before .before .before .before .before .operand .ensures .is) (c .before .before .before .before .before .before .before .before .head-at .ensures) in
+    no-ptr k (machine _ _ _ _ h) _ (c .before .before .if1 .left) (c .if2 .taken)
 
 -- src/lib.rt:175:20
 add-if3 : tie.Need-add-if3
-add-if3 c = ?
+add-if3 c = omega (arith, c .before .before .before .before .before .before .before .before .before .before .before .before .before .before .before .before .pre)
 
 -- src/lib.rt:176:9
 returns-3 : tie.Need-returns-3
-returns-3 c = ?
+unfolding planned insOf
+returns-3 c =
+    λ h.
+    let k = numbers _ (c .before .before .before .before .before .before .before .before .before .before .before .before .before .before .before .before .before .pre .4) (c .before .before .before .before .before .before .before .before .before .before .before .before .operand .ensures .is) (c .before .before .before .before .before .before .before .before .before .before .head-at .ensures) in
+    no-ctl k (machine _ _ _ _ h) _ (c .before .before .before .before .if1 .left) (c .before .before .if2 .left) (c .if3 .taken)
 
 -- src/lib.rt:178:25
 add-writes : tie.Need-add-writes
-add-writes c = ?
+add-writes c = let k = numbers _ (c .before .before .before .before .before .before .before .before .before .before .before .before .before .before .before .before .before .pre .4) (c .before .before .before .before .before .before .before .before .before .before .before .before .operand .ensures .is) (c .before .before .before .before .before .before .before .before .before .before .head-at .ensures) in omega (arith, c .before .before .before .before .before .before .before .before .before .before .before .before .before .before .before .before .before .pre)
 
 -- src/lib.rt:178:57
 cast-writes : tie.Need-cast-writes
-cast-writes c = ?
+cast-writes c = omega (arith, c .before .before .before .before .before .before .before .before .before .before .before .before .before .before .before .before .before .pre)
 
 -- src/lib.rt:178:5
 writes-requires : tie.Need-writes-requires
@@ -69,7 +88,11 @@ writes-requires c κs = search needs
 
 -- src/lib.rt:159:1
 returns-4 : tie.Need-returns-4
-returns-4 c = ?
+unfolding planned insOf
+returns-4 c =
+    λ h.
+    let k = numbers _ (c .before .before .before .before .before .before .before .before .before .before .before .before .before .before .before .before .before .before .pre .4) (c .before .before .before .before .before .before .before .before .before .before .before .before .before .operand .ensures .is) (c .before .before .before .before .before .before .before .before .before .before .before .head-at .ensures) in
+    c .writes .ensures ∙ room k (machine _ _ _ _ h) _ (c .before .before .before .before .before .if1 .left) (c .before .before .before .if2 .left) (c .before .if3 .left)
 
 pub calls-spec : {M : Type 1} → statement M
 calls-spec =

@@ -1,3 +1,12 @@
+-- `plan::forms`: the definition's test of the room is the code's.
+use Rattle.plan.specs.Ready.{planned}
+use Rattle.model.specs.Instructions.{basicPlan, planOf}
+use Rattle.model.specs.File.{operand, operand2, insOf}
+use Rattle.model.specs.Heap.{markOf}
+use lib.ListN.{length}
+use borrow.Author.Tests.{le-leb, lt-leb}
+use native.Mathlib.Omega.{arith}
+use Prim.Native.Nat.{_+_, _<_, _≤_}
 use borrow.Author.Needs.{needs}
 use Rattle.plan.proofs.forms.Statement.{statement}
 use Rattle.plan.proofs.forms.Tie as tie
@@ -38,7 +47,16 @@ add-if1-3 c = search needs
 
 -- src/lib.rt:128:9
 returns : tie.Need-returns
-returns c = ?
+unfolding planned planOf basicPlan insOf
+returns c =
+    λ m p q.
+    let f = c .before .before .before .before .before .before .before .args .file .now in
+    let at = c .before .before .before .before .before .before .before .args .regs .place in
+    let h = c .before .before .before .before .before .before .before .args .heap .now in
+    let t : length h < markOf h + (2 + operand f at + operand2 f at) =
+    omega (arith, c .if1 .taken, c .before .wide .ensures .is, c .before .before .before .operand2 .ensures .is, c .before .before .before .before .operand .ensures .is)
+    in
+    rw (lt-leb _ _ t)
 
 -- src/lib.rt:130:14
 sub-at : tie.Need-sub-at
@@ -62,7 +80,16 @@ writes-requires c κs = search needs
 
 -- src/lib.rt:118:1
 returns-2 : tie.Need-returns-2
-returns-2 c = ?
+unfolding planned planOf basicPlan insOf
+returns-2 c =
+    λ m p q.
+    let f = c .before .before .before .before .before .before .before .before .before .before .args .file .now in
+    let at = c .before .before .before .before .before .before .before .before .before .before .args .regs .place in
+    let h = c .before .before .before .before .before .before .before .before .before .before .args .heap .now in
+    let t : markOf h + (2 + operand f at + operand2 f at) ≤ length h =
+    omega (arith, c .before .before .before .if1 .left, c .before .before .before .before .wide .ensures .is, c .before .before .before .before .before .before .operand2 .ensures .is, c .before .before .before .before .before .before .before .operand .ensures .is)
+    in
+    rw (c .writes .ensures, le-leb _ _ t, c .before .before .before .before .before .before .operand2 .ensures .is, c .before .before .before .before .before .before .before .operand .ensures .is)
 
 pub forms-spec : {M : Type 1} → statement M
 forms-spec =

@@ -1,3 +1,10 @@
+-- `plan::retracts`: at each of the three codes the definition computes.
+use Rattle.plan.specs.Ready.{planned}
+use Rattle.model.specs.Instructions.{basicPlan, planOf}
+use Rattle.model.specs.File.{insOf}
+use native.Mathlib.Omega.{arith}
+use mathlib.Core.Logic.{⊎-elim}
+use mathlib.Core.Path.{_≡_}
 use borrow.Author.Needs.{needs}
 use Rattle.plan.proofs.retracts.Statement.{statement}
 use Rattle.plan.proofs.retracts.Tie as tie
@@ -25,7 +32,7 @@ sub-q c = search needs
 
 -- src/lib.rt:147:23
 sub-top : tie.Need-sub-top
-sub-top c = ?
+sub-top c = omega (arith, c .before .before .before .before .before .before .before .before .before .pre .5 (c .before .match .keys1))
 
 -- src/lib.rt:148:32
 add-writes : tie.Need-add-writes
@@ -33,7 +40,7 @@ add-writes c = search needs
 
 -- src/lib.rt:148:49
 sub-writes : tie.Need-sub-writes
-sub-writes c = ?
+sub-writes c = omega (arith, c .before .before .before .before .before .before .before .before .before .pre .5 (c .before .match .keys1), c .before .before .before .before .before .operand .ensures .is)
 
 -- src/lib.rt:148:56
 mul-writes : tie.Need-mul-writes
@@ -41,7 +48,7 @@ mul-writes c = search needs
 
 -- src/lib.rt:148:56
 shared-slice-read-writes : tie.Need-shared-slice-read-writes
-shared-slice-read-writes c = ?
+shared-slice-read-writes c = omega (arith, c .before .before .before .before .before .before .before .before .before .before .pre .5 (c .before .before .match .keys1))
 
 -- src/lib.rt:148:13
 writes-requires : tie.Need-writes-requires
@@ -49,7 +56,7 @@ writes-requires c κs = search needs
 
 -- src/lib.rt:151:23
 sub-top-2 : tie.Need-sub-top-2
-sub-top-2 c = ?
+sub-top-2 c = omega (arith, c .before .before .before .before .before .before .before .before .before .pre .6 (c .before .match .keys2))
 
 -- src/lib.rt:152:35
 add-writes-2 : tie.Need-add-writes-2
@@ -57,7 +64,7 @@ add-writes-2 c = search needs
 
 -- src/lib.rt:152:52
 sub-writes-2 : tie.Need-sub-writes-2
-sub-writes-2 c = ?
+sub-writes-2 c = omega (arith, c .before .before .before .before .before .before .before .before .before .pre .6 (c .before .match .keys2), c .before .before .before .operand2 .ensures .is)
 
 -- src/lib.rt:152:59
 mul-writes-2 : tie.Need-mul-writes-2
@@ -65,7 +72,7 @@ mul-writes-2 c = search needs
 
 -- src/lib.rt:152:59
 shared-slice-read-writes-2 : tie.Need-shared-slice-read-writes-2
-shared-slice-read-writes-2 c = ?
+shared-slice-read-writes-2 c = omega (arith, c .before .before .before .before .before .before .before .before .before .before .pre .6 (c .before .before .match .keys2))
 
 -- src/lib.rt:152:13
 writes-requires-2 : tie.Need-writes-requires-2
@@ -81,15 +88,22 @@ writes-requires-3 c κs = search needs
 
 -- src/lib.rt:135:1
 returns : tie.Need-returns
-returns c = ?
+unfolding planned planOf basicPlan insOf
+returns c = λ p h. rw (c .writes .ensures, c .before .before .before .match .keys1, c .before .before .before .before .before .operand2 .ensures .is, c .before .before .before .before .before .before .before .operand .ensures .is)
 
 -- src/lib.rt:135:1
 returns-2 : tie.Need-returns-2
-returns-2 c = ?
+unfolding planned planOf basicPlan insOf
+returns-2 c = λ p h. rw (c .writes2 .ensures, c .before .before .before .match .keys2, c .before .before .before .before .before .operand2 .ensures .is, c .before .before .before .before .before .before .before .operand .ensures .is)
 
 -- src/lib.rt:135:1
 returns-3 : tie.Need-returns-3
-returns-3 c = ?
+unfolding planned planOf basicPlan insOf
+returns-3 c =
+    λ p h.
+    let n = c .before .match .rest in
+    let e : c .before .before .before .before .before .before .before .before .before .args .kind ≡ 64 = ⊎-elim (λ e. absurd (n .0 .1 e)) (⊎-elim (λ e. absurd (n .1 e)) (λ e. e)) (c .before .before .before .before .before .before .before .before .before .pre .7) in
+    rw (c .writes3 .ensures, e, c .before .before .before .operand2 .ensures .is, c .before .before .before .before .before .operand .ensures .is)
 
 pub retracts-spec : {M : Type 1} → statement M
 retracts-spec =
