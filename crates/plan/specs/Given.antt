@@ -3,23 +3,23 @@ use Prim.Native.Nat.{ℕ, suc, _+_, _-_, _*_, _<_, _≤_}
 use mathlib.Core.List.{List}
 use mathlib.Core.Path.{_≡_, _∙_, ap}
 use lib.ListN.{length, getD}
-use mathlib.Core.Bool.{true, false}
+use mathlib.Core.Bool.{Bool, true, false}
+use mathlib.Core.Logic.{_⊎_, inl, inr}
 use borrow.Author.Tests.{eq-eqb, ne-eqb, le-leb, lt-leb}
-use Rattle.model.specs.Words.{truth}
+use lib.Dec.{eqb}
+use Rattle.model.specs.Words.{truth, bit, eqW, operate}
 use Rattle.model.specs.File.{call, operand, headOf, entry, insOf, paramsMain, paramsPtr, mostMain, mostPtr}
 use Rattle.model.specs.Control.{Machine}
-use Rattle.model.specs.Instructions.{mainWord, mtop, ptop, write, onValue, planOf}
+use Rattle.model.specs.Instructions.{mainWord, mtop, ptop, write, onValue, onObject, planOf}
 use Rattle.model.specs.declared.Regs.{Regs}
 use Rattle.model.specs.declared.Value.{Value}
+use Rattle.model.specs.declared.Value.the-variants.{Word}
 use Rattle.model.specs.declared.Into.the-variants.{Main, Frame}
-use Rattle.model.specs.declared.Plan.the-variants.{NoRoom}
+use Rattle.model.specs.declared.Plan.{Plan}
+use Rattle.model.specs.declared.Plan.the-variants.{NilObject, BadField, NoRoom}
 use Rattle.code.specs.declared.Head.{Head}
+use Rattle.heap.specs.Stores.{Lies}
 use Rattle.code.specs.Heads.{procHead, HeadIs, head-of}
-
--- a number of a word
-pub record Word (w r : ℕ) : Type 0 where
-  pub is : r ≡ w
-  pub small : r < 4294967296
 
 -- n bytes behind p are the file's
 pub record Body (f : List ℕ) (p n : ℕ) : Type 0 where
@@ -50,6 +50,11 @@ unfoldable pub Binary : ℕ → ℕ → ℕ → Value → Type 0
 Binary k a b v =
     (f : List ℕ) (p : ℕ) (m : Machine) (q : ℕ) → mainWord m 2 ≡ a → mainWord m 1 ≡ b →
     onValue v (λ w. write Main q (mtop m - 1) (ptop m) (mtop m - 2) w) ≡ planOf f m q (insOf f p k)
+
+-- the word of a comparison
+pub same-word : (a b : ℕ) {w : ℕ} → Word w ≡ operate eqW a b → w ≡ bit (eqb a b)
+unfolding operate
+same-word a b e = cc e
 
 -- a word's truth
 pub is-true : (w : ℕ) → (w ≡ 0 → ⊥) → truth w ≡ true
@@ -86,6 +91,14 @@ numbers {f} {table} {r} s {v} C e H =
       small = H .x-small;
       small-ptr = H .y-small;
     }
+
+-- an object on the stack, not nil
+pub not-nil : {w r : ℕ} → r ≡ w → (r ≡ 0 → ⊥) → w ≡ 0 → ⊥
+not-nil e n z = n (e ∙ z)
+
+pub lies : {h : List ℕ} {w r : ℕ} → (w ≡ 0) ⊎ Lies h w → r ≡ w → (r ≡ 0 → ⊥) → Lies h r
+lies (inl z) e n = absurd (n (e ∙ z))
+lies (inr l) e n = rw e l
 
 -- a call that finds no room, and one that does
 module _ {f : List ℕ} {n h : ℕ} {v : Head} (N : Numbers f n h v) (m : Machine) (q : ℕ) where

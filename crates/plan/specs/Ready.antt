@@ -3,6 +3,7 @@ use Prim.Native.Nat.{ℕ, suc, _+_, _-_, _*_, _<_, _≤_}
 use mathlib.Core.List.{List}
 use mathlib.Core.Logic.{_⊎_}
 use mathlib.Core.Path.{_≡_}
+use native.Mathlib.Omega.{arith}
 use lib.ListN.{length, getD}
 use Rattle.model.specs.Choice.{Mem}
 use Rattle.model.specs.Words.{wordAt}
@@ -62,3 +63,8 @@ pub record Ready (f table : List ℕ) (m : Machine) : Type 0 where
 -- the plan of code k at the machine's place, its record being n bytes long
 unfoldable pub planned : List ℕ → Machine → ℕ → ℕ → Plan
 planned f m n k = planOf f m (placeOf m + n) (insOf f (placeOf m) k)
+
+-- which the code at the place is
+pub plan-is : (f : List ℕ) (m : Machine) (k n : ℕ) → byteAt f (placeOf m) ≡ k → bodyOf k ≡ n → planned f m (suc n) k ≡ planAt f m
+unfolding planned planAt after insAt
+plan-is f m k n e b = let s : placeOf m + suc n ≡ placeOf m + 1 + bodyOf k = omega arith in rw (e, s)

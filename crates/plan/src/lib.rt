@@ -12,11 +12,12 @@ ghost use Prim.Native.Nat.{ℕ, _+_, _-_, _*_, _<_, _≤_};
 ghost use lib.ListN.{length, getD};
 ghost use Rattle.model.specs.Words.{wordAt};
 ghost use Rattle.model.specs.File as model;
-ghost use Rattle.model.specs.Heap.{markOf};
 ghost use Rattle.model.specs.Control.{machine, recOf};
 ghost use Rattle.model.specs.Instructions.{write, onValue, planAt};
 ghost use Rattle.plan.specs.Ready.{Ready, planned};
-ghost use Rattle.plan.specs.Given.{Body, Within, Record, Callee, Binary, Word};
+ghost use Rattle.code.specs.Parts.{Small};
+ghost use Rattle.heap.specs.Stores.{Lies};
+ghost use Rattle.plan.specs.Given.{Body, Within, Record, Callee, Binary};
 
 fn writes(into: Into, place: usize, mtop: usize, ptop: usize, at: usize, word: u32) -> Plan
     ensures { λ r. ⌜ r ≡ write into place mtop ptop at word ⌝ }
@@ -42,7 +43,7 @@ fn result(value: Value, place: usize, mtop: usize, ptop: usize, at: usize) -> Pl
 }
 
 fn wide(w: u32) -> usize
-    ensures { λ r. ⌜ Word w r ⌝ }
+    ensures { λ r. ⌜ Small 4294967296 w r ⌝ }
 {
     w as usize
 }
@@ -114,6 +115,56 @@ fn ptr_locals(file: &[u8], ptr: &[u32], ctl: &[u32], regs: Regs, kind: u8) -> Pl
     writes(Into::Pointer, place + 3, regs.mtop, rest, at, ptr[rest])
 }
 
+// 30 and 32: a plain word of an object.
+fn plain_fields(file: &[u8], main: &[u32], ptr: &[u32], heap: &[u32], regs: Regs, kind: u8) -> Plan
+    requires { ⌜ Body (now file) (regs .place) 2 × Within (now main) (regs .mtop) × Within (now ptr) (regs .ptop) × (1 ≤ regs .ptop)
+        × ((wordAt (now ptr) (regs .ptop - 1) ≡ 0) ⊎ Lies (now heap) (wordAt (now ptr) (regs .ptop - 1)))
+        × (kind ≡ 32 → 1 ≤ regs .mtop) × ((kind ≡ 30) ⊎ (kind ≡ 32)) ⌝ }
+    ensures { λ r. ⌜ ((c : List ℕ) → r ≡ planned (now (file .entry)) (machine regs (now (main .entry)) (now (ptr .entry)) c (now (heap .entry))) 3 kind) ⌝ }
+{
+    let place = regs.place;
+    let top = regs.ptop - 1;
+    let object = wide(ptr[top]);
+    if object == 0 {
+        return Plan::NilObject;
+    }
+    let s = code::operand(file, place);
+    if !heap::in_plain(heap, object, s) {
+        return Plan::BadField;
+    }
+    let at = object + s;
+    if kind == 30 {
+        return writes(Into::Main, place + 3, regs.mtop + 1, top, regs.mtop, heap[at]);
+    }
+    let value = regs.mtop - 1;
+    writes(Into::Heap, place + 3, value, top, at, main[value])
+}
+
+// 31 and 33: a pointer word of an object.
+fn ptr_fields(file: &[u8], ptr: &[u32], heap: &[u32], regs: Regs, kind: u8) -> Plan
+    requires { ⌜ Body (now file) (regs .place) 2 × Within (now ptr) (regs .ptop) × (1 ≤ regs .ptop)
+        × ((wordAt (now ptr) (regs .ptop - 1) ≡ 0) ⊎ Lies (now heap) (wordAt (now ptr) (regs .ptop - 1)))
+        × (kind ≡ 33 → 2 ≤ regs .ptop) × ((kind ≡ 31) ⊎ (kind ≡ 33)) ⌝ }
+    ensures { λ r. ⌜ ((m c : List ℕ) → r ≡ planned (now (file .entry)) (machine regs m (now (ptr .entry)) c (now (heap .entry))) 3 kind) ⌝ }
+{
+    let place = regs.place;
+    let top = regs.ptop - 1;
+    let object = wide(ptr[top]);
+    if object == 0 {
+        return Plan::NilObject;
+    }
+    let s = code::operand(file, place);
+    if !heap::in_ptrs(heap, object, s) {
+        return Plan::BadField;
+    }
+    let at = object + s;
+    if kind == 31 {
+        return writes(Into::Pointer, place + 3, regs.mtop, regs.ptop, top, heap[at]);
+    }
+    let value = regs.ptop - 2;
+    writes(Into::Heap, place + 3, regs.mtop, value, at, ptr[value])
+}
+
 // 36: a new view.
 fn forms(file: &[u8], heap: &[u32], regs: Regs) -> Plan
     requires { ⌜ Body (now file) (regs .place) 4 × (model.operand (now file) (regs .place) ≤ regs .mtop)
@@ -129,6 +180,30 @@ fn forms(file: &[u8], heap: &[u32], regs: Regs) -> Plan
     }
     let at = regs.ptop - ptrs;
     writes(Into::View, place + 5, regs.mtop - plain, at + 1, at, mark)
+}
+
+// 54 and 56: a literal.
+fn literals(file: &[u8], regs: Regs, kind: u8) -> Plan
+    requires { ⌜ Body (now file) (regs .place) (model.bodyOf kind) × (regs .mtop ≤ 4096) × ((kind ≡ 54) ⊎ (kind ≡ 56)) ⌝ }
+    ensures { λ r. ⌜ ((m p c h : List ℕ) → r ≡ planned (now (file .entry)) (machine regs m p c h) (1 + model.bodyOf kind) kind) ⌝ }
+{
+    let place = regs.place;
+    let top = regs.mtop;
+    if kind == 54 {
+        let at = place + 1;
+        let word = code::signed_byte(file[at]);
+        return writes(Into::Main, place + 2, top + 1, regs.ptop, top, word);
+    }
+    writes(Into::Main, place + 5, top + 1, regs.ptop, top, code::operand4(file, place))
+}
+
+// 59: into the root.
+fn set_root(ptr: &[u32], regs: Regs) -> Plan
+    requires { ⌜ (regs .place < 4096) × Within (now ptr) (regs .ptop) × (1 ≤ regs .ptop) ⌝ }
+    ensures { λ r. ⌜ ((f m c h : List ℕ) → r ≡ planned f (machine regs m (now (ptr .entry)) c h) 1 59) ⌝ }
+{
+    let top = regs.ptop - 1;
+    writes(Into::Heap, regs.place + 1, regs.mtop, top, 1, ptr[top])
 }
 
 // 60, 62 and 64: drops words under the one set aside.
@@ -176,6 +251,38 @@ fn calls(file: &[u8], table: &[usize; 64], main: &[u32], ptr: &[u32], ctl: &[u32
         return Plan::NoRoom;
     }
     writes(Into::Frame, h + 7, regs.mtop, regs.ptop, m, q as u32)
+}
+
+// 73: back to the return place.
+fn leaves(ctl: &[u32], regs: Regs) -> Plan
+    requires { ⌜ Record (now ctl) (regs .frame) ⌝ }
+    ensures { λ r. ⌜ ((f m p h : List ℕ) → r ≡ planned f (machine regs m p (now (ctl .entry)) h) 1 73) ⌝ }
+{
+    let at = 5 * (regs.frame - 1) + 3;
+    let place = wide(ctl[at]);
+    writes(Into::Return, place, regs.mtop, regs.ptop, 0, 0)
+}
+
+// 160: a handler's record.
+fn opens(ctl: &[u32], regs: Regs) -> Plan
+    requires { ⌜ (regs .place < 4096) × (regs .ctop ≤ 1280) ⌝ }
+    ensures { λ r. ⌜ ((f m p h : List ℕ) → r ≡ planned f (machine regs m p (now (ctl .entry)) h) 3 160) ⌝ }
+{
+    if ctl.len() < regs.ctop + 5 {
+        return Plan::NoRoom;
+    }
+    writes(Into::Handler, regs.place + 3, regs.mtop, regs.ptop, 0, 0)
+}
+
+// 131: two pointers are the same.
+fn same_ptr(ptr: &[u32], regs: Regs) -> Plan
+    requires { ⌜ (regs .place < 4096) × (regs .mtop ≤ 4096) × Within (now ptr) (regs .ptop) × (2 ≤ regs .ptop) ⌝ }
+    ensures { λ r. ⌜ ((f m c h : List ℕ) → r ≡ planned f (machine regs m (now (ptr .entry)) c h) 1 131) ⌝ }
+{
+    let second = regs.ptop - 1;
+    let first = regs.ptop - 2;
+    let word = words::eq_w(ptr[first], ptr[second]);
+    writes(Into::Main, regs.place + 1, regs.mtop + 1, first, regs.mtop, word)
 }
 
 fn compare(kind: u8, a: u32, b: u32) -> u32
