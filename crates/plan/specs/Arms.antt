@@ -36,11 +36,12 @@ module _ {f table : List ℕ} {m : Machine} (R : Ready f table m) where
   pub record-in : Record (m .ctl) (m .regs .frame)
   record-in = record { some = R .frame-some; inside = omega (arith, R .frame-in, R .ctl-top); few = R .ctl-most }
 
-  pub body : (ns : List ℕ) (n : ℕ) → Every (λ k. bodyOf k ≡ n) ns → OneOf ns (codeAt f m) → Body f (placeOf m) n
+  pub body-here : Body f (placeOf m) (bodyOf (codeAt f m))
   unfolding after
-  body ns n h e =
-      let b = every (λ k. bodyOf k ≡ n) ns (codeAt f m) h e in
-      record { inside = omega (arith, R .whole); short = R .short }
+  body-here = record { inside = omega (arith, R .whole); short = R .short }
+
+  pub body : (ns : List ℕ) (n : ℕ) → Every (λ k. bodyOf k ≡ n) ns → OneOf ns (codeAt f m) → Body f (placeOf m) n
+  body ns n h e = rw (every (λ k. bodyOf k ≡ n) ns (codeAt f m) h e) at body-here
 
   pub pops-main : (ns : List ℕ) (n : ℕ) → Every (λ k. effectOf f (insOf f (placeOf m) k) .popMain ≡ n) ns → OneOf ns (codeAt f m) → n ≤ mtop m
   unfolding insAt
@@ -67,6 +68,12 @@ module _ {f table : List ℕ} {m : Machine} (R : Ready f table m) where
   unfolding insOf
   ptr-word (inl e) = R .local-ptr (operand f (placeOf m)) (is-at 21 e)
   ptr-word (inr e) = omega (arith, R .assign-ptr (operand f (placeOf m)) (is-at 23 e))
+
+  pub drops : OneOf (60 ∷ 62 ∷ 64 ∷ []) (codeAt f m) → (operand f (placeOf m) ≤ mtop m) × (operand2 f (placeOf m) ≤ ptop m)
+  unfolding insOf effectOf basicEffect
+  drops (inl e) = let k = pops-main (60 ∷ []) _ (refl, tt) e in (omega arith, pops-ptr (60 ∷ []) _ (refl, tt) e)
+  drops (inr (inl e)) = let k = pops-ptr (62 ∷ []) _ (refl, tt) e in (pops-main (62 ∷ []) _ (refl, tt) e, omega arith)
+  drops (inr (inr e)) = (pops-main (64 ∷ []) _ (refl, tt) e, pops-ptr (64 ∷ []) _ (refl, tt) e)
 
   pub points : (i : ℕ) → (wordAt (m .ptr) i ≡ 0) ⊎ Lies (m .heap) (wordAt (m .ptr) i)
   points i = ⊎-elim (λ e. inl e) (λ o. inr (object-lies (R .heap) _ o)) (R .pointers i)

@@ -8,7 +8,7 @@ use model::Value;
 ghost use mathlib.Core.Path.{_≡_};
 ghost use mathlib.Core.List.{List};
 ghost use mathlib.Core.Logic.{_⊎_};
-ghost use Prim.Native.Nat.{ℕ, _+_, _-_, _*_, _<_, _≤_};
+ghost use Prim.Native.Nat.{ℕ, suc, _+_, _-_, _*_, _<_, _≤_};
 ghost use lib.ListN.{length, getD};
 ghost use Rattle.model.specs.Words.{wordAt};
 ghost use Rattle.model.specs.File as model;
@@ -185,7 +185,7 @@ fn forms(file: &[u8], heap: &[u32], regs: Regs) -> Plan
 // 54 and 56: a literal.
 fn literals(file: &[u8], regs: Regs, kind: u8) -> Plan
     requires { ⌜ Body (now file) (regs .place) (model.bodyOf kind) × (regs .mtop ≤ 4096) × ((kind ≡ 54) ⊎ (kind ≡ 56)) ⌝ }
-    ensures { λ r. ⌜ ((m p c h : List ℕ) → r ≡ planned (now (file .entry)) (machine regs m p c h) (1 + model.bodyOf kind) kind) ⌝ }
+    ensures { λ r. ⌜ ((m p c h : List ℕ) → r ≡ planned (now (file .entry)) (machine regs m p c h) (suc (model.bodyOf kind)) kind) ⌝ }
 {
     let place = regs.place;
     let top = regs.mtop;
@@ -365,4 +365,39 @@ fn unaries(main: &[u32], regs: Regs, kind: u8) -> Plan
         return result(words::neg(a), place, regs.mtop, regs.ptop, at);
     }
     writes(Into::Main, place, regs.mtop, regs.ptop, at, words::not(a))
+}
+
+// The plan of the instruction at the machine's place; table holds the procedures' heads.
+pub fn plan_at(file: &[u8], table: &[usize; 64], main: &[u32], ptr: &[u32], ctl: &[u32], heap: &[u32], regs: Regs) -> Plan
+    requires { ⌜ Ready (now file) (now table) (machine regs (now main) (now ptr) (now ctl) (now heap)) ⌝ }
+    ensures { λ r. ⌜ r ≡ planAt (now (file .entry)) (machine regs (now (main .entry)) (now (ptr .entry)) (now (ctl .entry)) (now (heap .entry))) ⌝ }
+{
+    let place = regs.place;
+    let kind = file[place];
+    match kind {
+        1 => writes(Into::Nothing, code::forwards(file, place), regs.mtop, regs.ptop, 0, 0),
+        3 => writes(Into::Nothing, code::backwards(file, place), regs.mtop, regs.ptop, 0, 0),
+        2 | 5 => on_false(file, main, regs, kind),
+        4 | 6 => on_true(file, main, regs, kind),
+        20 | 22 => main_locals(file, main, ctl, regs, kind),
+        21 | 23 => ptr_locals(file, ptr, ctl, regs, kind),
+        30 | 32 => plain_fields(file, main, ptr, heap, regs, kind),
+        31 | 33 => ptr_fields(file, ptr, heap, regs, kind),
+        36 => forms(file, heap, regs),
+        54 | 56 => literals(file, regs, kind),
+        57 => writes(Into::Pointer, place + 1, regs.mtop, regs.ptop + 1, regs.ptop, 0),
+        58 => writes(Into::Pointer, place + 1, regs.mtop, regs.ptop + 1, regs.ptop, heap[1]),
+        59 => set_root(ptr, regs),
+        60 | 62 | 64 => retracts(file, main, ptr, regs, kind),
+        72 => calls(file, table, main, ptr, ctl, regs),
+        73 => leaves(ctl, regs),
+        130 | 195 | 198 | 201 | 204 => compares(main, regs, kind),
+        131 => same_ptr(ptr, regs),
+        140 | 142 => sums(main, regs, kind),
+        141 | 143 | 145 => products(main, regs, kind),
+        144 | 146 => unaries(main, regs, kind),
+        160 => opens(ctl, regs),
+        161 => writes(Into::Close, place + 1, regs.mtop, regs.ptop, 0, 0),
+        _ => Plan::Thrown,
+    }
 }
