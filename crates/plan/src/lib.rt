@@ -76,9 +76,23 @@ fn on_true(file: &[u8], main: &[u32], regs: Regs, kind: u8) -> Plan
         return writes(Into::Nothing, place + 3, top, regs.ptop, 0, 0);
     }
     if kind == 4 {
-        return writes(Into::Nothing, code::backwards(file, place), top, regs.ptop, 0, 0);
+        return writes(
+            Into::Nothing,
+            code::backwards(file, place),
+            top,
+            regs.ptop,
+            0,
+            0,
+        );
     }
-    writes(Into::Nothing, code::forwards(file, place), regs.mtop, regs.ptop, 0, 0)
+    writes(
+        Into::Nothing,
+        code::forwards(file, place),
+        regs.mtop,
+        regs.ptop,
+        0,
+        0,
+    )
 }
 
 // 20 and 22: word s of the frame.
@@ -134,7 +148,14 @@ fn plain_fields(file: &[u8], main: &[u32], ptr: &[u32], heap: &[u32], regs: Regs
     }
     let at = object + s;
     if kind == 30 {
-        return writes(Into::Main, place + 3, regs.mtop + 1, top, regs.mtop, heap[at]);
+        return writes(
+            Into::Main,
+            place + 3,
+            regs.mtop + 1,
+            top,
+            regs.mtop,
+            heap[at],
+        );
     }
     let value = regs.mtop - 1;
     writes(Into::Heap, place + 3, value, top, at, main[value])
@@ -159,7 +180,14 @@ fn ptr_fields(file: &[u8], ptr: &[u32], heap: &[u32], regs: Regs, kind: u8) -> P
     }
     let at = object + s;
     if kind == 31 {
-        return writes(Into::Pointer, place + 3, regs.mtop, regs.ptop, top, heap[at]);
+        return writes(
+            Into::Pointer,
+            place + 3,
+            regs.mtop,
+            regs.ptop,
+            top,
+            heap[at],
+        );
     }
     let value = regs.ptop - 2;
     writes(Into::Heap, place + 3, regs.mtop, value, at, ptr[value])
@@ -194,7 +222,14 @@ fn literals(file: &[u8], regs: Regs, kind: u8) -> Plan
         let word = code::signed_byte(file[at]);
         return writes(Into::Main, place + 2, top + 1, regs.ptop, top, word);
     }
-    writes(Into::Main, place + 5, top + 1, regs.ptop, top, code::operand4(file, place))
+    writes(
+        Into::Main,
+        place + 5,
+        top + 1,
+        regs.ptop,
+        top,
+        code::operand4(file, place),
+    )
 }
 
 // 59: into the root.
@@ -231,7 +266,14 @@ fn retracts(file: &[u8], main: &[u32], ptr: &[u32], regs: Regs, kind: u8) -> Pla
 }
 
 // 72: the callee's frame begins with its parameters.
-fn calls(file: &[u8], table: &[usize; 64], main: &[u32], ptr: &[u32], ctl: &[u32], regs: Regs) -> Plan
+fn calls(
+    file: &[u8],
+    table: &[usize; 64],
+    main: &[u32],
+    ptr: &[u32],
+    ctl: &[u32],
+    regs: Regs,
+) -> Plan
     requires { ⌜ Body (now file) (regs .place) 2 × Within (now main) (regs .mtop) × Within (now ptr) (regs .ptop)
         × (regs .ctop ≤ 1280) × Callee (now file) (now table) regs ⌝ }
     ensures { λ r. ⌜ ((h : List ℕ) → r ≡ planned (now (file .entry)) (machine regs (now (main .entry)) (now (ptr .entry)) (now (ctl .entry)) h) 3 72) ⌝ }
@@ -282,7 +324,14 @@ fn same_ptr(ptr: &[u32], regs: Regs) -> Plan
     let second = regs.ptop - 1;
     let first = regs.ptop - 2;
     let word = words::eq_w(ptr[first], ptr[second]);
-    writes(Into::Main, regs.place + 1, regs.mtop + 1, first, regs.mtop, word)
+    writes(
+        Into::Main,
+        regs.place + 1,
+        regs.mtop + 1,
+        first,
+        regs.mtop,
+        word,
+    )
 }
 
 fn compare(kind: u8, a: u32, b: u32) -> u32
@@ -368,15 +417,37 @@ fn unaries(main: &[u32], regs: Regs, kind: u8) -> Plan
 }
 
 // The plan of the instruction at the machine's place; table holds the procedures' heads.
-pub fn plan_at(file: &[u8], table: &[usize; 64], main: &[u32], ptr: &[u32], ctl: &[u32], heap: &[u32], regs: Regs) -> Plan
+pub fn plan_at(
+    file: &[u8],
+    table: &[usize; 64],
+    main: &[u32],
+    ptr: &[u32],
+    ctl: &[u32],
+    heap: &[u32],
+    regs: Regs,
+) -> Plan
     requires { ⌜ Ready (now file) (now table) (machine regs (now main) (now ptr) (now ctl) (now heap)) ⌝ }
     ensures { λ r. ⌜ r ≡ planAt (now (file .entry)) (machine regs (now (main .entry)) (now (ptr .entry)) (now (ctl .entry)) (now (heap .entry))) ⌝ }
 {
     let place = regs.place;
     let kind = file[place];
     match kind {
-        1 => writes(Into::Nothing, code::forwards(file, place), regs.mtop, regs.ptop, 0, 0),
-        3 => writes(Into::Nothing, code::backwards(file, place), regs.mtop, regs.ptop, 0, 0),
+        1 => writes(
+            Into::Nothing,
+            code::forwards(file, place),
+            regs.mtop,
+            regs.ptop,
+            0,
+            0,
+        ),
+        3 => writes(
+            Into::Nothing,
+            code::backwards(file, place),
+            regs.mtop,
+            regs.ptop,
+            0,
+            0,
+        ),
         2 | 5 => on_false(file, main, regs, kind),
         4 | 6 => on_true(file, main, regs, kind),
         20 | 22 => main_locals(file, main, ctl, regs, kind),
@@ -385,8 +456,22 @@ pub fn plan_at(file: &[u8], table: &[usize; 64], main: &[u32], ptr: &[u32], ctl:
         31 | 33 => ptr_fields(file, ptr, heap, regs, kind),
         36 => forms(file, heap, regs),
         54 | 56 => literals(file, regs, kind),
-        57 => writes(Into::Pointer, place + 1, regs.mtop, regs.ptop + 1, regs.ptop, 0),
-        58 => writes(Into::Pointer, place + 1, regs.mtop, regs.ptop + 1, regs.ptop, heap[1]),
+        57 => writes(
+            Into::Pointer,
+            place + 1,
+            regs.mtop,
+            regs.ptop + 1,
+            regs.ptop,
+            0,
+        ),
+        58 => writes(
+            Into::Pointer,
+            place + 1,
+            regs.mtop,
+            regs.ptop + 1,
+            regs.ptop,
+            heap[1],
+        ),
         59 => set_root(ptr, regs),
         60 | 62 | 64 => retracts(file, main, ptr, regs, kind),
         72 => calls(file, table, main, ptr, ctl, regs),

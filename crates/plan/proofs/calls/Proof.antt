@@ -8,41 +8,28 @@ use mathlib.Core.Path.{_∙_}
 use borrow.Author.Needs.{needs}
 use Rattle.plan.proofs.calls.Statement.{statement}
 use Rattle.plan.proofs.calls.Tie as tie
-use Rattle.plan.proofs.calls.Reads as reads
-use Rattle.plan.proofs.calls.Lts as lts
-use Rattle.code.proofs.head_at.Reads as head-at-reads
-use Rattle.code.proofs.operand.Reads as operand-reads
-use Rattle.plan.proofs.writes.Reads as writes-reads
 
--- src/lib.rt:164:9
 operand-requires : tie.Need-operand-requires
 operand-requires c κs = search needs
 
--- src/lib.rt:165:13
 mul-h : tie.Need-mul-h
 mul-h c = search needs
 
--- src/lib.rt:165:13
 element-copy-out-h : tie.Need-element-copy-out-h
 element-copy-out-h c = search needs
 
--- src/lib.rt:166:9
 head-at-requires : tie.Need-head-at-requires
 head-at-requires c κs = rw (c .before .operand .ensures .is) (omega (arith, c .before .before .before .before .before .before .pre .4))
 
--- src/lib.rt:167:13
 sub-m : tie.Need-sub-m
 sub-m c = let k = numbers _ (c .before .before .before .before .before .before .before .before .before .pre .4) (c .before .before .before .before .operand .ensures .is) (c .before .before .head-at .ensures) in omega (arith, c .before .before .before .before .before .before .before .before .before .pre .4)
 
--- src/lib.rt:168:13
 sub-q : tie.Need-sub-q
 sub-q c = let k = numbers _ (c .before .before .before .before .before .before .before .before .before .before .before .pre .4) (c .before .before .before .before .before .before .operand .ensures .is) (c .before .before .before .before .head-at .ensures) in omega (arith, c .before .before .before .before .before .before .before .before .before .before .before .pre .4)
 
--- src/lib.rt:169:21
 add-if1 : tie.Need-add-if1
 add-if1 c = omega (arith, c .before .before .before .before .before .head-at .ensures, c .before .before .before .before .before .before .before .before .before .before .before .before .pre)
 
--- src/lib.rt:170:9
 returns : tie.Need-returns
 unfolding planned insOf
 returns c =
@@ -50,11 +37,9 @@ returns c =
     let k = numbers _ (c .before .before .before .before .before .before .before .before .before .before .before .before .before .pre .4) (c .before .before .before .before .before .before .before .before .operand .ensures .is) (c .before .before .before .before .before .before .head-at .ensures) in
     no-main k (machine _ _ _ _ h) _ (c .if1 .taken)
 
--- src/lib.rt:172:20
 add-if2 : tie.Need-add-if2
 add-if2 c = omega (arith, c .before .before .before .before .before .before .before .head-at .ensures, c .before .before .before .before .before .before .before .before .before .before .before .before .before .before .pre)
 
--- src/lib.rt:173:9
 returns-2 : tie.Need-returns-2
 unfolding planned insOf
 returns-2 c =
@@ -62,11 +47,9 @@ returns-2 c =
     let k = numbers _ (c .before .before .before .before .before .before .before .before .before .before .before .before .before .before .before .pre .4) (c .before .before .before .before .before .before .before .before .before .before .operand .ensures .is) (c .before .before .before .before .before .before .before .before .head-at .ensures) in
     no-ptr k (machine _ _ _ _ h) _ (c .before .before .if1 .left) (c .if2 .taken)
 
--- src/lib.rt:175:20
 add-if3 : tie.Need-add-if3
 add-if3 c = omega (arith, c .before .before .before .before .before .before .before .before .before .before .before .before .before .before .before .before .pre)
 
--- src/lib.rt:176:9
 returns-3 : tie.Need-returns-3
 unfolding planned insOf
 returns-3 c =
@@ -74,19 +57,15 @@ returns-3 c =
     let k = numbers _ (c .before .before .before .before .before .before .before .before .before .before .before .before .before .before .before .before .before .pre .4) (c .before .before .before .before .before .before .before .before .before .before .before .before .operand .ensures .is) (c .before .before .before .before .before .before .before .before .before .before .head-at .ensures) in
     no-ctl k (machine _ _ _ _ h) _ (c .before .before .before .before .if1 .left) (c .before .before .if2 .left) (c .if3 .taken)
 
--- src/lib.rt:178:25
 add-writes : tie.Need-add-writes
 add-writes c = let k = numbers _ (c .before .before .before .before .before .before .before .before .before .before .before .before .before .before .before .before .before .pre .4) (c .before .before .before .before .before .before .before .before .before .before .before .before .operand .ensures .is) (c .before .before .before .before .before .before .before .before .before .before .head-at .ensures) in omega (arith, c .before .before .before .before .before .before .before .before .before .before .before .before .before .before .before .before .before .pre)
 
--- src/lib.rt:178:57
 cast-writes : tie.Need-cast-writes
 cast-writes c = omega (arith, c .before .before .before .before .before .before .before .before .before .before .before .before .before .before .before .before .before .pre)
 
--- src/lib.rt:178:5
 writes-requires : tie.Need-writes-requires
 writes-requires c κs = search needs
 
--- src/lib.rt:159:1
 returns-4 : tie.Need-returns-4
 unfolding planned insOf
 returns-4 c =

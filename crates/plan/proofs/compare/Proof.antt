@@ -7,55 +7,38 @@ use mathlib.Core.Path.{_≡_}
 use borrow.Author.Needs.{needs}
 use Rattle.plan.proofs.compare.Statement.{statement}
 use Rattle.plan.proofs.compare.Tie as tie
-use Rattle.plan.proofs.compare.Reads as reads
-use Rattle.plan.proofs.compare.Lts as lts
-use Rattle.words.proofs.eq_w.Reads as eq-w-reads
-use Rattle.words.proofs.ge.Reads as ge-reads
-use Rattle.words.proofs.gt.Reads as gt-reads
-use Rattle.words.proofs.le.Reads as le-reads
-use Rattle.words.proofs.lt.Reads as lt-reads
 
--- src/lib.rt:186:16
 eq-w-requires : tie.Need-eq-w-requires
 eq-w-requires c κs = search needs
 
--- src/lib.rt:187:16
 lt-requires : tie.Need-lt-requires
 lt-requires c κs = search needs
 
--- src/lib.rt:188:16
 le-requires : tie.Need-le-requires
 le-requires c κs = search needs
 
--- src/lib.rt:189:16
 gt-requires : tie.Need-gt-requires
 gt-requires c κs = search needs
 
--- src/lib.rt:190:14
 ge-requires : tie.Need-ge-requires
 ge-requires c κs = search needs
 
--- src/lib.rt:181:1
 returns : tie.Need-returns
 unfolding Binary planOf basicPlan insOf
 returns c = λ f p m q ea eb. rw (c .before .match .keys1, ea, eb, ← (c .eq-w .ensures))
 
--- src/lib.rt:181:1
 returns-2 : tie.Need-returns-2
 unfolding Binary planOf basicPlan insOf
 returns-2 c = λ f p m q ea eb. rw (c .before .match .keys2, ea, eb, ← (c .lt .ensures))
 
--- src/lib.rt:181:1
 returns-3 : tie.Need-returns-3
 unfolding Binary planOf basicPlan insOf
 returns-3 c = λ f p m q ea eb. rw (c .before .match .keys3, ea, eb, ← (c .le .ensures))
 
--- src/lib.rt:181:1
 returns-4 : tie.Need-returns-4
 unfolding Binary planOf basicPlan insOf
 returns-4 c = λ f p m q ea eb. rw (c .before .match .keys4, ea, eb, ← (c .gt .ensures))
 
--- src/lib.rt:181:1
 returns-5 : tie.Need-returns-5
 unfolding Binary planOf basicPlan insOf
 returns-5 c =

@@ -6,48 +6,34 @@ use mathlib.Core.Path.{_∙_, refl}
 use borrow.Author.Needs.{needs}
 use Rattle.plan.proofs.compares.Statement.{statement}
 use Rattle.plan.proofs.compares.Tie as tie
-use Rattle.plan.proofs.compares.Reads as reads
-use Rattle.plan.proofs.compares.Lts as lts
-use Rattle.plan.proofs.compare.Reads as compare-reads
-use Rattle.plan.proofs.writes.Reads as writes-reads
 
--- src/lib.rt:200:15
 sub-top : tie.Need-sub-top
 sub-top c = search needs
 
--- src/lib.rt:201:14
 sub-at : tie.Need-sub-at
 sub-at c = search needs
 
--- src/lib.rt:202:30
 mul-compare : tie.Need-mul-compare
 mul-compare c = search needs
 
--- src/lib.rt:202:30
 shared-slice-read-compare : tie.Need-shared-slice-read-compare
 shared-slice-read-compare c = search needs
 
--- src/lib.rt:202:40
 mul-compare-2 : tie.Need-mul-compare-2
 mul-compare-2 c = search needs
 
--- src/lib.rt:202:40
 shared-slice-read-compare-2 : tie.Need-shared-slice-read-compare-2
 shared-slice-read-compare-2 c = search needs
 
--- src/lib.rt:202:9
 compare-requires : tie.Need-compare-requires
 compare-requires c κs = search needs
 
--- src/lib.rt:203:24
 add-writes : tie.Need-add-writes
 add-writes c = search needs
 
--- src/lib.rt:203:5
 writes-requires : tie.Need-writes-requires
 writes-requires c κs = search needs
 
--- src/lib.rt:195:1
 returns : tie.Need-returns
 unfolding planned Binary
 returns c = λ f p q h. c .writes .ensures ∙ c .before .before .compare .ensures f _ (machine _ _ p q h) _ refl refl

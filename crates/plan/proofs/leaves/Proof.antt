@@ -6,40 +6,28 @@ use Rattle.model.specs.Control.{recAt}
 use borrow.Author.Needs.{needs}
 use Rattle.plan.proofs.leaves.Statement.{statement}
 use Rattle.plan.proofs.leaves.Tie as tie
-use Rattle.plan.proofs.leaves.Reads as reads
-use Rattle.plan.proofs.leaves.Lts as lts
-use Rattle.plan.proofs.wide.Reads as wide-reads
-use Rattle.plan.proofs.writes.Reads as writes-reads
 
--- src/lib.rt:261:19
 sub-at : tie.Need-sub-at
 sub-at c = search needs
 
--- src/lib.rt:261:14
 mul-at : tie.Need-mul-at
 mul-at c = search needs
 
--- src/lib.rt:261:14
 add-at : tie.Need-add-at
 add-at c = search needs
 
--- src/lib.rt:262:22
 mul-wide : tie.Need-mul-wide
 mul-wide c = search needs
 
--- src/lib.rt:262:22
 shared-slice-read-wide : tie.Need-shared-slice-read-wide
 shared-slice-read-wide c = search needs
 
--- src/lib.rt:262:9
 wide-requires : tie.Need-wide-requires
 wide-requires c κs = search needs
 
--- src/lib.rt:263:5
 writes-requires : tie.Need-writes-requires
 writes-requires c κs = search needs
 
--- src/lib.rt:257:1
 returns : tie.Need-returns
 unfolding planned planOf insOf recAt
 returns c = λ f m p h. rw (c .writes .ensures, c .before .wide .ensures .is)

@@ -8,51 +8,36 @@ use mathlib.Core.Path.{_≡_}
 use borrow.Author.Needs.{needs}
 use Rattle.plan.proofs.literals.Statement.{statement}
 use Rattle.plan.proofs.literals.Tie as tie
-use Rattle.plan.proofs.literals.Reads as reads
-use Rattle.plan.proofs.literals.Lts as lts
-use Rattle.code.proofs.operand4.Reads as operand4-reads
-use Rattle.code.proofs.signed_byte.Reads as signed-byte-reads
-use Rattle.plan.proofs.writes.Reads as writes-reads
 
--- src/lib.rt:193:18
 add-at : tie.Need-add-at
 add-at c = search needs
 
--- src/lib.rt:194:38
 shared-slice-read-signed-byte : tie.Need-shared-slice-read-signed-byte
 unfolding bodyOf bodies
 shared-slice-read-signed-byte c = let b = rw (c .before .if1 .taken) at (c .before .before .before .pre .0) in omega (arith, b .inside)
 
--- src/lib.rt:194:13
 signed-byte-requires : tie.Need-signed-byte-requires
 signed-byte-requires c κs = search needs
 
--- src/lib.rt:195:35
 add-writes : tie.Need-add-writes
 add-writes c = search needs
 
--- src/lib.rt:195:46
 add-writes-2 : tie.Need-add-writes-2
 add-writes-2 c = search needs
 
--- src/lib.rt:195:9
 writes-requires : tie.Need-writes-requires
 writes-requires c κs = search needs
 
--- src/lib.rt:195:9
 returns : tie.Need-returns
 unfolding planned planOf basicPlan insOf bodyOf bodies
 returns c = λ m p q h. rw (c .writes .ensures, c .before .before .before .if1 .taken, c .before .signed-byte .ensures .is)
 
--- src/lib.rt:197:24
 add-writes-3 : tie.Need-add-writes-3
 add-writes-3 c = search needs
 
--- src/lib.rt:197:35
 add-writes-4 : tie.Need-add-writes-4
 add-writes-4 c = search needs
 
--- src/lib.rt:197:60
 operand4-requires : tie.Need-operand4-requires
 unfolding bodyOf bodies
 operand4-requires c κs =
@@ -60,11 +45,9 @@ operand4-requires c κs =
     let b = rw e at (c .before .before .pre .0) in
     omega (arith, b .inside)
 
--- src/lib.rt:197:5
 writes-requires-2 : tie.Need-writes-requires-2
 writes-requires-2 c κs = search needs
 
--- src/lib.rt:186:1
 returns-2 : tie.Need-returns-2
 unfolding planned planOf basicPlan insOf bodyOf bodies
 returns-2 c =

@@ -8,32 +8,22 @@ use mathlib.Core.Path.{_≡_}
 use borrow.Author.Needs.{needs}
 use Rattle.plan.proofs.on_false.Statement.{statement}
 use Rattle.plan.proofs.on_false.Tie as tie
-use Rattle.plan.proofs.on_false.Reads as reads
-use Rattle.plan.proofs.on_false.Lts as lts
-use Rattle.code.proofs.forwards.Reads as forwards-reads
-use Rattle.plan.proofs.writes.Reads as writes-reads
 
--- src/lib.rt:56:15
 sub-top : tie.Need-sub-top
 sub-top c = search needs
 
--- src/lib.rt:57:8
 mul-if1 : tie.Need-mul-if1
 mul-if1 c = search needs
 
--- src/lib.rt:57:8
 shared-slice-read-if1 : tie.Need-shared-slice-read-if1
 shared-slice-read-if1 c = search needs
 
--- src/lib.rt:58:38
 add-writes : tie.Need-add-writes
 add-writes c = search needs
 
--- src/lib.rt:58:9
 writes-requires : tie.Need-writes-requires
 writes-requires c κs = search needs
 
--- src/lib.rt:58:9
 returns : tie.Need-returns
 unfolding planned planOf insOf
 returns c =
@@ -41,24 +31,19 @@ returns c =
     rw (c .writes .ensures)
     (⊎-elim (λ e. rw e (rw (is-true _ (c .before .if1 .taken)))) (λ e. rw e (rw (is-true _ (c .before .if1 .taken)))) (c .before .before .before .before .before .before .pre .3))
 
--- src/lib.rt:60:9
 forwards-requires : tie.Need-forwards-requires
 forwards-requires c κs = search needs
 
--- src/lib.rt:62:9
 writes-requires-2 : tie.Need-writes-requires-2
 writes-requires-2 c κs = search needs
 
--- src/lib.rt:62:9
 returns-2 : tie.Need-returns-2
 unfolding planned planOf insOf
 returns-2 c = λ p q h. rw (c .writes2 .ensures, c .before .if2 .taken, is-false _ (c .before .before .before .if1 .left), c .before .before .forwards .ensures .is)
 
--- src/lib.rt:64:5
 writes-requires-3 : tie.Need-writes-requires-3
 writes-requires-3 c κs = search needs
 
--- src/lib.rt:51:1
 returns-3 : tie.Need-returns-3
 unfolding planned planOf insOf
 returns-3 c =

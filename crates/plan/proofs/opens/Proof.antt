@@ -6,28 +6,20 @@ use borrow.Author.Tests.{le-leb, lt-leb}
 use borrow.Author.Needs.{needs}
 use Rattle.plan.proofs.opens.Statement.{statement}
 use Rattle.plan.proofs.opens.Tie as tie
-use Rattle.plan.proofs.opens.Reads as reads
-use Rattle.plan.proofs.opens.Lts as lts
-use Rattle.plan.proofs.writes.Reads as writes-reads
 
--- src/lib.rt:271:20
 add-if1 : tie.Need-add-if1
 add-if1 c = search needs
 
--- src/lib.rt:272:9
 returns : tie.Need-returns
 unfolding planned planOf insOf
 returns c = λ f m p h. rw (lt-leb _ _ (c .if1 .taken))
 
--- src/lib.rt:274:27
 add-writes : tie.Need-add-writes
 add-writes c = search needs
 
--- src/lib.rt:274:5
 writes-requires : tie.Need-writes-requires
 writes-requires c κs = search needs
 
--- src/lib.rt:267:1
 returns-2 : tie.Need-returns-2
 unfolding planned planOf insOf
 returns-2 c = λ f m p h. rw (c .writes .ensures, le-leb _ _ (c .before .before .if1 .left))

@@ -11,30 +11,19 @@ use mathlib.Core.Path.{_≡_, _∙_, sym}
 use borrow.Author.Needs.{needs}
 use Rattle.plan.proofs.plain_fields.Statement.{statement}
 use Rattle.plan.proofs.plain_fields.Tie as tie
-use Rattle.plan.proofs.plain_fields.Reads as reads
-use Rattle.plan.proofs.plain_fields.Lts as lts
-use Rattle.code.proofs.operand.Reads as operand-reads
-use Rattle.heap.proofs.in_plain.Reads as in-plain-reads
-use Rattle.plan.proofs.wide.Reads as wide-reads
-use Rattle.plan.proofs.writes.Reads as writes-reads
 
--- src/lib.rt:126:15
 sub-top : tie.Need-sub-top
 sub-top c = search needs
 
--- src/lib.rt:127:23
 mul-wide : tie.Need-mul-wide
 mul-wide c = search needs
 
--- src/lib.rt:127:23
 shared-slice-read-wide : tie.Need-shared-slice-read-wide
 shared-slice-read-wide c = search needs
 
--- src/lib.rt:127:9
 wide-requires : tie.Need-wide-requires
 wide-requires c κs = search needs
 
--- src/lib.rt:129:9
 returns : tie.Need-returns
 unfolding planned planOf basicPlan insOf
 returns c =
@@ -42,15 +31,12 @@ returns c =
     let z = sym (c .before .wide .ensures .is) ∙ c .if1 .taken in
     ⊎-elim (λ e. rw e (rw (eq-eqb _ _ z))) (λ e. rw e (rw (eq-eqb _ _ z))) (c .before .before .before .before .before .before .before .before .pre .6)
 
--- src/lib.rt:131:9
 operand-requires : tie.Need-operand-requires
 operand-requires c κs = search needs
 
--- src/lib.rt:132:9
 in-plain-requires : tie.Need-in-plain-requires
 in-plain-requires c κs = let l = lies (c .before .before .before .before .before .before .before .before .before .pre .4) (c .before .before .wide .ensures .is) (c .before .if1 .left) in omega arith
 
--- src/lib.rt:133:9
 returns-2 : tie.Need-returns-2
 unfolding planned planOf basicPlan insOf
 returns-2 c =
@@ -59,34 +45,27 @@ returns-2 c =
     let t = rw (c .before .before .before .before .wide .ensures .is, c .before .before .operand .ensures .is) at (sym (c .before .in-plain .ensures) ∙ not-true _ (c .if2 .taken)) in
     ⊎-elim (λ e. rw e (rw (ne-eqb _ _ n, t))) (λ e. rw e (rw (ne-eqb _ _ n, t))) (c .before .before .before .before .before .before .before .before .before .before .before .pre .6)
 
--- src/lib.rt:135:14
 add-at : tie.Need-add-at
 add-at c = search needs
 
--- src/lib.rt:137:35
 add-writes : tie.Need-add-writes
 add-writes c = search needs
 
--- src/lib.rt:137:46
 add-writes-2 : tie.Need-add-writes-2
 add-writes-2 c = search needs
 
--- src/lib.rt:137:77
 mul-writes : tie.Need-mul-writes
 mul-writes c = search needs
 
--- src/lib.rt:137:77
 shared-slice-read-writes : tie.Need-shared-slice-read-writes
 shared-slice-read-writes c =
     let l = lies (c .before .before .before .before .before .before .before .before .before .before .before .before .before .before .pre .4) (c .before .before .before .before .before .before .before .wide .ensures .is) (c .before .before .before .before .before .before .if1 .left) in
     let g = in-plain _ _ _ (sym (c .before .before .before .before .in-plain .ensures) ∙ not-false _ (c .before .before .before .if2 .left)) in
     omega arith
 
--- src/lib.rt:137:9
 writes-requires : tie.Need-writes-requires
 writes-requires c κs = search needs
 
--- src/lib.rt:137:9
 returns-3 : tie.Need-returns-3
 unfolding planned planOf basicPlan insOf
 returns-3 c =
@@ -95,31 +74,25 @@ returns-3 c =
     let t = rw (c .before .before .before .before .before .before .before .before .wide .ensures .is, c .before .before .before .before .before .before .operand .ensures .is) at (sym (c .before .before .before .before .before .in-plain .ensures) ∙ not-false _ (c .before .before .before .before .if2 .left)) in
     rw (c .writes .ensures, c .before .before .before .if3 .taken, c .before .before .before .before .before .before .before .before .wide .ensures .is, c .before .before .before .before .before .before .operand .ensures .is) (rw (ne-eqb _ _ n, t))
 
--- src/lib.rt:139:17
 sub-value : tie.Need-sub-value
 sub-value c =
     let e : c .before .before .before .before .before .before .before .before .before .before .before .before .before .args .kind ≡ 32 = ⊎-elim (λ e. absurd (c .before .if3 .left e)) (λ e. e) (c .before .before .before .before .before .before .before .before .before .before .before .before .before .pre .6) in
     omega (arith, c .before .before .before .before .before .before .before .before .before .before .before .before .before .pre .5 e)
 
--- src/lib.rt:140:24
 add-writes-3 : tie.Need-add-writes-3
 add-writes-3 c = search needs
 
--- src/lib.rt:140:51
 mul-writes-2 : tie.Need-mul-writes-2
 mul-writes-2 c = search needs
 
--- src/lib.rt:140:51
 shared-slice-read-writes-2 : tie.Need-shared-slice-read-writes-2
 shared-slice-read-writes-2 c =
     let e : c .before .before .before .before .before .before .before .before .before .before .before .before .before .before .args .kind ≡ 32 = ⊎-elim (λ e. absurd (c .before .before .if3 .left e)) (λ e. e) (c .before .before .before .before .before .before .before .before .before .before .before .before .before .before .pre .6) in
     omega (arith, c .before .before .before .before .before .before .before .before .before .before .before .before .before .before .pre .5 e)
 
--- src/lib.rt:140:5
 writes-requires-2 : tie.Need-writes-requires-2
 writes-requires-2 c κs = search needs
 
--- src/lib.rt:119:1
 returns-4 : tie.Need-returns-4
 unfolding planned planOf basicPlan insOf
 returns-4 c =

@@ -7,35 +7,24 @@ use mathlib.Core.Path.{_≡_}
 use borrow.Author.Needs.{needs}
 use Rattle.plan.proofs.product.Statement.{statement}
 use Rattle.plan.proofs.product.Tie as tie
-use Rattle.plan.proofs.product.Reads as reads
-use Rattle.plan.proofs.product.Lts as lts
-use Rattle.words.proofs.div.Reads as div-reads
-use Rattle.words.proofs.rem.Reads as rem-reads
-use Rattle.words.proofs.times.Reads as times-reads
 
--- src/lib.rt:232:16
 times-requires : tie.Need-times-requires
 times-requires c κs = search needs
 
--- src/lib.rt:233:16
 div-requires : tie.Need-div-requires
 div-requires c κs = search needs
 
--- src/lib.rt:234:14
 rem-requires : tie.Need-rem-requires
 rem-requires c κs = search needs
 
--- src/lib.rt:227:1
 returns : tie.Need-returns
 unfolding Binary planOf basicPlan insOf
 returns c = λ f p m q ea eb. rw (c .before .match .keys1, ea, eb, c .times .ensures)
 
--- src/lib.rt:227:1
 returns-2 : tie.Need-returns-2
 unfolding Binary planOf basicPlan insOf
 returns-2 c = λ f p m q ea eb. rw (c .before .match .keys2, ea, eb, c .div .ensures)
 
--- src/lib.rt:227:1
 returns-3 : tie.Need-returns-3
 unfolding Binary planOf basicPlan insOf
 returns-3 c =

@@ -6,48 +6,34 @@ use mathlib.Core.Path.{_∙_, refl}
 use borrow.Author.Needs.{needs}
 use Rattle.plan.proofs.products.Statement.{statement}
 use Rattle.plan.proofs.products.Tie as tie
-use Rattle.plan.proofs.products.Reads as reads
-use Rattle.plan.proofs.products.Lts as lts
-use Rattle.plan.proofs.product.Reads as product-reads
-use Rattle.plan.proofs.result.Reads as result-reads
 
--- src/lib.rt:243:15
 sub-top : tie.Need-sub-top
 sub-top c = search needs
 
--- src/lib.rt:244:14
 sub-at : tie.Need-sub-at
 sub-at c = search needs
 
--- src/lib.rt:245:31
 mul-product : tie.Need-mul-product
 mul-product c = search needs
 
--- src/lib.rt:245:31
 shared-slice-read-product : tie.Need-shared-slice-read-product
 shared-slice-read-product c = search needs
 
--- src/lib.rt:245:41
 mul-product-2 : tie.Need-mul-product-2
 mul-product-2 c = search needs
 
--- src/lib.rt:245:41
 shared-slice-read-product-2 : tie.Need-shared-slice-read-product-2
 shared-slice-read-product-2 c = search needs
 
--- src/lib.rt:245:9
 product-requires : tie.Need-product-requires
 product-requires c κs = search needs
 
--- src/lib.rt:246:19
 add-result : tie.Need-add-result
 add-result c = search needs
 
--- src/lib.rt:246:5
 result-requires : tie.Need-result-requires
 result-requires c κs = search needs
 
--- src/lib.rt:239:1
 returns : tie.Need-returns
 unfolding planned Binary
 returns c = λ f p q h. c .result .ensures ∙ c .before .before .product .ensures f _ (machine _ _ p q h) _ refl refl

@@ -6,52 +6,37 @@ use Rattle.model.specs.File.{insOf}
 use borrow.Author.Needs.{needs}
 use Rattle.plan.proofs.same_ptr.Statement.{statement}
 use Rattle.plan.proofs.same_ptr.Tie as tie
-use Rattle.plan.proofs.same_ptr.Reads as reads
-use Rattle.plan.proofs.same_ptr.Lts as lts
-use Rattle.plan.proofs.writes.Reads as writes-reads
-use Rattle.words.proofs.eq_w.Reads as eq-w-reads
 
--- src/lib.rt:282:18
 sub-second : tie.Need-sub-second
 sub-second c = search needs
 
--- src/lib.rt:283:17
 sub-first : tie.Need-sub-first
 sub-first c = search needs
 
--- src/lib.rt:284:28
 mul-eq-w : tie.Need-mul-eq-w
 mul-eq-w c = search needs
 
--- src/lib.rt:284:28
 shared-slice-read-eq-w : tie.Need-shared-slice-read-eq-w
 shared-slice-read-eq-w c = search needs
 
--- src/lib.rt:284:40
 mul-eq-w-2 : tie.Need-mul-eq-w-2
 mul-eq-w-2 c = search needs
 
--- src/lib.rt:284:40
 shared-slice-read-eq-w-2 : tie.Need-shared-slice-read-eq-w-2
 shared-slice-read-eq-w-2 c = search needs
 
--- src/lib.rt:284:9
 eq-w-requires : tie.Need-eq-w-requires
 eq-w-requires c κs = search needs
 
--- src/lib.rt:285:24
 add-writes : tie.Need-add-writes
 add-writes c = search needs
 
--- src/lib.rt:285:40
 add-writes-2 : tie.Need-add-writes-2
 add-writes-2 c = search needs
 
--- src/lib.rt:285:5
 writes-requires : tie.Need-writes-requires
 writes-requires c κs = search needs
 
--- src/lib.rt:278:1
 returns : tie.Need-returns
 unfolding planned planOf basicPlan insOf
 returns c = λ f m q h. rw (c .writes .ensures, same-word _ _ (c .before .before .before .eq-w .ensures))

@@ -7,25 +7,17 @@ use mathlib.Core.Path.{_≡_}
 use borrow.Author.Needs.{needs}
 use Rattle.plan.proofs.sum.Statement.{statement}
 use Rattle.plan.proofs.sum.Tie as tie
-use Rattle.plan.proofs.sum.Reads as reads
-use Rattle.plan.proofs.sum.Lts as lts
-use Rattle.words.proofs.minus.Reads as minus-reads
-use Rattle.words.proofs.plus.Reads as plus-reads
 
--- src/lib.rt:211:9
 plus-requires : tie.Need-plus-requires
 plus-requires c κs = search needs
 
--- src/lib.rt:211:9
 returns : tie.Need-returns
 unfolding Binary planOf basicPlan insOf
 returns c = λ f p m q ea eb. rw (c .before .if1 .taken, ea, eb, c .plus .ensures)
 
--- src/lib.rt:213:5
 minus-requires : tie.Need-minus-requires
 minus-requires c κs = search needs
 
--- src/lib.rt:206:1
 returns-2 : tie.Need-returns-2
 unfolding Binary planOf basicPlan insOf
 returns-2 c =

@@ -7,51 +7,35 @@ use mathlib.Core.Path.{_≡_}
 use borrow.Author.Needs.{needs}
 use Rattle.plan.proofs.unaries.Statement.{statement}
 use Rattle.plan.proofs.unaries.Tie as tie
-use Rattle.plan.proofs.unaries.Reads as reads
-use Rattle.plan.proofs.unaries.Lts as lts
-use Rattle.plan.proofs.result.Reads as result-reads
-use Rattle.plan.proofs.writes.Reads as writes-reads
-use Rattle.words.proofs.neg.Reads as neg-reads
-use Rattle.words.proofs.not.Reads as not-reads
 
--- src/lib.rt:254:17
 add-place : tie.Need-add-place
 add-place c = search needs
 
--- src/lib.rt:255:14
 sub-at : tie.Need-sub-at
 sub-at c = search needs
 
--- src/lib.rt:256:13
 mul-a : tie.Need-mul-a
 mul-a c = search needs
 
--- src/lib.rt:256:13
 shared-slice-read-a : tie.Need-shared-slice-read-a
 shared-slice-read-a c = search needs
 
--- src/lib.rt:258:23
 neg-requires : tie.Need-neg-requires
 neg-requires c κs = search needs
 
--- src/lib.rt:258:9
 result-requires : tie.Need-result-requires
 result-requires c κs = search needs
 
--- src/lib.rt:258:9
 returns : tie.Need-returns
 unfolding planned planOf basicPlan insOf
 returns c = λ f p q h. rw (c .result .ensures, c .before .before .if1 .taken, c .before .neg .ensures)
 
--- src/lib.rt:260:57
 not-requires : tie.Need-not-requires
 not-requires c κs = search needs
 
--- src/lib.rt:260:5
 writes-requires : tie.Need-writes-requires
 writes-requires c κs = search needs
 
--- src/lib.rt:250:1
 returns-2 : tie.Need-returns-2
 unfolding planned planOf basicPlan insOf
 returns-2 c =
