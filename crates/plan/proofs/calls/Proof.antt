@@ -1,11 +1,11 @@
 -- `plan::calls`: the table has the callee's head, where its numbers stand (`numbers`); the definition's tests of the room are the code's.
+use mathlib.Core.Path.{_∙_}
+use native.Mathlib.Omega.{arith}
+use borrow.Author.Needs.{needs}
+use Rattle.model.specs.Control.{machine}
+use Rattle.model.specs.File.{insOf}
 use Rattle.plan.specs.Given.{numbers, no-main, no-ptr, no-ctl, room}
 use Rattle.plan.specs.Ready.{planned}
-use Rattle.model.specs.File.{insOf}
-use Rattle.model.specs.Control.{machine}
-use native.Mathlib.Omega.{arith}
-use mathlib.Core.Path.{_∙_}
-use borrow.Author.Needs.{needs}
 use Rattle.plan.proofs.calls.Statement.{statement}
 use Rattle.plan.proofs.calls.Tie as tie
 
@@ -22,46 +22,86 @@ head-at-requires : tie.Need-head-at-requires
 head-at-requires c κs = rw (c .before .operand .ensures .is) (omega (arith, c .before .before .before .before .before .before .pre .4))
 
 sub-m : tie.Need-sub-m
-sub-m c = let k = numbers _ (c .before .before .before .before .before .before .before .before .before .pre .4) (c .before .before .before .before .operand .ensures .is) (c .before .before .head-at .ensures) in omega (arith, c .before .before .before .before .before .before .before .before .before .pre .4)
+sub-m c =
+    let k = numbers _ (c .before .before .before .before .before .before .before .before .before .pre .4)
+    (c .before .before .before .before .operand .ensures .is) (c .before .before .head-at .ensures) in
+    omega (arith, c .before .before .before .before .before .before .before .before .before .pre .4)
 
 sub-q : tie.Need-sub-q
-sub-q c = let k = numbers _ (c .before .before .before .before .before .before .before .before .before .before .before .pre .4) (c .before .before .before .before .before .before .operand .ensures .is) (c .before .before .before .before .head-at .ensures) in omega (arith, c .before .before .before .before .before .before .before .before .before .before .before .pre .4)
+sub-q c =
+    let k = numbers _ (c .before .before .before .before .before .before .before .before .before .before .before .pre .4)
+    (c .before .before .before .before .before .before .operand .ensures .is) (c .before .before .before .before .head-at .ensures) in
+    omega (arith, c .before .before .before .before .before .before .before .before .before .before .before .pre .4)
 
 add-if1 : tie.Need-add-if1
-add-if1 c = omega (arith, c .before .before .before .before .before .head-at .ensures, c .before .before .before .before .before .before .before .before .before .before .before .before .pre)
+add-if1 c =
+    omega (
+      arith,
+      c .before .before .before .before .before .head-at .ensures,
+      c .before .before .before .before .before .before .before .before .before .before .before .before .pre,
+    )
 
 returns : tie.Need-returns
 unfolding planned insOf
 returns c =
     λ h.
-    let k = numbers _ (c .before .before .before .before .before .before .before .before .before .before .before .before .before .pre .4) (c .before .before .before .before .before .before .before .before .operand .ensures .is) (c .before .before .before .before .before .before .head-at .ensures) in
+    let k = numbers _ (c .before .before .before .before .before .before .before .before .before .before .before .before .before .pre .4)
+    (c .before .before .before .before .before .before .before .before .operand .ensures .is)
+    (c .before .before .before .before .before .before .head-at .ensures) in
     no-main k (machine _ _ _ _ h) _ (c .if1 .taken)
 
 add-if2 : tie.Need-add-if2
-add-if2 c = omega (arith, c .before .before .before .before .before .before .before .head-at .ensures, c .before .before .before .before .before .before .before .before .before .before .before .before .before .before .pre)
+add-if2 c =
+    omega (
+      arith,
+      c .before .before .before .before .before .before .before .head-at .ensures,
+      c .before .before .before .before .before .before .before .before .before .before .before .before .before .before .pre,
+    )
 
 returns-2 : tie.Need-returns-2
 unfolding planned insOf
 returns-2 c =
     λ h.
-    let k = numbers _ (c .before .before .before .before .before .before .before .before .before .before .before .before .before .before .before .pre .4) (c .before .before .before .before .before .before .before .before .before .before .operand .ensures .is) (c .before .before .before .before .before .before .before .before .head-at .ensures) in
+    let k = numbers _
+    (c .before .before .before .before .before .before .before .before .before .before .before .before .before .before .before .pre .4)
+    (c .before .before .before .before .before .before .before .before .before .before .operand .ensures .is)
+    (c .before .before .before .before .before .before .before .before .head-at .ensures) in
     no-ptr k (machine _ _ _ _ h) _ (c .before .before .if1 .left) (c .if2 .taken)
 
 add-if3 : tie.Need-add-if3
-add-if3 c = omega (arith, c .before .before .before .before .before .before .before .before .before .before .before .before .before .before .before .before .pre)
+add-if3 c =
+    omega (
+      arith,
+      c .before .before .before .before .before .before .before .before .before .before .before .before .before .before .before .before .pre,
+    )
 
 returns-3 : tie.Need-returns-3
 unfolding planned insOf
 returns-3 c =
     λ h.
-    let k = numbers _ (c .before .before .before .before .before .before .before .before .before .before .before .before .before .before .before .before .before .pre .4) (c .before .before .before .before .before .before .before .before .before .before .before .before .operand .ensures .is) (c .before .before .before .before .before .before .before .before .before .before .head-at .ensures) in
+    let k = numbers _
+    (c .before .before .before .before .before .before .before .before .before .before .before .before .before .before .before .before .before .pre .4)
+    (c .before .before .before .before .before .before .before .before .before .before .before .before .operand .ensures .is)
+    (c .before .before .before .before .before .before .before .before .before .before .head-at .ensures) in
     no-ctl k (machine _ _ _ _ h) _ (c .before .before .before .before .if1 .left) (c .before .before .if2 .left) (c .if3 .taken)
 
 add-writes : tie.Need-add-writes
-add-writes c = let k = numbers _ (c .before .before .before .before .before .before .before .before .before .before .before .before .before .before .before .before .before .pre .4) (c .before .before .before .before .before .before .before .before .before .before .before .before .operand .ensures .is) (c .before .before .before .before .before .before .before .before .before .before .head-at .ensures) in omega (arith, c .before .before .before .before .before .before .before .before .before .before .before .before .before .before .before .before .before .pre)
+add-writes c =
+    let k = numbers _
+    (c .before .before .before .before .before .before .before .before .before .before .before .before .before .before .before .before .before .pre .4)
+    (c .before .before .before .before .before .before .before .before .before .before .before .before .operand .ensures .is)
+    (c .before .before .before .before .before .before .before .before .before .before .head-at .ensures) in
+    omega (
+      arith,
+      c .before .before .before .before .before .before .before .before .before .before .before .before .before .before .before .before .before .pre,
+    )
 
 cast-writes : tie.Need-cast-writes
-cast-writes c = omega (arith, c .before .before .before .before .before .before .before .before .before .before .before .before .before .before .before .before .before .pre)
+cast-writes c =
+    omega (
+      arith,
+      c .before .before .before .before .before .before .before .before .before .before .before .before .before .before .before .before .before .pre,
+    )
 
 writes-requires : tie.Need-writes-requires
 writes-requires c κs = search needs
@@ -70,8 +110,12 @@ returns-4 : tie.Need-returns-4
 unfolding planned insOf
 returns-4 c =
     λ h.
-    let k = numbers _ (c .before .before .before .before .before .before .before .before .before .before .before .before .before .before .before .before .before .before .pre .4) (c .before .before .before .before .before .before .before .before .before .before .before .before .before .operand .ensures .is) (c .before .before .before .before .before .before .before .before .before .before .before .head-at .ensures) in
-    c .writes .ensures ∙ room k (machine _ _ _ _ h) _ (c .before .before .before .before .before .if1 .left) (c .before .before .before .if2 .left) (c .before .if3 .left)
+    let k = numbers _
+    (c .before .before .before .before .before .before .before .before .before .before .before .before .before .before .before .before .before .before .pre .4)
+    (c .before .before .before .before .before .before .before .before .before .before .before .before .before .operand .ensures .is)
+    (c .before .before .before .before .before .before .before .before .before .before .before .head-at .ensures) in
+    c .writes .ensures ∙ room k (machine _ _ _ _ h) _ (c .before .before .before .before .before .if1 .left)
+    (c .before .before .before .if2 .left) (c .before .if3 .left)
 
 pub calls-spec : {M : Type 1} → statement M
 calls-spec =

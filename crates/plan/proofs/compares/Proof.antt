@@ -1,9 +1,9 @@
 -- `plan::compares`: by what `compare` ensures of the two topmost words.
-use Rattle.plan.specs.Given.{Binary}
-use Rattle.plan.specs.Ready.{planned}
-use Rattle.model.specs.Control.{machine}
 use mathlib.Core.Path.{_∙_, refl}
 use borrow.Author.Needs.{needs}
+use Rattle.model.specs.Control.{machine}
+use Rattle.plan.specs.Given.{Binary}
+use Rattle.plan.specs.Ready.{planned}
 use Rattle.plan.proofs.compares.Statement.{statement}
 use Rattle.plan.proofs.compares.Tie as tie
 

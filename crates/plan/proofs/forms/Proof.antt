@@ -1,13 +1,13 @@
 -- `plan::forms`: the definition's test of the room is the code's.
-use Rattle.plan.specs.Ready.{planned}
-use Rattle.model.specs.Instructions.{basicPlan, planOf}
+use Prim.Native.Nat.{_+_, _<_, _≤_}
+use native.Mathlib.Omega.{arith}
+use lib.ListN.{length}
+use borrow.Author.Needs.{needs}
+use borrow.Author.Tests.{le-leb, lt-leb}
 use Rattle.model.specs.File.{operand, operand2, insOf}
 use Rattle.model.specs.Heap.{markOf}
-use lib.ListN.{length}
-use borrow.Author.Tests.{le-leb, lt-leb}
-use native.Mathlib.Omega.{arith}
-use Prim.Native.Nat.{_+_, _<_, _≤_}
-use borrow.Author.Needs.{needs}
+use Rattle.model.specs.Instructions.{basicPlan, planOf}
+use Rattle.plan.specs.Ready.{planned}
 use Rattle.plan.proofs.forms.Statement.{statement}
 use Rattle.plan.proofs.forms.Tie as tie
 
@@ -40,7 +40,13 @@ returns c =
     let at = c .before .before .before .before .before .before .before .args .regs .place in
     let h = c .before .before .before .before .before .before .before .args .heap .now in
     let t : length h < markOf h + (2 + operand f at + operand2 f at) =
-    omega (arith, c .if1 .taken, c .before .wide .ensures .is, c .before .before .before .operand2 .ensures .is, c .before .before .before .before .operand .ensures .is)
+    omega (
+      arith,
+      c .if1 .taken,
+      c .before .wide .ensures .is,
+      c .before .before .before .operand2 .ensures .is,
+      c .before .before .before .before .operand .ensures .is,
+    )
     in
     rw (lt-leb _ _ t)
 
@@ -67,9 +73,20 @@ returns-2 c =
     let at = c .before .before .before .before .before .before .before .before .before .before .args .regs .place in
     let h = c .before .before .before .before .before .before .before .before .before .before .args .heap .now in
     let t : markOf h + (2 + operand f at + operand2 f at) ≤ length h =
-    omega (arith, c .before .before .before .if1 .left, c .before .before .before .before .wide .ensures .is, c .before .before .before .before .before .before .operand2 .ensures .is, c .before .before .before .before .before .before .before .operand .ensures .is)
+    omega (
+      arith,
+      c .before .before .before .if1 .left,
+      c .before .before .before .before .wide .ensures .is,
+      c .before .before .before .before .before .before .operand2 .ensures .is,
+      c .before .before .before .before .before .before .before .operand .ensures .is,
+    )
     in
-    rw (c .writes .ensures, le-leb _ _ t, c .before .before .before .before .before .before .operand2 .ensures .is, c .before .before .before .before .before .before .before .operand .ensures .is)
+    rw (
+      c .writes .ensures,
+      le-leb _ _ t,
+      c .before .before .before .before .before .before .operand2 .ensures .is,
+      c .before .before .before .before .before .before .before .operand .ensures .is,
+    )
 
 pub forms-spec : {M : Type 1} → statement M
 forms-spec =

@@ -1,9 +1,9 @@
 -- `plan::leaves`: the return place is word 3 of the frame's record.
-use Rattle.plan.specs.Ready.{planned}
-use Rattle.model.specs.Instructions.{planOf}
-use Rattle.model.specs.File.{insOf}
-use Rattle.model.specs.Control.{recAt}
 use borrow.Author.Needs.{needs}
+use Rattle.model.specs.Control.{recAt}
+use Rattle.model.specs.File.{insOf}
+use Rattle.model.specs.Instructions.{planOf}
+use Rattle.plan.specs.Ready.{planned}
 use Rattle.plan.proofs.leaves.Statement.{statement}
 use Rattle.plan.proofs.leaves.Tie as tie
 

@@ -1,11 +1,11 @@
 -- `plan::literals`: at each of the two codes the definition computes.
-use Rattle.plan.specs.Ready.{planned}
-use Rattle.model.specs.Instructions.{basicPlan, planOf}
-use Rattle.model.specs.File.{bodies, bodyOf, insOf}
-use native.Mathlib.Omega.{arith}
 use mathlib.Core.Logic.{⊎-elim}
 use mathlib.Core.Path.{_≡_}
+use native.Mathlib.Omega.{arith}
 use borrow.Author.Needs.{needs}
+use Rattle.model.specs.File.{bodies, bodyOf, insOf}
+use Rattle.model.specs.Instructions.{basicPlan, planOf}
+use Rattle.plan.specs.Ready.{planned}
 use Rattle.plan.proofs.literals.Statement.{statement}
 use Rattle.plan.proofs.literals.Tie as tie
 
@@ -52,7 +52,8 @@ returns-2 : tie.Need-returns-2
 unfolding planned planOf basicPlan insOf bodyOf bodies
 returns-2 c =
     λ m p q h.
-    let e : c .before .before .before .before .args .kind ≡ 56 = ⊎-elim (λ e. absurd (c .before .before .if1 .left e)) (λ e. e) (c .before .before .before .before .pre .2) in
+    let e : c .before .before .before .before .args .kind ≡ 56 = ⊎-elim (λ e. absurd (c .before .before .if1 .left e)) (λ e. e)
+    (c .before .before .before .before .pre .2) in
     rw (c .writes2 .ensures, e, c .before .operand4 .ensures .is)
 
 pub literals-spec : {M : Type 1} → statement M

@@ -1,11 +1,11 @@
 -- `plan::on_true`: at each of the two codes the definition computes, but for its test of the word, which the code makes too.
-use Rattle.plan.specs.Ready.{planned}
-use Rattle.plan.specs.Given.{is-true, is-false}
-use Rattle.model.specs.Instructions.{planOf}
-use Rattle.model.specs.File.{insOf}
 use mathlib.Core.Logic.{⊎-elim}
 use mathlib.Core.Path.{_≡_}
 use borrow.Author.Needs.{needs}
+use Rattle.model.specs.File.{insOf}
+use Rattle.model.specs.Instructions.{planOf}
+use Rattle.plan.specs.Given.{is-true, is-false}
+use Rattle.plan.specs.Ready.{planned}
 use Rattle.plan.proofs.on_true.Statement.{statement}
 use Rattle.plan.proofs.on_true.Tie as tie
 
@@ -39,7 +39,14 @@ writes-requires-2 c κs = search needs
 
 returns-2 : tie.Need-returns-2
 unfolding planned planOf insOf
-returns-2 c = λ p q h. rw (c .writes2 .ensures, c .before .before .if2 .taken, is-true _ (c .before .before .before .if1 .left), c .before .backwards .ensures .is)
+returns-2 c =
+    λ p q h.
+    rw (
+      c .writes2 .ensures,
+      c .before .before .if2 .taken,
+      is-true _ (c .before .before .before .if1 .left),
+      c .before .backwards .ensures .is,
+    )
 
 forwards-requires : tie.Need-forwards-requires
 forwards-requires c κs = search needs
@@ -51,7 +58,8 @@ returns-3 : tie.Need-returns-3
 unfolding planned planOf insOf
 returns-3 c =
     λ p q h.
-    let e : c .before .before .before .before .before .before .before .before .args .kind ≡ 6 = ⊎-elim (λ e. absurd (c .before .before .if2 .left e)) (λ e. e) (c .before .before .before .before .before .before .before .before .pre .3) in
+    let e : c .before .before .before .before .before .before .before .before .args .kind ≡ 6 = ⊎-elim
+    (λ e. absurd (c .before .before .if2 .left e)) (λ e. e) (c .before .before .before .before .before .before .before .before .pre .3) in
     rw (c .writes3 .ensures, e, is-true _ (c .before .before .before .if1 .left), c .before .forwards .ensures .is)
 
 pub on-true-spec : {M : Type 1} → statement M

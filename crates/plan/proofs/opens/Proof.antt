@@ -1,9 +1,9 @@
 -- `plan::opens`: the definition's test of the room is the code's.
-use Rattle.plan.specs.Ready.{planned}
-use Rattle.model.specs.Instructions.{planOf}
-use Rattle.model.specs.File.{insOf}
-use borrow.Author.Tests.{le-leb, lt-leb}
 use borrow.Author.Needs.{needs}
+use borrow.Author.Tests.{le-leb, lt-leb}
+use Rattle.model.specs.File.{insOf}
+use Rattle.model.specs.Instructions.{planOf}
+use Rattle.plan.specs.Ready.{planned}
 use Rattle.plan.proofs.opens.Statement.{statement}
 use Rattle.plan.proofs.opens.Tie as tie
 

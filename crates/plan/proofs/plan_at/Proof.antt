@@ -1,15 +1,15 @@
 -- `plan::plan_at`: each arm by its family's contract, which asks for what `Arms` draws from `Ready`; the definition computes at the code.
+use mathlib.Core.List.{[], _∷_}
+use mathlib.Core.Logic.{⊎-elim}
+use mathlib.Core.Path.{_≡_, _∙_, refl}
+use native.Mathlib.Omega.{arith}
+use borrow.Author.Needs.{needs}
+use Rattle.model.specs.Checker.{basicEffect, effectOf}
+use Rattle.model.specs.File.{bodies, bodyOf, insOf, insAt}
+use Rattle.model.specs.Instructions.{basicPlan, planOf, planAt}
 use Rattle.plan.specs.Arms.{place-in, place-small, main-within, ptr-within, record-in, body-here, body, pops-main, pops-ptr, main-word, ptr-word, drops, points, callee}
 use Rattle.plan.specs.Kinds.{every, ins-other}
 use Rattle.plan.specs.Ready.{planned, plan-is}
-use Rattle.model.specs.Instructions.{basicPlan, planOf, planAt}
-use Rattle.model.specs.Checker.{basicEffect, effectOf}
-use Rattle.model.specs.File.{bodies, bodyOf, byteAt, operand, operand2, insOf, insAt}
-use native.Mathlib.Omega.{arith}
-use mathlib.Core.Path.{_≡_, _∙_, refl}
-use mathlib.Core.Logic.{⊎-elim}
-use mathlib.Core.List.{[], _∷_}
-use borrow.Author.Needs.{needs}
 use Rattle.plan.proofs.plan_at.Statement.{statement}
 use Rattle.plan.proofs.plan_at.Tie as tie
 
@@ -296,7 +296,8 @@ returns-17 : tie.Need-returns-17
 unfolding bodyOf bodies
 returns-17 c =
     c .compares .ensures _ _ _ _
-    ∙ plan-is _ _ _ 0 refl (every (λ k. bodyOf k ≡ 0) (130 ∷ 195 ∷ 198 ∷ 201 ∷ 204 ∷ []) _ (refl, (refl, (refl, (refl, (refl, tt))))) (c .before .match .keys17))
+    ∙ plan-is _ _ _ 0 refl
+    (every (λ k. bodyOf k ≡ 0) (130 ∷ 195 ∷ 198 ∷ 201 ∷ 204 ∷ []) _ (refl, (refl, (refl, (refl, (refl, tt))))) (c .before .match .keys17))
 
 returns-18 : tie.Need-returns-18
 unfolding bodyOf bodies

@@ -1,10 +1,10 @@
 -- `plan::product`: at each of the three codes the definition computes, and the operation is the one that `words` ensures.
-use Rattle.plan.specs.Given.{Binary}
-use Rattle.model.specs.Instructions.{basicPlan, planOf}
-use Rattle.model.specs.File.{insOf}
 use mathlib.Core.Logic.{⊎-elim}
 use mathlib.Core.Path.{_≡_}
 use borrow.Author.Needs.{needs}
+use Rattle.model.specs.File.{insOf}
+use Rattle.model.specs.Instructions.{basicPlan, planOf}
+use Rattle.plan.specs.Given.{Binary}
 use Rattle.plan.proofs.product.Statement.{statement}
 use Rattle.plan.proofs.product.Tie as tie
 
@@ -30,7 +30,8 @@ unfolding Binary planOf basicPlan insOf
 returns-3 c =
     λ f p m q ea eb.
     let e : c .before .before .args .kind ≡ 145 =
-    ⊎-elim (λ e. absurd (c .before .match .rest .0 .1 e)) (⊎-elim (λ e. absurd (c .before .match .rest .1 e)) (λ e. e)) (c .before .before .pre) in
+    ⊎-elim (λ e. absurd (c .before .match .rest .0 .1 e)) (⊎-elim (λ e. absurd (c .before .match .rest .1 e)) (λ e. e))
+    (c .before .before .pre) in
     rw (e, ea, eb, c .rem .ensures)
 
 pub product-spec : {M : Type 1} → statement M

@@ -1,9 +1,9 @@
 -- `plan::products`: by what `product` ensures of the two topmost words.
+use mathlib.Core.Path.{_∙_, refl}
+use borrow.Author.Needs.{needs}
 use Rattle.model.specs.Control.{machine}
 use Rattle.plan.specs.Given.{Binary}
 use Rattle.plan.specs.Ready.{planned}
-use mathlib.Core.Path.{_∙_, refl}
-use borrow.Author.Needs.{needs}
 use Rattle.plan.proofs.products.Statement.{statement}
 use Rattle.plan.proofs.products.Tie as tie
 

@@ -1,14 +1,14 @@
 -- `plan::ptr_fields`: at each of the two codes the definition computes; its tests of the object are the code's.
-use Rattle.plan.specs.Given.{not-nil, lies}
-use Rattle.plan.specs.Ready.{planned}
-use Rattle.heap.specs.Stores.{in-ptrs}
-use Rattle.model.specs.Instructions.{basicPlan, planOf}
-use Rattle.model.specs.File.{insOf}
-use borrow.Author.Tests.{eq-eqb, ne-eqb, not-true, not-false}
-use native.Mathlib.Omega.{arith}
 use mathlib.Core.Logic.{⊎-elim}
 use mathlib.Core.Path.{_≡_, _∙_, sym}
+use native.Mathlib.Omega.{arith}
 use borrow.Author.Needs.{needs}
+use borrow.Author.Tests.{eq-eqb, ne-eqb, not-true, not-false}
+use Rattle.model.specs.File.{insOf}
+use Rattle.model.specs.Instructions.{basicPlan, planOf}
+use Rattle.heap.specs.Stores.{in-ptrs}
+use Rattle.plan.specs.Given.{not-nil, lies}
+use Rattle.plan.specs.Ready.{planned}
 use Rattle.plan.proofs.ptr_fields.Statement.{statement}
 use Rattle.plan.proofs.ptr_fields.Tie as tie
 
@@ -28,22 +28,32 @@ returns : tie.Need-returns
 unfolding planned planOf basicPlan insOf
 returns c =
     λ m q.
-    let z = sym (c .before .wide .ensures .is) ∙ c .if1 .taken in
-    ⊎-elim (λ e. rw e (rw (eq-eqb _ _ z))) (λ e. rw e (rw (eq-eqb _ _ z))) (c .before .before .before .before .before .before .before .pre .5)
+    let read = c .before in
+    let z = sym (read .wide .ensures .is) ∙ c .if1 .taken in
+    ⊎-elim (λ e. rw e (rw (eq-eqb _ _ z))) (λ e. rw e (rw (eq-eqb _ _ z))) (read .before .before .before .before .before .before .pre .5)
 
 operand-requires : tie.Need-operand-requires
 operand-requires c κs = search needs
 
 in-ptrs-requires : tie.Need-in-ptrs-requires
-in-ptrs-requires c κs = let l = lies (c .before .before .before .before .before .before .before .before .pre .3) (c .before .before .wide .ensures .is) (c .before .if1 .left) in omega arith
+in-ptrs-requires c κs =
+    let read = c .before .before in
+    let l = lies (read .before .before .before .before .before .before .pre .3) (read .wide .ensures .is) (c .before .if1 .left) in
+    omega arith
 
 returns-2 : tie.Need-returns-2
 unfolding planned planOf basicPlan insOf
 returns-2 c =
     λ m q.
-    let n = not-nil (c .before .before .before .before .wide .ensures .is) (c .before .before .before .if1 .left) in
-    let t = rw (c .before .before .before .before .wide .ensures .is, c .before .before .operand .ensures .is) at (sym (c .before .in-ptrs .ensures) ∙ not-true _ (c .if2 .taken)) in
-    ⊎-elim (λ e. rw e (rw (ne-eqb _ _ n, t))) (λ e. rw e (rw (ne-eqb _ _ n, t))) (c .before .before .before .before .before .before .before .before .before .before .pre .5)
+    let asked = c .before in
+    let read = asked .before .before .before in
+    let n = not-nil (read .wide .ensures .is) (asked .before .before .if1 .left) in
+    let t = rw (
+      read .wide .ensures .is,
+      asked .before .operand .ensures .is,
+    ) at (sym (asked .in-ptrs .ensures) ∙ not-true _ (c .if2 .taken)) in
+    ⊎-elim (λ e. rw e (rw (ne-eqb _ _ n, t))) (λ e. rw e (rw (ne-eqb _ _ n, t)))
+    (read .before .before .before .before .before .before .pre .5)
 
 add-at : tie.Need-add-at
 add-at c = search needs
@@ -56,8 +66,10 @@ mul-writes c = search needs
 
 shared-slice-read-writes : tie.Need-shared-slice-read-writes
 shared-slice-read-writes c =
-    let l = lies (c .before .before .before .before .before .before .before .before .before .before .before .before .pre .3) (c .before .before .before .before .before .before .wide .ensures .is) (c .before .before .before .before .before .if1 .left) in
-    let g = in-ptrs _ _ _ (sym (c .before .before .before .in-ptrs .ensures) ∙ not-false _ (c .before .before .if2 .left)) in
+    let asked = c .before .before .before in
+    let read = asked .before .before .before in
+    let l = lies (read .before .before .before .before .before .before .pre .3) (read .wide .ensures .is) (asked .before .before .if1 .left) in
+    let g = in-ptrs _ _ _ (sym (asked .in-ptrs .ensures) ∙ not-false _ (c .before .before .if2 .left)) in
     omega arith
 
 writes-requires : tie.Need-writes-requires
@@ -67,14 +79,26 @@ returns-3 : tie.Need-returns-3
 unfolding planned planOf basicPlan insOf
 returns-3 c =
     λ m q.
-    let n = not-nil (c .before .before .before .before .before .before .before .wide .ensures .is) (c .before .before .before .before .before .before .if1 .left) in
-    let t = rw (c .before .before .before .before .before .before .before .wide .ensures .is, c .before .before .before .before .before .operand .ensures .is) at (sym (c .before .before .before .before .in-ptrs .ensures) ∙ not-false _ (c .before .before .before .if2 .left)) in
-    rw (c .writes .ensures, c .before .before .if3 .taken, c .before .before .before .before .before .before .before .wide .ensures .is, c .before .before .before .before .before .operand .ensures .is) (rw (ne-eqb _ _ n, t))
+    let asked = c .before .before .before .before in
+    let read = asked .before .before .before in
+    let n = not-nil (read .wide .ensures .is) (asked .before .before .if1 .left) in
+    let t = rw (
+      read .wide .ensures .is,
+      asked .before .operand .ensures .is,
+    ) at (sym (asked .in-ptrs .ensures) ∙ not-false _ (c .before .before .before .if2 .left)) in
+    rw (
+      c .writes .ensures,
+      c .before .before .if3 .taken,
+      read .wide .ensures .is,
+      asked .before .operand .ensures .is,
+    ) (rw (ne-eqb _ _ n, t))
 
 sub-value : tie.Need-sub-value
 sub-value c =
-    let e : c .before .before .before .before .before .before .before .before .before .before .before .before .args .kind ≡ 33 = ⊎-elim (λ e. absurd (c .before .if3 .left e)) (λ e. e) (c .before .before .before .before .before .before .before .before .before .before .before .before .pre .5) in
-    omega (arith, c .before .before .before .before .before .before .before .before .before .before .before .before .pre .4 e)
+    let pre = c .before .before .before .before .before .before .before .before .before .before .before .before .pre in
+    let e : c .before .before .before .before .before .before .before .before .before .before .before .before .args .kind ≡ 33 = ⊎-elim
+    (λ e. absurd (c .before .if3 .left e)) (λ e. e) (pre .5) in
+    omega (arith, pre .4 e)
 
 add-writes-2 : tie.Need-add-writes-2
 add-writes-2 c = search needs
@@ -92,10 +116,17 @@ returns-4 : tie.Need-returns-4
 unfolding planned planOf basicPlan insOf
 returns-4 c =
     λ m q.
-    let e : c .before .before .before .before .before .before .before .before .before .before .before .before .before .before .args .kind ≡ 33 = ⊎-elim (λ e. absurd (c .before .before .before .if3 .left e)) (λ e. e) (c .before .before .before .before .before .before .before .before .before .before .before .before .before .before .pre .5) in
-    let n = not-nil (c .before .before .before .before .before .before .before .before .wide .ensures .is) (c .before .before .before .before .before .before .before .if1 .left) in
-    let t = rw (c .before .before .before .before .before .before .before .before .wide .ensures .is, c .before .before .before .before .before .before .operand .ensures .is) at (sym (c .before .before .before .before .before .in-ptrs .ensures) ∙ not-false _ (c .before .before .before .before .if2 .left)) in
-    rw (c .writes2 .ensures, e, c .before .before .before .before .before .before .before .before .wide .ensures .is, c .before .before .before .before .before .before .operand .ensures .is) (rw (ne-eqb _ _ n, t))
+    let asked = c .before .before .before .before .before in
+    let read = asked .before .before .before in
+    let pre = c .before .before .before .before .before .before .before .before .before .before .before .before .before .before .pre in
+    let e : c .before .before .before .before .before .before .before .before .before .before .before .before .before .before .args .kind ≡ 33 = ⊎-elim
+    (λ e. absurd (c .before .before .before .if3 .left e)) (λ e. e) (pre .5) in
+    let n = not-nil (read .wide .ensures .is) (asked .before .before .if1 .left) in
+    let t = rw (
+      read .wide .ensures .is,
+      asked .before .operand .ensures .is,
+    ) at (sym (asked .in-ptrs .ensures) ∙ not-false _ (c .before .before .before .before .if2 .left)) in
+    rw (c .writes2 .ensures, e, read .wide .ensures .is, asked .before .operand .ensures .is) (rw (ne-eqb _ _ n, t))
 
 pub ptr-fields-spec : {M : Type 1} → statement M
 ptr-fields-spec =

@@ -1,12 +1,12 @@
 -- `plan::ptr_locals`: at each of the two codes the definition computes; the frame's base is word 1 of its record.
-use Rattle.plan.specs.Ready.{planned}
-use Rattle.model.specs.Instructions.{basicPlan, planOf}
-use Rattle.model.specs.File.{insOf}
-use Rattle.model.specs.Control.{recAt}
-use native.Mathlib.Omega.{arith}
 use mathlib.Core.Logic.{⊎-elim}
 use mathlib.Core.Path.{_≡_}
+use native.Mathlib.Omega.{arith}
 use borrow.Author.Needs.{needs}
+use Rattle.model.specs.Control.{recAt}
+use Rattle.model.specs.File.{insOf}
+use Rattle.model.specs.Instructions.{basicPlan, planOf}
+use Rattle.plan.specs.Ready.{planned}
 use Rattle.plan.proofs.ptr_locals.Statement.{statement}
 use Rattle.plan.proofs.ptr_locals.Tie as tie
 
@@ -45,14 +45,27 @@ mul-writes c = search needs
 
 shared-slice-read-writes : tie.Need-shared-slice-read-writes
 unfolding recAt
-shared-slice-read-writes c = omega (arith, c .before .before .before .before .before .before .before .before .before .pre .3, c .before .before .before .wide .ensures .is, c .before .before .operand .ensures .is)
+shared-slice-read-writes c =
+    omega (
+      arith,
+      c .before .before .before .before .before .before .before .before .before .pre .3,
+      c .before .before .before .wide .ensures .is,
+      c .before .before .operand .ensures .is,
+    )
 
 writes-requires : tie.Need-writes-requires
 writes-requires c κs = search needs
 
 returns : tie.Need-returns
 unfolding planned planOf basicPlan insOf recAt
-returns c = λ p h. rw (c .writes .ensures, c .before .before .if1 .taken, c .before .before .before .operand .ensures .is, c .before .before .before .before .wide .ensures .is)
+returns c =
+    λ p h.
+    rw (
+      c .writes .ensures,
+      c .before .before .if1 .taken,
+      c .before .before .before .operand .ensures .is,
+      c .before .before .before .before .wide .ensures .is,
+    )
 
 sub-rest : tie.Need-sub-rest
 sub-rest c = search needs
@@ -73,7 +86,9 @@ returns-2 : tie.Need-returns-2
 unfolding planned planOf basicPlan insOf recAt
 returns-2 c =
     λ p h.
-    let e : c .before .before .before .before .before .before .before .before .before .before .args .kind ≡ 23 = ⊎-elim (λ e. absurd (c .before .before .if1 .left e)) (λ e. e) (c .before .before .before .before .before .before .before .before .before .before .pre .4) in
+    let e : c .before .before .before .before .before .before .before .before .before .before .args .kind ≡ 23 = ⊎-elim
+    (λ e. absurd (c .before .before .if1 .left e)) (λ e. e)
+    (c .before .before .before .before .before .before .before .before .before .before .pre .4) in
     rw (c .writes2 .ensures, e, c .before .before .before .operand .ensures .is, c .before .before .before .before .wide .ensures .is)
 
 pub ptr-locals-spec : {M : Type 1} → statement M

@@ -1,9 +1,9 @@
 -- `plan::same_ptr`: the definition computes; `words::eq_w` ensures the word.
+use borrow.Author.Needs.{needs}
+use Rattle.model.specs.File.{insOf}
+use Rattle.model.specs.Instructions.{basicPlan, planOf}
 use Rattle.plan.specs.Given.{same-word}
 use Rattle.plan.specs.Ready.{planned}
-use Rattle.model.specs.Instructions.{basicPlan, planOf}
-use Rattle.model.specs.File.{insOf}
-use borrow.Author.Needs.{needs}
 use Rattle.plan.proofs.same_ptr.Statement.{statement}
 use Rattle.plan.proofs.same_ptr.Tie as tie
 

@@ -1,8 +1,8 @@
 -- `plan::set_root`: the definition computes.
-use Rattle.plan.specs.Ready.{planned}
-use Rattle.model.specs.Instructions.{basicPlan, planOf}
-use Rattle.model.specs.File.{insOf}
 use borrow.Author.Needs.{needs}
+use Rattle.model.specs.File.{insOf}
+use Rattle.model.specs.Instructions.{basicPlan, planOf}
+use Rattle.plan.specs.Ready.{planned}
 use Rattle.plan.proofs.set_root.Statement.{statement}
 use Rattle.plan.proofs.set_root.Tie as tie
 

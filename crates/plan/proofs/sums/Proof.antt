@@ -1,9 +1,9 @@
 -- `plan::sums`: by what `sum` ensures of the two topmost words.
+use mathlib.Core.Path.{_∙_, refl}
+use borrow.Author.Needs.{needs}
 use Rattle.model.specs.Control.{machine}
 use Rattle.plan.specs.Given.{Binary}
 use Rattle.plan.specs.Ready.{planned}
-use mathlib.Core.Path.{_∙_, refl}
-use borrow.Author.Needs.{needs}
 use Rattle.plan.proofs.sums.Statement.{statement}
 use Rattle.plan.proofs.sums.Tie as tie
 

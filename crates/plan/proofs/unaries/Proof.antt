@@ -1,10 +1,10 @@
 -- `plan::unaries`: at each of the two codes the definition computes, and the operation is the one that `words` ensures.
-use Rattle.plan.specs.Ready.{planned}
-use Rattle.model.specs.Instructions.{basicPlan, planOf}
-use Rattle.model.specs.File.{insOf}
 use mathlib.Core.Logic.{⊎-elim}
 use mathlib.Core.Path.{_≡_}
 use borrow.Author.Needs.{needs}
+use Rattle.model.specs.File.{insOf}
+use Rattle.model.specs.Instructions.{basicPlan, planOf}
+use Rattle.plan.specs.Ready.{planned}
 use Rattle.plan.proofs.unaries.Statement.{statement}
 use Rattle.plan.proofs.unaries.Tie as tie
 
@@ -40,7 +40,8 @@ returns-2 : tie.Need-returns-2
 unfolding planned planOf basicPlan insOf
 returns-2 c =
     λ f p q h.
-    let e : c .before .before .before .before .before .before .before .args .kind ≡ 146 = ⊎-elim (λ e. absurd (c .before .before .if1 .left e)) (λ e. e) (c .before .before .before .before .before .before .before .pre .3) in
+    let e : c .before .before .before .before .before .before .before .args .kind ≡ 146 = ⊎-elim
+    (λ e. absurd (c .before .before .if1 .left e)) (λ e. e) (c .before .before .before .before .before .before .before .pre .3) in
     rw (c .writes .ensures, e, ← (c .before .not .ensures))
 
 pub unaries-spec : {M : Type 1} → statement M
