@@ -170,15 +170,15 @@ fn ptr_fields(file: &[u8], ptr: &[u32], heap: &[u32], regs: Regs, kind: u8) -> P
 {
     let place = regs.place;
     let top = regs.ptop - 1;
-    let object = wide(ptr[top]);
-    if object == 0 {
+    let view = wide(ptr[top]);
+    if view == 0 {
         return Plan::NilObject;
     }
     let s = code::operand(file, place);
-    if !heap::in_ptrs(heap, object, s) {
+    if !heap::in_ptrs(heap, view, s) {
         return Plan::BadField;
     }
-    let at = object + s;
+    let slot = view + s;
     if kind == 31 {
         return writes(
             Into::Pointer,
@@ -186,11 +186,11 @@ fn ptr_fields(file: &[u8], ptr: &[u32], heap: &[u32], regs: Regs, kind: u8) -> P
             regs.mtop,
             regs.ptop,
             top,
-            heap[at],
+            heap[slot],
         );
     }
     let value = regs.ptop - 2;
-    writes(Into::Heap, place + 3, regs.mtop, value, at, ptr[value])
+    writes(Into::Heap, place + 3, regs.mtop, value, slot, ptr[value])
 }
 
 // 36: a new view.

@@ -23,85 +23,71 @@ head-at-requires c κs = rw (c .before .operand .ensures .is) (omega (arith, c .
 
 sub-m : tie.Need-sub-m
 sub-m c =
-    let k = numbers _ (c .before .before .before .before .before .before .before .before .before .pre .4)
-    (c .before .before .before .before .operand .ensures .is) (c .before .before .head-at .ensures) in
-    omega (arith, c .before .before .before .before .before .before .before .before .before .pre .4)
+    let read = c .before .before in
+    let k = numbers _ (read .before .before .before .before .before .before .before .pre .4) (read .before .before .operand .ensures .is)
+    (read .head-at .ensures) in
+    omega (arith, read .before .before .before .before .before .before .before .pre .4)
 
 sub-q : tie.Need-sub-q
 sub-q c =
-    let k = numbers _ (c .before .before .before .before .before .before .before .before .before .before .before .pre .4)
-    (c .before .before .before .before .before .before .operand .ensures .is) (c .before .before .before .before .head-at .ensures) in
-    omega (arith, c .before .before .before .before .before .before .before .before .before .before .before .pre .4)
+    let read = c .before .before .before .before in
+    let k = numbers _ (read .before .before .before .before .before .before .before .pre .4) (read .before .before .operand .ensures .is)
+    (read .head-at .ensures) in
+    omega (arith, read .before .before .before .before .before .before .before .pre .4)
 
 add-if1 : tie.Need-add-if1
 add-if1 c =
-    omega (
-      arith,
-      c .before .before .before .before .before .head-at .ensures,
-      c .before .before .before .before .before .before .before .before .before .before .before .before .pre,
-    )
+    let read = c .before .before .before .before .before in
+    omega (arith, read .head-at .ensures, read .before .before .before .before .before .before .before .pre)
 
 returns : tie.Need-returns
 unfolding planned insOf
 returns c =
     λ h.
-    let k = numbers _ (c .before .before .before .before .before .before .before .before .before .before .before .before .before .pre .4)
-    (c .before .before .before .before .before .before .before .before .operand .ensures .is)
-    (c .before .before .before .before .before .before .head-at .ensures) in
+    let read = c .before .before .before .before .before .before in
+    let k = numbers _ (read .before .before .before .before .before .before .before .pre .4) (read .before .before .operand .ensures .is)
+    (read .head-at .ensures) in
     no-main k (machine _ _ _ _ h) _ (c .if1 .taken)
 
 add-if2 : tie.Need-add-if2
 add-if2 c =
-    omega (
-      arith,
-      c .before .before .before .before .before .before .before .head-at .ensures,
-      c .before .before .before .before .before .before .before .before .before .before .before .before .before .before .pre,
-    )
+    let read = c .before .before .before .before .before .before .before in
+    omega (arith, read .head-at .ensures, read .before .before .before .before .before .before .before .pre)
 
 returns-2 : tie.Need-returns-2
 unfolding planned insOf
 returns-2 c =
     λ h.
-    let k = numbers _
-    (c .before .before .before .before .before .before .before .before .before .before .before .before .before .before .before .pre .4)
-    (c .before .before .before .before .before .before .before .before .before .before .operand .ensures .is)
-    (c .before .before .before .before .before .before .before .before .head-at .ensures) in
+    let read = c .before .before .before .before .before .before .before .before in
+    let k = numbers _ (read .before .before .before .before .before .before .before .pre .4) (read .before .before .operand .ensures .is)
+    (read .head-at .ensures) in
     no-ptr k (machine _ _ _ _ h) _ (c .before .before .if1 .left) (c .if2 .taken)
 
 add-if3 : tie.Need-add-if3
 add-if3 c =
-    omega (
-      arith,
-      c .before .before .before .before .before .before .before .before .before .before .before .before .before .before .before .before .pre,
-    )
+    let read = c .before .before .before .before .before .before .before .before .before in
+    omega (arith, read .before .before .before .before .before .before .before .pre)
 
 returns-3 : tie.Need-returns-3
 unfolding planned insOf
 returns-3 c =
     λ h.
-    let k = numbers _
-    (c .before .before .before .before .before .before .before .before .before .before .before .before .before .before .before .before .before .pre .4)
-    (c .before .before .before .before .before .before .before .before .before .before .before .before .operand .ensures .is)
-    (c .before .before .before .before .before .before .before .before .before .before .head-at .ensures) in
+    let read = c .before .before .before .before .before .before .before .before .before .before in
+    let k = numbers _ (read .before .before .before .before .before .before .before .pre .4) (read .before .before .operand .ensures .is)
+    (read .head-at .ensures) in
     no-ctl k (machine _ _ _ _ h) _ (c .before .before .before .before .if1 .left) (c .before .before .if2 .left) (c .if3 .taken)
 
 add-writes : tie.Need-add-writes
 add-writes c =
-    let k = numbers _
-    (c .before .before .before .before .before .before .before .before .before .before .before .before .before .before .before .before .before .pre .4)
-    (c .before .before .before .before .before .before .before .before .before .before .before .before .operand .ensures .is)
-    (c .before .before .before .before .before .before .before .before .before .before .head-at .ensures) in
-    omega (
-      arith,
-      c .before .before .before .before .before .before .before .before .before .before .before .before .before .before .before .before .before .pre,
-    )
+    let read = c .before .before .before .before .before .before .before .before .before .before in
+    let k = numbers _ (read .before .before .before .before .before .before .before .pre .4) (read .before .before .operand .ensures .is)
+    (read .head-at .ensures) in
+    omega (arith, read .before .before .before .before .before .before .before .pre)
 
 cast-writes : tie.Need-cast-writes
 cast-writes c =
-    omega (
-      arith,
-      c .before .before .before .before .before .before .before .before .before .before .before .before .before .before .before .before .before .pre,
-    )
+    let read = c .before .before .before .before .before .before .before .before .before .before in
+    omega (arith, read .before .before .before .before .before .before .before .pre)
 
 writes-requires : tie.Need-writes-requires
 writes-requires c κs = search needs
@@ -110,10 +96,9 @@ returns-4 : tie.Need-returns-4
 unfolding planned insOf
 returns-4 c =
     λ h.
-    let k = numbers _
-    (c .before .before .before .before .before .before .before .before .before .before .before .before .before .before .before .before .before .before .pre .4)
-    (c .before .before .before .before .before .before .before .before .before .before .before .before .before .operand .ensures .is)
-    (c .before .before .before .before .before .before .before .before .before .before .before .head-at .ensures) in
+    let read = c .before .before .before .before .before .before .before .before .before .before .before in
+    let k = numbers _ (read .before .before .before .before .before .before .before .pre .4) (read .before .before .operand .ensures .is)
+    (read .head-at .ensures) in
     c .writes .ensures ∙ room k (machine _ _ _ _ h) _ (c .before .before .before .before .before .if1 .left)
     (c .before .before .before .if2 .left) (c .before .if3 .left)
 

@@ -28,8 +28,8 @@ returns : tie.Need-returns
 unfolding planned planOf insOf
 returns c =
     λ p q h.
-    rw (c .writes .ensures)
-    (⊎-elim (λ e. rw e (rw (is-true _ (c .before .if1 .taken)))) (λ e. rw e (rw (is-true _ (c .before .if1 .taken)))) (c .before .before .before .before .before .before .pre .3))
+    let t = is-true _ (c .before .if1 .taken) in
+    rw (c .writes .ensures) (⊎-elim (λ e. rw e (rw t)) (λ e. rw e (rw t)) (c .before .before .before .before .before .before .pre .3))
 
 forwards-requires : tie.Need-forwards-requires
 forwards-requires c κs = search needs

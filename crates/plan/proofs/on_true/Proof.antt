@@ -28,8 +28,8 @@ returns : tie.Need-returns
 unfolding planned planOf insOf
 returns c =
     λ p q h.
-    rw (c .writes .ensures)
-    (⊎-elim (λ e. rw e (rw (is-false _ (c .before .if1 .taken)))) (λ e. rw e (rw (is-false _ (c .before .if1 .taken)))) (c .before .before .before .before .before .before .pre .3))
+    let t = is-false _ (c .before .if1 .taken) in
+    rw (c .writes .ensures) (⊎-elim (λ e. rw e (rw t)) (λ e. rw e (rw t)) (c .before .before .before .before .before .before .pre .3))
 
 backwards-requires : tie.Need-backwards-requires
 backwards-requires c κs = search needs

@@ -55,8 +55,8 @@ returns-2 c =
     ⊎-elim (λ e. rw e (rw (ne-eqb _ _ n, t))) (λ e. rw e (rw (ne-eqb _ _ n, t)))
     (read .before .before .before .before .before .before .pre .5)
 
-add-at : tie.Need-add-at
-add-at c = search needs
+add-slot : tie.Need-add-slot
+add-slot c = search needs
 
 add-writes : tie.Need-add-writes
 add-writes c = search needs
@@ -140,7 +140,7 @@ ptr-fields-spec =
     operand-requires
     in-ptrs-requires
     returns-2
-    add-at
+    add-slot
     add-writes
     mul-writes
     shared-slice-read-writes
