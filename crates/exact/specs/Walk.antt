@@ -83,7 +83,7 @@ pub after-above : (f : List ℕ) (p : ℕ) → p < after f p
 unfolding after
 after-above f p = omega arith
 
-records-walk : (f : List ℕ) (n p : ℕ) (ps : List ℕ) → length f ≤ p + n → recordsFrom f n p ≡ starts ps → Walk f p ps
+pub records-walk : (f : List ℕ) (n p : ℕ) (ps : List ℕ) → length f ≤ p + n → recordsFrom f n p ≡ starts ps → Walk f p ps
 unfolding recordsFrom whole?
 records-walk f zero p ps h e = let w : [] ≡ ps = cc in subst (λ (l : List ℕ). Walk f p l) w (omega arith)
 records-walk f (suc n) p ps h e =

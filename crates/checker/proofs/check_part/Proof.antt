@@ -1,0 +1,41 @@
+-- `checker::check_part` meets its contract: a refused file has its part filled.
+use mathlib.Core.Logic.{⊎-elim}
+use mathlib.Core.Path.{sym, _∙_}
+use native.Mathlib.Omega.{arith}
+use Rattle.checker.specs.Parts.{fill-kept, fill-refused}
+use borrow.Author.Needs.{needs}
+use Rattle.checker.proofs.check_part.Statement.{statement}
+use Rattle.checker.proofs.check_part.Tie as tie
+
+passes-requires : tie.Need-passes-requires
+passes-requires c κs = search needs
+
+enum-known-a : tie.Need-enum-known-a
+enum-known-a c = search needs
+
+same-length : tie.Need-same-length
+same-length c = search needs
+
+returns : tie.Need-returns
+returns c = fill-kept (c .before .before .before .before .before .before .before .before .args .file .now) (c .before .before .before .passes .last .1 .0) (c .before .before .before .passes .last .1 .1 .0) (c .before .before .before .passes .result) (λ n p e. ⊎-elim (λ z. omega arith) (⊎-elim (λ z. omega arith) (⊎-elim (λ z. omega arith) (⊎-elim (λ z. omega arith) (λ z. omega arith)))) (rw e at (c .match .keys2))) (c .before .before .before .passes .ensures)
+
+fill-requires : tie.Need-fill-requires
+fill-requires c κs = search needs
+
+same-length-2 : tie.Need-same-length-2
+same-length-2 c = search needs
+
+returns-2 : tie.Need-returns-2
+returns-2 c = fill-refused (c .before .before .before .before .before .before .before .before .before .before .before .before .before .before .args .file .now) (c .before .before .before .before .before .before .before .before .before .passes .last .1 .0) (c .before .before .fill .last .0) (c .before .before .before .before .before .before .before .before .before .passes .last .1 .1 .0) (c .before .before .before .before .before .before .before .before .before .passes .result) _ _ (c .before .before .before .before .before .a .given .1) (c .before .before .before .before .before .before .before .before .before .passes .ensures) (c .before .before .fill .ensures) (c .before .before .before .before .before .before .before .before .before .passes .kept .1 .0 ∙ c .before .before .before .before .before .before .before .before .before .before .before .before .before .before .pre .part)
+
+pub check-part-spec : {M : Type 1} → statement M
+check-part-spec =
+    tie.close
+    (tie.spec
+    passes-requires
+    enum-known-a
+    same-length
+    returns
+    fill-requires
+    same-length-2
+    returns-2)

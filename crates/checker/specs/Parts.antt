@@ -1,0 +1,171 @@
+-- The checker's answer and map from those of its passes: the part of the map that is the file's is overwritten, the rest is kept.
+use Prim.Native.Nat.{ℕ, zero, suc, _+_, _-_, _*_, _<_, _≤_}
+use mathlib.Core.Bool.{Bool, true, false, true≢false}
+use mathlib.Core.Logic.{_⊎_, inl, inr}
+use mathlib.Core.List.{List, [], _∷_, _++_}
+use mathlib.Core.Path.{_≡_, refl, ap, sym, _∙_}
+use native.Mathlib.Omega.{arith}
+use lib.Dec.{leb, eqb}
+use lib.ListN.{length, drop, replicate, length-replicate}
+use borrow.Author.Tests.{le-leb, lt-leb}
+use Rattle.model.specs.Choice.{if_then_else_, Mem}
+use Rattle.model.specs.File.{byteAt, Records, broken, starts, recordsOf, startsIn, Heads, wrong, right, headsOf, headOf, entry, procs, paramsMain, paramsPtr}
+use Rattle.model.specs.Checker.{none, Known, stateAt, isSet, Result, refused, passed, flow, firsts, first, mapFrom}
+use Rattle.model.specs.Calls.{mapSize, overMap, wiped, Verdict, pass, refuse, flowed, headed, scanned, verdictOf, Checked, checked, answered, checkOf}
+use Rattle.exact.specs.Walk.{heads-right, walk, walk-above, after-above}
+use Rattle.scan.specs.Marks.{Shows, marked, marked-shows}
+use Rattle.scan.specs.Scanning.{foundOf, Scanned}
+use Rattle.scan.specs.Heading.{Marked, Placed, Headed}
+use Rattle.flow.specs.Takes.{Good, Fit}
+use Rattle.flow.specs.Flowing.{Begun, Flowed}
+use Rattle.scan.specs.declared.Found.{Found}
+use Rattle.scan.specs.declared.Found.the-variants.{Broken, Whole}
+use Rattle.model.specs.declared.Answer.{Answer}
+use Rattle.model.specs.declared.Answer.the-variants.{Passed, Ready, Finished, Spent, Uncaught, Refused}
+
+-- a file, its part of the map and an empty table
+pub record Lengths (f m table : List ℕ) : Type 0 where
+  pub some : 1 ≤ length f
+  pub few : length f ≤ 4096
+  pub bytes : (i : ℕ) → byteAt f i < 256
+  pub part : length m ≡ 3 * length f
+  pub empty : table ≡ replicate 64 0
+
+-- what refusals 3 to 9 come to, whatever the map was
+abbrev pub Looked : List ℕ → List ℕ → List ℕ → Answer → Type 0
+Looked f m table Passed =
+    (k : Known) × ((map : List ℕ) → scanned f map (recordsOf f) ≡ pass (overMap f map (mapFrom k (length f) 0))) × (m ≡ mapFrom k (length f) 0)
+    × Placed f table (procs f)
+Looked f m table Ready = ⊥
+Looked f m table (Finished n) = ⊥
+Looked f m table (Spent n) = ⊥
+Looked f m table (Uncaught w p n) = ⊥
+Looked f m table (Refused n p) = (map : List ℕ) → scanned f map (recordsOf f) ≡ refuse n p (wiped f map)
+
+-- the same, with the part filled where the file is refused
+pub record Filled (f m table : List ℕ) (r : Answer) : Type 0 where
+  pub is : (map : List ℕ) → answered (scanned f map (recordsOf f)) ≡ checked r (overMap f map m)
+  pub placed : r ≡ Passed → Placed f table (procs f)
+
+pub record Checks (f map map′ table : List ℕ) (r : Answer) : Type 0 where
+  pub is : checked r map′ ≡ checkOf f map
+  pub placed : r ≡ Passed → Placed f table (procs f)
+
+-- refusal 3, and what the marked part shows
+module _ (f m m₁ m₂ table : List ℕ) (L : Lengths f m table) (one : m₁ ≡ replicate (length m) 65535) where
+  pub look-broken : (p : ℕ) (r : Found) → Scanned f m₁ m₂ r → r ≡ Broken p → Looked f m₂ table (Refused 3 p)
+  look-broken p r S e map = go (recordsOf f) (sym (S .found) ∙ e)
+    where
+      go : (s : Records) → foundOf s ≡ Broken p → scanned f map s ≡ refuse 3 p (wiped f map)
+      go (broken q) z = let w : Broken q ≡ Broken p = z in let v : q ≡ p = cc in rw v
+      go (starts ps) z = let w : Whole ≡ Broken p = z in let v : _≡_ {A = ℕ} 0 1 = cc in absurd (omega arith)
+
+  pub look-whole : (r : Found) → Scanned f m₁ m₂ r → r ≡ Whole → Marked f m₂ table
+  look-whole r S e =
+      record { some = L .some; few = L .few; bytes = L .bytes; whole = sym (S .found) ∙ e; shows = go (recordsOf f) refl (sym (S .found) ∙ e); empty = L .empty }
+    where
+      go : (s : Records) → recordsOf f ≡ s → foundOf s ≡ Whole → Shows f [] m₂
+      go (broken q) w z = let x : Broken q ≡ Whole = z in let v : _≡_ {A = ℕ} 0 1 = cc in absurd (omega arith)
+      go (starts ps) w z =
+          let a : m₂ ≡ marked f (replicate (3 * length f) none) ps = S .marks e ∙ rw (w, one, L .part) in
+          rw a (marked-shows f ps w (λ p i. let b = walk-above f 0 ps (walk f ps w) p i .1 in let c = after-above f p in omega arith))
+
+-- refusal 4, and what the flow begins with
+module _ (f m table : List ℕ) (M : Marked f m table) where
+  whole-starts : (ps : List ℕ) × (recordsOf f ≡ starts ps)
+  whole-starts = go (recordsOf f) refl (M .whole)
+    where
+      go : (s : Records) → recordsOf f ≡ s → foundOf s ≡ Whole → (ps : List ℕ) × (recordsOf f ≡ starts ps)
+      go (broken q) w z = let x : Broken q ≡ Whole = z in let v : _≡_ {A = ℕ} 0 1 = cc in absurd (omega arith)
+      go (starts ps) w z = (ps, w)
+
+  pub look-wrong : (m₁ table₁ : List ℕ) (p : ℕ) → headsOf f ≡ wrong p → Looked f m₁ table₁ (Refused 4 p)
+  look-wrong m₁ table₁ p e map = rw (whole-starts .1, e)
+
+  -- the first states fit the map
+  abbrev Small : Known → ℕ → Type 0
+  Small k q = (stateAt k q .main < 256) × (stateAt k q .ptr < 256) × (stateAt k q .inner ≡ none)
+
+  firsts-small : (n q : ℕ) → isSet (stateAt (firsts f n) q) ≡ true → Small (firsts f n) q
+  unfolding firsts paramsMain paramsPtr
+  firsts-small zero q h = absurd (true≢false (sym h))
+  firsts-small (suc n) q h = go (eqb q (entry f n)) h (firsts-small n q)
+    where
+      go : (t : Bool) → isSet (if t then first f n .1 else stateAt (firsts f n) q) ≡ true → (isSet (stateAt (firsts f n) q) ≡ true → Small (firsts f n) q) →
+          ((if t then first f n .1 else stateAt (firsts f n) q) .main < 256) × ((if t then first f n .1 else stateAt (firsts f n) q) .ptr < 256)
+          × ((if t then first f n .1 else stateAt (firsts f n) q) .inner ≡ none)
+      go true z r = (M .bytes (headOf f n + 1), M .bytes (headOf f n + 2), refl)
+      go false z r = r z
+
+  firsts-fit : (n q : ℕ) → isSet (stateAt (firsts f n) q) ≡ true → Fit (firsts f n) (stateAt (firsts f n) q)
+  firsts-fit n q h = let w = firsts-small n q h in record { main-byte = w .0; ptr-byte = w .1; held = inl (w .2) }
+
+  pub look-begun : (m₁ table₁ : List ℕ) (k : ℕ) → (headsOf f ≡ right) × Placed f table₁ k × Shows f (firsts f k) m₁ → Begun f m₁ table₁ k
+  look-begun m₁ table₁ k H =
+      record {
+        some = M .some;
+        few = M .few;
+        bytes = M .bytes;
+        places = whole-starts .0;
+        records = whole-starts .1;
+        heads-hold = heads-right f (H .0);
+        placed = H .1;
+        good = record { shows = H .2; fits = firsts-fit k };
+      }
+
+  pub look-flow : (m₁ m₂ table₁ : List ℕ) (k : ℕ) (r : Answer) → (headsOf f ≡ right) × Placed f table₁ k × Shows f (firsts f k) m₁ → Flowed f m₂ r → Looked f m₂ table₁ r
+  look-flow m₁ m₂ table₁ k Passed H F =
+      (F .0, (λ map. rw (whole-starts .1, H .0, F .1)), F .2, (let e = H .1 .count in rw e at (H .1)))
+  look-flow m₁ m₂ table₁ k Ready H F = F
+  look-flow m₁ m₂ table₁ k (Finished n) H F = F
+  look-flow m₁ m₂ table₁ k (Spent n) H F = F
+  look-flow m₁ m₂ table₁ k (Uncaught w p n) H F = F
+  look-flow m₁ m₂ table₁ k (Refused n p) H F = λ map. rw (whole-starts .1, H .0, F)
+
+-- a passed file keeps its part, a refused one has it filled
+pub fill-kept : (f m table : List ℕ) (r : Answer) → ((n p : ℕ) → r ≡ Refused n p → ⊥) → Looked f m table r → Filled f m table r
+fill-kept f m table Passed h L =
+    record { is = λ map. rw (L .1 map, ← L .2); placed = λ e. L .3 }
+fill-kept f m table Ready h L = absurd L
+fill-kept f m table (Finished n) h L = absurd L
+fill-kept f m table (Spent n) h L = absurd L
+fill-kept f m table (Uncaught w p n) h L = absurd L
+fill-kept f m table (Refused n p) h L = absurd (h n p refl)
+
+pub fill-refused : (f m m′ table : List ℕ) (r : Answer) (n p : ℕ) → r ≡ Refused n p → Looked f m table r → m′ ≡ replicate (length m) 65535 →
+    length m ≡ 3 * length f → Filled f m′ table (Refused n p)
+fill-refused f m m′ table r n p e L w l =
+    let R : Looked f m table (Refused n p) = rw e at L in
+    record {
+      is = λ map. rw (R map, w, l) (unfold wiped in refl);
+      placed = λ (z : Refused n p ≡ Passed). let v : _≡_ {A = ℕ} 0 1 = cc in absurd (omega arith);
+    }
+
+-- refusals 1 and 2 write nothing; the rest is the passes'
+module _ (f map table : List ℕ) where
+  not-passed : (n p : ℕ) → Refused n p ≡ Passed → Placed f table (procs f)
+  not-passed n p z = let v : _≡_ {A = ℕ} 0 1 = cc in absurd (omega arith)
+
+  pub check-none : length f < 1 → Checks f map map table (Refused 1 0)
+  unfolding checkOf verdictOf
+  check-none l = record { is = rw (lt-leb 1 (length f) l); placed = not-passed 1 0 }
+
+  pub check-long : 1 ≤ length f → 4096 < length f → Checks f map map table (Refused 1 0)
+  unfolding checkOf verdictOf
+  check-long a l = record { is = rw (le-leb 1 (length f) a, lt-leb (length f) 4096 l); placed = not-passed 1 0 }
+
+  module _ (a : 1 ≤ length f) (b : length f ≤ 4096) where
+    pub check-map : length map < 3 * length f → Checks f map map table (Refused 2 0)
+    unfolding checkOf verdictOf
+    check-map l =
+        record { is = rw (le-leb 1 (length f) a, le-leb (length f) 4096 b, lt-leb (3 * length f) (length map) l); placed = not-passed 2 0 }
+
+    pub check-rest : (m map′ : List ℕ) (r : Answer) → 3 * length f ≤ length map → Filled f m table r → map′ ≡ m ++ drop (3 * length f) map → Checks f map map′ table r
+    unfolding checkOf verdictOf
+    check-rest m map′ r l F e =
+        record {
+          is =
+              rw (le-leb 1 (length f) a, le-leb (length f) 4096 b, le-leb (3 * length f) (length map) l, e)
+              (sym (F .is map ∙ (unfold overMap in refl)));
+          placed = F .placed;
+        }

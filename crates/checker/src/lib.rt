@@ -1,0 +1,75 @@
+// The checker: refusals 1 to 9, and the map.
+ghost use mathlib.Core.Path.{_≡_};
+ghost use Prim.Native.Nat.{_+_, _*_, _<_, _≤_};
+ghost use lib.ListN.{length, replicate};
+ghost use Rattle.scan.specs.Heading.{Marked};
+ghost use Rattle.checker.specs.Parts.{Lengths, Looked, Filled, Checks};
+ghost use Rattle.model.specs.Calls.{checked, checkOf};
+use model::Answer;
+use scan::Found;
+use scan::Heads;
+
+// Refusals 4 to 9, of a file whose records are marked in its part of the map.
+fn look(file: &[u8], m: &mut [u16], table: &mut [usize; 64]) -> Answer
+    requires { ⌜ Marked (now file) (now m) (now table) ⌝ }
+    ensures { λ r. ⌜ Looked (now (file .entry)) (now (m .exit)) (now (table .exit)) r ⌝ }
+{
+    let heads = scan::heads_of(file, m, table);
+    match heads {
+        Heads::Wrong(p) => Answer::Refused(4, p),
+        Heads::Right(k) => flow::flow(file, m, table, k),
+    }
+}
+
+// Refusals 3 to 9.
+fn passes(file: &[u8], m: &mut [u16], table: &mut [usize; 64]) -> Answer
+    requires { ⌜ Lengths (now file) (now m) (now table) ⌝ }
+    ensures { λ r. ⌜ Looked (now (file .entry)) (now (m .exit)) (now (table .exit)) r ⌝ }
+{
+    scan::fill(m);
+    let found = scan::scan(file, m);
+    match found {
+        Found::Broken(p) => Answer::Refused(3, p),
+        Found::Whole => look(file, m, table),
+    }
+}
+
+// Refusals 3 to 9 fill the part with 65,535.
+fn check_part(file: &[u8], m: &mut [u16], table: &mut [usize; 64]) -> Answer
+    requires { ⌜ Lengths (now file) (now m) (now table) ⌝ }
+    ensures { λ r. ⌜ Filled (now (file .entry)) (now (m .exit)) (now (table .exit)) r ⌝ }
+{
+    let a = passes(file, m, table);
+    let Answer::Refused(n, p) = a else {
+        return a;
+    };
+    scan::fill(m);
+    Answer::Refused(n, p)
+}
+
+// Tests 1 to 9, for any file and any map. Where the file passes, the table has the heads of its procedures.
+pub fn check_with(file: &[u8], map: &mut [u16], table: &mut [usize; 64]) -> Answer
+    requires { ⌜ now table ≡ replicate 64 0 ⌝ }
+    ensures { λ r. ⌜ Checks (now (file .entry)) (now (map .entry)) (now (map .exit)) (now (table .exit)) r ⌝ }
+{
+    let n = file.len();
+    if n < 1 {
+        return Answer::Refused(1, 0);
+    }
+    if 4096 < n {
+        return Answer::Refused(1, 0);
+    }
+    let size = 3 * n;
+    if map.len() < size {
+        return Answer::Refused(2, 0);
+    }
+    check_part(file, &mut map[..size], table)
+}
+
+// The check, for any file and any map.
+pub fn check(file: &[u8], map: &mut [u16]) -> Answer
+    ensures { λ r. ⌜ checked r (now (map .exit)) ≡ checkOf (now (file .entry)) (now (map .entry)) ⌝ }
+{
+    let mut table = [0usize; 64];
+    check_with(file, map, &mut table)
+}

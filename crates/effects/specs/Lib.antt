@@ -1,0 +1,4 @@
+pub mod Shape
+pub mod Site
+pub mod Kinds
+pub mod Tests

@@ -1,0 +1,4 @@
+pub mod Takes
+pub mod Own
+pub mod Faults
+pub mod Flowing

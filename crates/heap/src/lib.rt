@@ -1,0 +1,213 @@
+// The heap: its audit for refusal 11, and reads of its objects. Document 01, Memory, second paragraph.
+// The audit walks the objects and marks in a table where they start; a pointer is then looked up there.
+ghost use mathlib.Core.Path.{_≡_};
+ghost use Prim.Native.Nat.{ℕ, _+_, _-_, _≤_, _<_};
+ghost use mathlib.Core.List.{List, []};
+ghost use lib.Dec.{eqb};
+ghost use lib.ListN.{length};
+ghost use Rattle.model.specs.Heap.{markOf, kindAt, ptrsAt, sizeAt, viewKind, inPtrs, inPlain, Objects, range, pointerWords};
+ghost use Rattle.model.specs.Sound.{pointers};
+ghost use Rattle.heap.specs.First.{firstBad, zeroAt, freeWords};
+ghost use Rattle.heap.specs.Table.{Small, Marks, isMarked, markedAt, found, Range, judged, Walked, Audited};
+
+// What the audit answers: the heap is sound, or the index of the word at fault.
+pub enum HeapAudit {
+    Clean,
+    Fault(usize),
+}
+
+fn wide(w: u32) -> usize
+    ensures { λ r. ⌜ Small 4294967296 w r ⌝ }
+{
+    w as usize
+}
+
+// The number of pointer words of the object at `q`.
+pub fn ptrs_at(heap: &[u32], q: usize) -> usize
+    requires { ⌜ q < length (now heap) ⌝ }
+    ensures { λ r. ⌜ Small 16777216 (ptrsAt (now (heap .entry)) q) r ⌝ }
+{
+    wide(heap[q]) % 16777216
+}
+
+// The size in words of the object at `q`.
+pub fn size_at(heap: &[u32], q: usize) -> usize
+    requires { ⌜ q + 1 < length (now heap) ⌝ }
+    ensures { λ r. ⌜ Small 4294967296 (sizeAt (now (heap .entry)) q) r ⌝ }
+{
+    let at = q + 1;
+    wide(heap[at])
+}
+
+// Word `s` of the object at `q` is one of its pointer words.
+pub fn in_ptrs(heap: &[u32], q: usize, s: usize) -> bool
+    requires { ⌜ q < length (now heap) ⌝ }
+    ensures { λ r. ⌜ r ≡ inPtrs (now (heap .entry)) q s ⌝ }
+{
+    2 <= s && s < 2 + ptrs_at(heap, q)
+}
+
+// Word `s` of the object at `q` is one of its plain words.
+pub fn in_plain(heap: &[u32], q: usize, s: usize) -> bool
+    requires { ⌜ q + 1 < length (now heap) ⌝ }
+    ensures { λ r. ⌜ r ≡ inPlain (now (heap .entry)) q s ⌝ }
+{
+    2 + ptrs_at(heap, q) <= s && s < size_at(heap, q)
+}
+
+fn is_view(heap: &[u32], q: usize) -> bool
+    requires { ⌜ q < length (now heap) ⌝ }
+    ensures { λ r. ⌜ r ≡ eqb (kindAt (now (heap .entry)) q) viewKind ⌝ }
+{
+    wide(heap[q]) / 16777216 == 1
+}
+
+// The fault of the object at `q`, which is to end at `mark` or before it.
+fn judge_object(heap: &[u32], q: usize, mark: usize) -> HeapAudit
+    requires { ⌜ (q < mark) × (mark ≤ length (now heap)) × (length (now heap) ≤ 16384) ⌝ }
+    ensures { λ r. ⌜ r ≡ judged (now (heap .entry)) q mark ⌝ }
+{
+    let next = q + 1;
+    if !is_view(heap, q) {
+        return HeapAudit::Fault(q);
+    }
+    if mark <= next {
+        return HeapAudit::Fault(q);
+    }
+    let size = size_at(heap, q);
+    if size < 2 + ptrs_at(heap, q) {
+        return HeapAudit::Fault(next);
+    }
+    if mark < q + size {
+        return HeapAudit::Fault(next);
+    }
+    HeapAudit::Clean
+}
+
+fn clear_marks(marks: &mut [bool; 16384])
+    requires { ⌜ length (now marks) ≡ 16384 ⌝ }
+    ensures { λ r. ⌜ (length (now (marks .exit)) ≡ 16384) × Marks [] (now (marks .exit)) ⌝ }
+{
+    let mut i = 0;
+    while i < 16384 {
+        marks[i] = false;
+        i += 1;
+    }
+}
+
+// Walks the objects from word 2 to the mark, and marks where each starts.
+fn mark_objects(heap: &[u32], marks: &mut [bool; 16384]) -> HeapAudit
+    requires { ⌜ Range (now heap) × (length (now marks) ≡ 16384) × Marks [] (now marks) ⌝ }
+    ensures { λ r. ⌜ Walked (now (heap .entry)) r (now (marks .exit)) ⌝ }
+{
+    let mark = wide(heap[0]);
+    let mut q = 2;
+    while q < mark {
+        let a = judge_object(heap, q, mark);
+        if let HeapAudit::Fault(p) = a {
+            return HeapAudit::Fault(p);
+        }
+        marks[q] = true;
+        q += size_at(heap, q);
+    }
+    HeapAudit::Clean
+}
+
+// A word is nil or marked.
+pub fn is_pointer(marks: &[bool; 16384], v: u32) -> bool
+    ensures { λ r. ⌜ r ≡ isMarked (now (marks .entry)) v ⌝ }
+{
+    let i = wide(v);
+    if i == 0 {
+        return true;
+    }
+    if i < 16384 { marks[i] } else { false }
+}
+
+// The first of the words from `from` up to `end` that is no pointer.
+fn bad_pointer(words: &[u32], marks: &[bool; 16384], from: usize, end: usize) -> HeapAudit
+    requires { ⌜ (from ≤ end) × (end ≤ length (now words)) ⌝ }
+    ensures { λ r. ⌜ r ≡ firstBad (markedAt (now (marks .entry)) (now (words .entry))) (range from (end - from)) ⌝ }
+{
+    let mut i = from;
+    while i < end {
+        if !is_pointer(marks, words[i]) {
+            return HeapAudit::Fault(i);
+        }
+        i += 1;
+    }
+    HeapAudit::Clean
+}
+
+// The first of the objects' pointer words that is no pointer.
+fn pointers_right(heap: &[u32], marks: &[bool; 16384]) -> HeapAudit
+    requires { ⌜ Range (now heap) × Objects (now heap) 2 (markOf (now heap)) (found (now heap)) ⌝ }
+    ensures { λ r. ⌜ r ≡ firstBad (markedAt (now (marks .entry)) (now (heap .entry))) (pointerWords (now (heap .entry)) (found (now (heap .entry)))) ⌝ }
+{
+    let mark = wide(heap[0]);
+    let mut q = 2;
+    while q < mark {
+        let from = q + 2;
+        let end = from + ptrs_at(heap, q);
+        let a = bad_pointer(heap, marks, from, end);
+        if let HeapAudit::Fault(p) = a {
+            return HeapAudit::Fault(p);
+        }
+        q += size_at(heap, q);
+    }
+    HeapAudit::Clean
+}
+
+// The first word from the mark on that is not 0.
+fn free_zero(heap: &[u32]) -> HeapAudit
+    requires { ⌜ Range (now heap) ⌝ }
+    ensures { λ r. ⌜ r ≡ firstBad (zeroAt (now (heap .entry))) (freeWords (now (heap .entry))) ⌝ }
+{
+    let mark = wide(heap[0]);
+    let mut i = mark;
+    while i < heap.len() {
+        if heap[i] != 0 {
+            return HeapAudit::Fault(i);
+        }
+        i += 1;
+    }
+    HeapAudit::Clean
+}
+
+// The audit for refusal 11. Of a sound heap the marks are the objects'.
+pub fn audit_heap(heap: &[u32], marks: &mut [bool; 16384]) -> HeapAudit
+    requires { ⌜ (2 ≤ length (now heap)) × (length (now heap) ≤ 16384) × (length (now marks) ≡ 16384) ⌝ }
+    ensures { λ r. ⌜ Audited (now (heap .entry)) r (now (marks .exit)) ⌝ }
+{
+    let mark = wide(heap[0]);
+    if mark < 2 {
+        return HeapAudit::Fault(0);
+    }
+    if heap.len() < mark {
+        return HeapAudit::Fault(0);
+    }
+    clear_marks(marks);
+    let w = mark_objects(heap, marks);
+    if let HeapAudit::Fault(q) = w {
+        return HeapAudit::Fault(q);
+    }
+    if !is_pointer(marks, heap[1]) {
+        return HeapAudit::Fault(1);
+    }
+    let p = pointers_right(heap, marks);
+    if let HeapAudit::Fault(q) = p {
+        return HeapAudit::Fault(q);
+    }
+    free_zero(heap)
+}
+
+// Every word of the pointer stack is a pointer of the heap whose marks these are.
+pub fn audit_pointers(ptr: &[u32], marks: &[bool; 16384]) -> bool
+    ensures { λ r. ⌜ ((os : List ℕ) → Marks os (now (marks .entry)) → r ≡ pointers os (now (ptr .entry))) ⌝ }
+{
+    let a = bad_pointer(ptr, marks, 0, ptr.len());
+    match a {
+        HeapAudit::Clean => true,
+        HeapAudit::Fault(i) => false,
+    }
+}

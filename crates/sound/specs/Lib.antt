@@ -1,0 +1,11 @@
+pub mod Tests
+pub mod Lists
+pub mod Stack
+pub mod Laws
+pub mod Sound
+pub mod Keep
+pub mod Plan
+pub mod Steps
+pub mod Runs
+pub mod Registers
+pub mod Claims

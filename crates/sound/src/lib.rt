@@ -1,0 +1,1 @@
+// No code: the theory of sound states stands in specs/.

@@ -1,0 +1,36 @@
+-- Demand 3 on calls, whole: the heap's laws, as the heap's theory has them, put into the claim over lists of calls.
+use Prim.Native.Nat.{ℕ, _+_, _<_}
+use mathlib.Core.List.{List, [], _∷_, _++_}
+use native.Mathlib.Omega.{arith}
+use lib.ListN.{length}
+use Rattle.model.specs.Heap.{Heap, Pointer, markOf, formed}
+use Rattle.model.specs.Claim.{Calls}
+use Rattle.heap.specs.Audited.{clean-heap, heap-clean}
+use Rattle.heap.specs.Stores.{store-plain, store-ptr, store-root}
+use Rattle.heap.specs.Formed.{pointer-more, pointer-new, form-kept}
+use Rattle.sound.specs.Plan.{HeapLaws, Formed}
+use Rattle.sound.specs.Claims.{calls}
+
+pub heap-laws : HeapLaws
+heap-laws =
+    record {
+      audit-clean = heap-clean;
+      clean-audit = clean-heap;
+      plain-store = λ h os q s w K m e. store-plain K q s w m e .heap;
+      ptr-store = λ h os q s v K m e p. store-ptr K q s v m e p .heap;
+      root-store = λ h os v K p. store-root K v p .heap;
+      forms = λ h os ps ws K room small each.
+          let few : length ps < 16777216 = omega arith in
+          let G = form-kept K ps ws few room (λ j k. each j) in
+          record {
+            objects = os ++ markOf h ∷ [];
+            heap = G .heap;
+            old = λ v. pointer-more v os (markOf h ∷ []);
+            new = pointer-new (markOf h) os;
+            same-length = G .long;
+          };
+    }
+
+-- for every list of check, start and run calls after a start that answered ready
+pub demand : Calls
+demand = calls heap-laws
