@@ -13,22 +13,7 @@ use Rattle.model.specs.declared.Into.the-variants as into
 use Rattle.model.specs.declared.Put.{Put}
 use Rattle.model.specs.declared.Plan.{Plan}
 use Rattle.model.specs.declared.Plan.the-variants.{Write}
-use Rattle.exec.specs.Applies.{cutOnly, plainly}
-
--- all but Main, Pointer and Heap
-abbrev noWord : List ℕ
-noWord = 0 ∷ 4 ∷ 5 ∷ 6 ∷ 7 ∷ 8 ∷ []
-
-pub cut-only : (i : Into) (put : Put) (m : Machine) → OneOf noWord (tagOf made.the-type i) → cutOnly put m ≡ plainly i put m
-cut-only into.Nothing put m k = refl
-cut-only into.Main put m k = absurd (miss noWord 1 tt k)
-cut-only into.Pointer put m k = absurd (miss noWord 2 tt k)
-cut-only into.Heap put m k = absurd (miss noWord 3 tt k)
-cut-only into.View put m k = refl
-cut-only into.Frame put m k = refl
-cut-only into.Return put m k = refl
-cut-only into.Handler put m k = refl
-cut-only into.Close put m k = refl
+use Rattle.writes.specs.Asks.{plainly}
 
 -- Nothing, Main, Pointer and Heap
 abbrev noRecord : List ℕ

@@ -1,6 +1,6 @@
 -- What a step leads to, with every list then, as one value; the exceptions' codes; and what is asked of a machine before a raise.
 use Prim.Native.Nat.{ℕ, _+_, _-_, _*_, _<_, _≤_}
-use mathlib.Core.Path.{_≡_, refl, sym}
+use mathlib.Core.Path.{_≡_, refl, ap, sym, _∙_}
 use mathlib.Core.Bool.{Bool, true, false, true≢false}
 use mathlib.Core.List.{List}
 use lib.ListN.{length, getD, set}
@@ -17,8 +17,8 @@ use Rattle.model.specs.declared.Plan.{Plan}
 use Rattle.model.specs.declared.Plan.the-variants.{Write, Overflow, NilObject, BadField, HeapFull, NoRoom, Thrown}
 use Rattle.exec.specs.declared.Outcome.{Outcome}
 use Rattle.exec.specs.declared.Guard.{Guard}
-use Rattle.exec.specs.Lists.{Topped}
-use Rattle.exec.specs.Applies.{Applies}
+use Rattle.writes.specs.Lists.{Topped}
+use Rattle.exec.specs.Applies.{Stands, Applies}
 
 -- the step leads on to a state, or to an uncaught exception, the state being as before it
 pub record Ended : Type 0 where
@@ -33,16 +33,18 @@ unfoldable pub endedOf : Machine → Stepped → Ended
 endedOf m (next m′) = record { on = true; code = 0; state = m′ }
 endedOf m (uncaught code) = record { on = false; code = code; state = m }
 
--- what a caller reads off it
-pub ended-next : (m : Machine) (s : Stepped) → endedOf m s .on ≡ true → s ≡ next (endedOf m s .state)
-unfolding endedOf
-ended-next m (next m′) e = refl
-ended-next m (uncaught code) e = absurd (true≢false (sym e))
+-- what a caller reads off it: the step went on, or nothing caught the exception and all is as before
+module _ (m : Machine) (o : Outcome) (main ptr ctl heap : List ℕ) where
+  pub went-on : (s : Stepped) → ended o main ptr ctl heap ≡ endedOf m s → o .on ≡ true → s ≡ next (machine (o .regs) main ptr ctl heap)
+  unfolding endedOf
+  went-on (next m′) e t = ap (λ x. next (x .state)) (sym e)
+  went-on (uncaught code) e t = absurd (true≢false (sym t ∙ ap (λ x. x .on) e))
 
-pub ended-uncaught : (m : Machine) (s : Stepped) → endedOf m s .on ≡ false → (s ≡ uncaught (endedOf m s .code)) × (endedOf m s .state ≡ m)
-unfolding endedOf
-ended-uncaught m (next m′) e = absurd (true≢false e)
-ended-uncaught m (uncaught code) e = (refl, refl)
+  pub went-off : (s : Stepped) → ended o main ptr ctl heap ≡ endedOf m s → o .on ≡ false →
+      (s ≡ uncaught (o .code)) × (machine (o .regs) main ptr ctl heap ≡ m)
+  unfolding endedOf
+  went-off (next m′) e t = absurd (true≢false (sym (ap (λ x. x .on) e) ∙ t))
+  went-off (uncaught code) e t = (ap (λ x. uncaught (x .code)) (sym e), ap (λ x. x .state) e)
 
 -- the code of the exception that a plan raises; main and its top
 unfoldable pub codeOf : List ℕ → ℕ → Plan → ℕ
@@ -91,6 +93,18 @@ pub record Raises (f table : List ℕ) (r : Regs) (main ptr ctl : List ℕ) : Ty
   pub main-most : length main ≤ mainMost
   pub handler : recordWords * r .handler ≤ r .ctop
   pub caught : (r .handler ≡ 0 → ⊥) → Caught f table r main ctl
+
+pub stands-raises : (f table : List ℕ) (m : Machine) → Stands f m → ((m .regs .handler ≡ 0 → ⊥) → Caught f table (m .regs) (m .main) (m .ctl)) →
+    Raises f table (m .regs) (m .main) (m .ptr) (m .ctl)
+stands-raises f table m S C =
+    record {
+      main-top = S .main;
+      ptr-top = S .ptr;
+      ctl-top = S .ctl;
+      main-most = S .main-most;
+      handler = S .handler;
+      caught = C;
+    }
 
 -- an exception that nothing catches, and one that the handler whose record is g catches
 module _ (f : List ℕ) (m : Machine) (code : ℕ) where

@@ -1,4 +1,3 @@
-pub mod Lists
 pub mod Applies
+pub mod Applied
 pub mod Ended
-pub mod Writes

@@ -3,8 +3,8 @@ use mathlib.Core.Path.{_∙_}
 use native.Mathlib.Omega.{arith}
 use Rattle.model.specs.Control.{machine}
 use Rattle.model.specs.Step.{applied}
-use Rattle.exec.specs.Lists.{length-cut}
-use Rattle.exec.specs.Writes.{to-call, to-open, to-close, to-form, to-view, to-plain, call-applied, leave-applied, open-applied, close-applied, view-applied}
+use Rattle.sound.specs.Lists.{length-cut}
+use Rattle.exec.specs.Applied.{to-call, to-open, to-close, to-form, to-view, to-plain, call-applied, leave-applied, open-applied, close-applied, view-applied}
 use Rattle.exec.proofs.Tags.{plain-applied}
 use borrow.Author.Needs.{needs}
 use Rattle.exec.proofs.apply.Statement.{statement}

@@ -2,7 +2,7 @@
 -- those above it go, and the code is pushed.
 use native.Mathlib.Omega.{arith}
 use Rattle.model.specs.Control.{machine}
-use Rattle.exec.specs.Lists.{length-cut}
+use Rattle.sound.specs.Lists.{length-cut}
 use Rattle.exec.specs.Ended.{uncaught-ends, caught-ends, guard-top, guard-targets}
 use borrow.Author.Needs.{needs}
 use Rattle.exec.proofs.raise.Statement.{statement}

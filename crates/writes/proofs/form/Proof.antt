@@ -1,11 +1,11 @@
--- `exec::form` meets its contract: header, pointers and plain words are stored one behind another, then the mark.
+-- `writes::form` meets its contract: header, pointers and plain words are stored one behind another, then the mark.
 use native.Mathlib.Omega.{arith}
 use lib.ListN.{length-set}
 use lib.Seq.{length-sets}
-use Rattle.exec.specs.Writes.{form-long, form-writes}
+use Rattle.writes.specs.Laws.{form-long, form-writes}
 use borrow.Author.Needs.{needs}
-use Rattle.exec.proofs.form.Statement.{statement}
-use Rattle.exec.proofs.form.Tie as tie
+use Rattle.writes.proofs.form.Statement.{statement}
+use Rattle.writes.proofs.form.Tie as tie
 
 sub-pointers : tie.Need-sub-pointers
 sub-pointers c = search needs

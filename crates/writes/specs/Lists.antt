@@ -8,29 +8,12 @@ use native.Mathlib.Numerals.{add-one}
 use lib.ListN.{length, getD, take, drop, set}
 use lib.Seq.{sets, slice, take-suc, drop-append-le, length-take-le, length-slice}
 use Rattle.model.specs.Words.{wordAt, cut}
-
--- the words from t on are 0
-abbrev pub Zero : ℕ → List ℕ → Type 0
-Zero t l = (i : ℕ) → t ≤ i → wordAt l i ≡ 0
+use Rattle.sound.specs.Lists.{Zero, length-cut, cut-zero}
 
 -- a stack with its top: it lies in the list, and the words above are 0
 pub record Topped (t : ℕ) (l : List ℕ) : Type 0 where
   pub fits : t ≤ length l
   pub zero : Zero t l
-
-pub length-cut : (t : ℕ) (l : List ℕ) → length (cut t l) ≡ length l
-unfolding cut
-length-cut t [] = refl
-length-cut zero (w ∷ l) = ap suc (length-cut zero l)
-length-cut (suc t) (w ∷ l) = ap suc (length-cut t l)
-
-pub cut-zero : (t : ℕ) (l : List ℕ) → Zero t (cut t l)
-unfolding cut
-cut-zero t [] i h = refl
-cut-zero zero (w ∷ l) zero h = refl
-cut-zero zero (w ∷ l) (suc i) h = cut-zero zero l i (omega arith)
-cut-zero (suc t) (w ∷ l) zero h = absurd (omega arith)
-cut-zero (suc t) (w ∷ l) (suc i) h = cut-zero t l i (omega arith)
 
 -- where the words are 0 already, a cut changes nothing
 pub cut-same : (t : ℕ) (l : List ℕ) → Zero t l → cut t l ≡ l

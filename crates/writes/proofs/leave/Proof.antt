@@ -1,8 +1,8 @@
--- `exec::leave` meets its contract: the topmost record is zeroed, or with the first frame's all of them.
-use Rattle.exec.specs.Writes.{leave-last, leave-writes}
+-- `writes::leave` meets its contract: the topmost record is zeroed, or with the first frame's all of them.
+use Rattle.writes.specs.Laws.{leave-last, leave-writes}
 use borrow.Author.Needs.{needs}
-use Rattle.exec.proofs.leave.Statement.{statement}
-use Rattle.exec.proofs.leave.Tie as tie
+use Rattle.writes.proofs.leave.Statement.{statement}
+use Rattle.writes.proofs.leave.Tie as tie
 
 cut-to-requires : tie.Need-cut-to-requires
 cut-to-requires c κs = search needs

@@ -1,24 +1,22 @@
 -- What the code leaves of a list is what the model says: records pushed and taken away, a view formed.
-use Prim.Native.Nat.{ℕ, suc, _+_, _-_, _*_, _/_, _<_, _≤_}
-use mathlib.Core.Path.{_≡_, refl, ap, sym, subst, _∙_}
+use Prim.Native.Nat.{ℕ, suc, _+_, _-_, _*_, _/_}
+use mathlib.Core.Path.{_≡_, refl, ap, sym, _∙_}
 use mathlib.Core.List.{List, [], _∷_, _++_}
 use native.Mathlib.Omega.{arith}
 use native.Mathlib.Numerals.{add-one}
 use lib.ListN.{length, set, length-set}
 use lib.Seq.{sets, slice, length-sets, length-slice}
-use lib.Dec.{eqb}
 use borrow.Author.Tests.{eq-eqb, ne-eqb}
 use Rattle.model.specs.Words.{wordAt, cut}
 use Rattle.model.specs.File.{operand, after}
 use Rattle.model.specs.Heap.{markOf, formed}
-use Rattle.model.specs.Control.{Machine, machine, rec, recAt, recOf, putRec, regs, recordWords}
-use Rattle.model.specs.Step.{mainCut, ptrCut, formedFrom, called, opened, closed, applyInto, applied}
+use Rattle.model.specs.Control.{Machine, machine, rec, recAt, putRec, regs, recordWords}
+use Rattle.model.specs.Step.{mainCut, ptrCut, called, opened, closed}
 use Rattle.model.specs.declared.Regs.{Regs}
-use Rattle.model.specs.declared.Into.{Into}
 use Rattle.model.specs.declared.Into.the-variants as into
 use Rattle.model.specs.declared.Put.{Put}
-use Rattle.exec.specs.Lists.{Topped, sets-append}
-use Rattle.exec.specs.Applies.{Suits, Applies, Forms, Calls, Pushes, Room, Plain, onwards, cutOnly, plainly, left}
+use Rattle.writes.specs.Lists.{sets-append}
+use Rattle.writes.specs.Asks.{Pushes, Room, onwards, cutOnly, plainly, left}
 
 put-top : (l : List ℕ) (t k a b c d e : ℕ) → t ≡ recordWords * k → sets l t (a ∷ b ∷ c ∷ d ∷ e ∷ []) ≡ putRec l k (rec a b c d e)
 unfolding putRec
@@ -86,92 +84,6 @@ module _ (main ptr h : List ℕ) (r : Regs) (put : Put) where
     form-writes R =
         form-words h h₁ h₂ (slice (put .at) (r .ptop) ptr) (slice (put .mtop) (r .mtop) main) (r .ptop - put .at) (r .mtop - put .mtop)
         (sym (length-slice (put .at) (r .ptop) ptr (R .ptr-fits))) (sym (length-slice (put .mtop) (r .mtop) main (R .main-fits))) e₁ e₂
-
--- What a plan asks for gives what the functions ask for, by where it writes
-module _ (f : List ℕ) (put : Put) (m : Machine) (A : Applies f put m) where
-  suits : {i : Into} → put .into ≡ i → Suits f i put m
-  suits e = subst (λ (i : Into). Suits f i put m) e (A .suits)
-
-  pushes : m .regs .ctop + recordWords ≤ length (m .ctl) → Pushes (m .regs) (m .ctl)
-  pushes room =
-      let S = A .stands in
-      record {
-        place = omega (arith, S .place, S .file-most);
-        frame = omega (arith, S .frame, S .ctl .fits, S .ctl-most);
-        handler = omega (arith, S .handler, S .ctl .fits, S .ctl-most);
-        top = omega (arith, S .ctl .fits, S .ctl-most);
-        whole = S .whole;
-        room = room;
-      }
-
-  pub to-call : put .into ≡ into.Frame →
-      Pushes (m .regs) (m .ctl) × (m .regs .place + 2 < length f) × (after f (m .regs .place) ≡ m .regs .place + 3) × (put .at ≤ 4096)
-  to-call e =
-      let C : Calls f put m = suits e in
-      (pushes (C .room), C .operand, C .behind, omega (arith, C .base, A .stands .main .fits, A .stands .main-most))
-
-  pub to-open : put .into ≡ into.Handler → Pushes (m .regs) (m .ctl) × (m .regs .mtop ≤ 4096) × (m .regs .ptop ≤ 4096)
-  to-open e =
-      let room : m .regs .ctop + recordWords ≤ length (m .ctl) = suits e in (
-        pushes room,
-        omega (arith, A .stands .main .fits, A .stands .main-most),
-        omega (arith, A .stands .ptr .fits, A .stands .ptr-most),
-      )
-
-  pub to-close : put .into ≡ into.Close →
-      Topped (m .regs .ctop) (m .ctl) × (1 ≤ m .regs .handler) × (5 * m .regs .handler ≤ m .regs .ctop)
-  to-close e = (A .stands .ctl, suits e, A .stands .handler)
-
-  pub to-form : put .into ≡ into.View → Room (length (m .main)) (length (m .ptr)) (m .heap) (m .regs) put
-  to-form e =
-      let F : Forms put m = suits e in
-      record {
-        words = F .words;
-        main-fits = A .stands .main .fits;
-        pointers = F .pointers;
-        ptr-fits = A .stands .ptr .fits;
-        few = omega (arith, A .stands .ptr .fits, A .stands .ptr-most);
-        free = F .room;
-        heap-most = A .stands .heap-most;
-      }
-
-  pub to-view : put .into ≡ into.View → put .at < length (m .ptr)
-  to-view e = let F : Forms put m = suits e in F .below
-
-  pub to-plain : Plain (length (m .heap)) (m .main) (m .ptr) (m .regs) put
-  to-plain =
-      record {
-        main-top = A .stands .main;
-        ptr-top = A .stands .ptr;
-        in-main = λ e. suits e;
-        in-ptr = λ e. suits e;
-        in-heap = λ e. suits e;
-      }
-
--- What they leave is what the model applies
-module _ (f : List ℕ) (put : Put) (m : Machine) where
-  pub call-applied : put .into ≡ into.Frame → called f put m ≡ applied f put m
-  unfolding applied applyInto
-  call-applied e = rw e
-
-  pub leave-applied : put .into ≡ into.Return → left put m ≡ applied f put m
-  unfolding applied applyInto
-  leave-applied e = rw e
-
-  pub open-applied : put .into ≡ into.Handler → opened put m ≡ applied f put m
-  unfolding applied applyInto
-  open-applied e = rw e
-
-  pub close-applied : put .into ≡ into.Close → closed put m ≡ applied f put m
-  unfolding applied applyInto
-  close-applied e = rw e
-
-  pub view-applied : (r : Regs) (main ptr heap : List ℕ) → put .into ≡ into.View → r ≡ onwards put (m .regs) → main ≡ mainCut put m →
-      ptr ≡ ptrCut put m →
-      heap ≡ formedFrom put m →
-      machine r main (set ptr (put .at) (put .word)) (m .ctl) heap ≡ applied f put m
-  unfolding applied applyInto
-  view-applied r main ptr heap e er em ep eh = rw (e, er, em, ep, eh)
 
 -- a plain write: the stacks cut, and a word stored
 module _ (put : Put) (m : Machine) (main ptr : List ℕ) (em : main ≡ mainCut put m) (ep : ptr ≡ ptrCut put m) where

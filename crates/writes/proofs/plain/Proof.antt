@@ -1,13 +1,13 @@
--- `exec::plain` meets its contract: the stacks are cut, then an arm knows where the word goes.
+-- `writes::plain` meets its contract: the stacks are cut, then an arm knows where the word goes.
 use native.Mathlib.Omega.{arith}
 use Rattle.model.specs.Control.{machine}
-use Rattle.exec.specs.Lists.{length-cut}
-use Rattle.exec.specs.Writes.{main-plainly, ptr-plainly, heap-plainly, cut-plainly}
+use Rattle.sound.specs.Lists.{length-cut}
+use Rattle.writes.specs.Laws.{main-plainly, ptr-plainly, heap-plainly, cut-plainly}
 use mathlib.Core.Path.{_∙_}
-use Rattle.exec.proofs.Tags.{cut-only}
+use Rattle.writes.proofs.Tags.{cut-only}
 use borrow.Author.Needs.{needs}
-use Rattle.exec.proofs.plain.Statement.{statement}
-use Rattle.exec.proofs.plain.Tie as tie
+use Rattle.writes.proofs.plain.Statement.{statement}
+use Rattle.writes.proofs.plain.Tie as tie
 
 cut-to-requires : tie.Need-cut-to-requires
 cut-to-requires c κs = search needs

@@ -1,13 +1,13 @@
--- `exec::clear` meets its contract: before each turn the list is cut to i, at first the top, above which all is 0.
+-- `writes::clear` meets its contract: before each turn the list is cut to i, at first the top, above which all is 0.
 use mathlib.Core.Path.{_≡_, refl, ap, sym, _∙_}
 use Prim.Native.Nat.{ℕ, _-_, _≤_}
 use native.Mathlib.Omega.{arith}
 use lib.ListN.{length, length-set}
 use borrow.Author.Needs.{needs}
 use Rattle.model.specs.Words.{cut}
-use Rattle.exec.specs.Lists.{cut-above, cut-next}
-use Rattle.exec.proofs.clear.Statement.{statement}
-use Rattle.exec.proofs.clear.Tie as tie
+use Rattle.writes.specs.Lists.{cut-above, cut-next}
+use Rattle.writes.proofs.clear.Statement.{statement}
+use Rattle.writes.proofs.clear.Tie as tie
 
 abbrev Inv-loop : tie.InvT-loop
 Inv-loop l₀ new old i₀ l i = (new ≤ i) × (i ≤ old) × (l ≡ cut i l₀) × (length l ≡ length l₀)

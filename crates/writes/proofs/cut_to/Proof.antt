@@ -1,13 +1,14 @@
--- `exec::cut_to` meets its contract: with the topmost word zeroed the stack is cut to one less, and a cut of that is a cut of the stack.
+-- `writes::cut_to` meets its contract: with the topmost word zeroed the stack is cut to one less, and a cut of that is a cut of the stack.
 use mathlib.Core.Path.{_≡_, ap, sym, _∙_}
 use Prim.Native.Nat.{ℕ, _-_, _<_}
 use native.Mathlib.Omega.{arith}
 use lib.ListN.{length, length-set}
 use Rattle.model.specs.Words.{cut}
-use Rattle.exec.specs.Lists.{length-cut, cut-above, cut-last, cut-cut, cut-topped}
+use Rattle.sound.specs.Lists.{length-cut}
+use Rattle.writes.specs.Lists.{cut-above, cut-last, cut-cut, cut-topped}
 use borrow.Author.Needs.{needs}
-use Rattle.exec.proofs.cut_to.Statement.{statement}
-use Rattle.exec.proofs.cut_to.Tie as tie
+use Rattle.writes.proofs.cut_to.Statement.{statement}
+use Rattle.writes.proofs.cut_to.Tie as tie
 
 returns : tie.Need-returns
 returns c = cut-above _ _ _ (c .if1 .taken) (c .before .before .pre)

@@ -1,8 +1,8 @@
--- `exec::close` meets its contract: the topmost record is zeroed, and the outer handler was read from it.
-use Rattle.exec.specs.Writes.{close-writes}
+-- `writes::close` meets its contract: the topmost record is zeroed, and the outer handler was read from it.
+use Rattle.writes.specs.Laws.{close-writes}
 use borrow.Author.Needs.{needs}
-use Rattle.exec.proofs.close.Statement.{statement}
-use Rattle.exec.proofs.close.Tie as tie
+use Rattle.writes.proofs.close.Statement.{statement}
+use Rattle.writes.proofs.close.Tie as tie
 
 sub-load : tie.Need-sub-load
 sub-load c = search needs
