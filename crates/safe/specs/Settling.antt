@@ -33,7 +33,7 @@ use Rattle.sound.specs.Sound.{Running}
 use Rattle.sound.specs.Keep.{framePut, behindPut}
 use Rattle.plan.specs.Ready.{Ready, placeOf, here}
 use Rattle.exec.specs.Applies.{Stands, Suits}
-use Rattle.exec.specs.Ended.{Caught, Raises, Settles}
+use Rattle.exec.specs.Ended.{Caught, stands-raises, Settles}
 use Rattle.safe.specs.Alive.{Alive, alive-laws, alive-running}
 use Rattle.safe.specs.Planning.{instruction-at, head-most, at-place, in-file, running-ready}
 
@@ -266,24 +266,12 @@ module _ {f map table : List ℕ} {m : Machine} (A : Alive f map table m) (n i j
                     });
               }
 
-  running-raises : Raises f table (m .regs) (m .main) (m .ptr) (m .ctl)
-  running-raises =
-      let S = stands in
-      record {
-        main-top = S .main;
-        ptr-top = S .ptr;
-        ctl-top = S .ctl;
-        main-most = S .main-most;
-        handler = S .handler;
-        caught = caught;
-      }
-
   pub running-settles : Settles f table m (planAt f m)
   running-settles =
       let Y = running-ready A n i j R in
       record {
         writes = λ put e. record { stands = stands; suits = writes-suit Y open-one put e };
-        raises = λ never. running-raises;
+        raises = λ never. stands-raises f table m stands caught;
         thrown = thrown-word Y open-one;
       }
 
