@@ -1,25 +1,25 @@
--- What each family of codes asks for, in the words of the lists that it reads.
-use Prim.Native.Nat.{ℕ, suc, _+_, _-_, _*_, _<_, _≤_}
-use mathlib.Core.List.{List}
-use mathlib.Core.Path.{_≡_, _∙_, ap}
-use lib.ListN.{length, getD}
-use mathlib.Core.Bool.{Bool, true, false}
+-- What each family of codes asks for, in the words of the lists that it reads, and the definition in the values that the code computes.
+use Prim.Native.Nat.{ℕ, _+_, _-_, _*_, _<_, _≤_}
+use mathlib.Core.Bool.{true, false}
+use mathlib.Core.List.{List, [], _∷_}
 use mathlib.Core.Logic.{_⊎_, inl, inr}
-use borrow.Author.Tests.{eq-eqb, ne-eqb, le-leb, lt-leb}
+use mathlib.Core.Path.{_≡_, _∙_, ap}
 use lib.Dec.{eqb}
+use lib.ListN.{length, getD}
+use borrow.Author.Tests.{eq-eqb, ne-eqb, le-leb, lt-leb}
+use Rattle.model.specs.Choice.{if_then_else_, most, all}
 use Rattle.model.specs.Words.{truth, bit, eqW, operate}
 use Rattle.model.specs.File.{call, operand, headOf, entry, insOf, paramsMain, paramsPtr, mostMain, mostPtr}
 use Rattle.model.specs.Control.{Machine}
-use Rattle.model.specs.Instructions.{mainWord, mtop, ptop, write, onValue, onObject, planOf}
+use Rattle.model.specs.Instructions.{mainWord, mtop, ptop, write, onValue, planOf}
 use Rattle.model.specs.declared.Regs.{Regs}
 use Rattle.model.specs.declared.Value.{Value}
 use Rattle.model.specs.declared.Value.the-variants.{Word}
 use Rattle.model.specs.declared.Into.the-variants.{Main, Frame}
-use Rattle.model.specs.declared.Plan.{Plan}
-use Rattle.model.specs.declared.Plan.the-variants.{NilObject, BadField, NoRoom}
+use Rattle.model.specs.declared.Plan.the-variants.{NoRoom}
 use Rattle.code.specs.declared.Head.{Head}
-use Rattle.heap.specs.Stores.{Lies}
 use Rattle.code.specs.Heads.{procHead, HeadIs, head-of}
+use Rattle.heap.specs.Stores.{Lies}
 
 -- n bytes behind p are the file's
 pub record Body (f : List ℕ) (p n : ℕ) : Type 0 where
@@ -72,8 +72,6 @@ pub record Numbers (f : List ℕ) (n h : ℕ) (v : Head) : Type 0 where
   pub ptr : v .b ≡ paramsPtr f n
   pub most-main : v .x ≡ mostMain f n
   pub most-ptr : v .y ≡ mostPtr f n
-  pub small : v .x < 256
-  pub small-ptr : v .y < 256
 
 pub numbers : {f table : List ℕ} {r : Regs} (s : ℕ) {v : Head} → Callee f table r → s ≡ operand f (r .place) →
     HeadIs f (getD table s 0) v → Numbers f (operand f (r .place)) (getD table s 0) v
@@ -88,8 +86,6 @@ numbers {f} {table} {r} s {v} C e H =
       ptr = ap (λ x. x .b) k;
       most-main = ap (λ x. x .x) k;
       most-ptr = ap (λ x. x .y) k;
-      small = H .x-small;
-      small-ptr = H .y-small;
     }
 
 -- an object on the stack, not nil
@@ -100,31 +96,26 @@ pub lies : {h : List ℕ} {w r : ℕ} → (w ≡ 0) ⊎ Lies h w → r ≡ w →
 lies (inl z) e n = absurd (n (e ∙ z))
 lies (inr l) e n = rw e l
 
--- a call that finds no room, and one that does
+-- a call in the head's numbers: where it finds no room, and where it does
 module _ {f : List ℕ} {n h : ℕ} {v : Head} (N : Numbers f n h v) (m : Machine) (q : ℕ) where
+  call-is : planOf f m q (call n)
+      ≡ (if all (most (mtop m - v .a + v .x) (length (m .main)) ∷ most (ptop m - v .b + v .y) (length (m .ptr))
+      ∷ most (m .regs .ctop + 5) (length (m .ctl)) ∷ [])
+      then write Frame (h + 7) (mtop m) (ptop m) (mtop m - v .a) (ptop m - v .b)
+      else NoRoom)
+  unfolding planOf entry
+  call-is = rw (N .at, N .main, N .ptr, N .most-main, N .most-ptr)
+
   pub no-main : length (m .main) < mtop m - v .a + v .x → NoRoom ≡ planOf f m q (call n)
-  unfolding planOf
-  no-main t = let t′ : length (m .main) < mtop m - paramsMain f n + mostMain f n = rw (N .main, N .most-main) at t in rw (lt-leb _ _ t′)
+  no-main s = rw (call-is, lt-leb _ _ s)
 
   pub no-ptr : mtop m - v .a + v .x ≤ length (m .main) → length (m .ptr) < ptop m - v .b + v .y → NoRoom ≡ planOf f m q (call n)
-  unfolding planOf
-  no-ptr s t =
-      let s′ : mtop m - paramsMain f n + mostMain f n ≤ length (m .main) = rw (N .main, N .most-main) at s in
-      let t′ : length (m .ptr) < ptop m - paramsPtr f n + mostPtr f n = rw (N .ptr, N .most-ptr) at t in
-      rw (le-leb _ _ s′, lt-leb _ _ t′)
+  no-ptr s t = rw (call-is, le-leb _ _ s, lt-leb _ _ t)
 
   pub no-ctl : mtop m - v .a + v .x ≤ length (m .main) → ptop m - v .b + v .y ≤ length (m .ptr) →
       length (m .ctl) < m .regs .ctop + 5 → NoRoom ≡ planOf f m q (call n)
-  unfolding planOf
-  no-ctl s t u =
-      let s′ : mtop m - paramsMain f n + mostMain f n ≤ length (m .main) = rw (N .main, N .most-main) at s in
-      let t′ : ptop m - paramsPtr f n + mostPtr f n ≤ length (m .ptr) = rw (N .ptr, N .most-ptr) at t in
-      rw (le-leb _ _ s′, le-leb _ _ t′, lt-leb _ _ u)
+  no-ctl s t u = rw (call-is, le-leb _ _ s, le-leb _ _ t, lt-leb _ _ u)
 
   pub room : mtop m - v .a + v .x ≤ length (m .main) → ptop m - v .b + v .y ≤ length (m .ptr) →
       m .regs .ctop + 5 ≤ length (m .ctl) → write Frame (h + 7) (mtop m) (ptop m) (mtop m - v .a) (ptop m - v .b) ≡ planOf f m q (call n)
-  unfolding planOf entry
-  room s t u =
-      let s′ : mtop m - paramsMain f n + mostMain f n ≤ length (m .main) = rw (N .main, N .most-main) at s in
-      let t′ : ptop m - paramsPtr f n + mostPtr f n ≤ length (m .ptr) = rw (N .ptr, N .most-ptr) at t in
-      rw (le-leb _ _ s′, le-leb _ _ t′, le-leb _ _ u, N .at, N .main, N .ptr)
+  room s t u = rw (call-is, le-leb _ _ s, le-leb _ _ t, le-leb _ _ u)
