@@ -126,15 +126,15 @@ pub fn leave(ctl: &mut [u32], regs: Regs, put: Put) -> Regs
         };
     }
     let caller = load(ctl, 5 * (frame - 1) + 4);
-    let under = top - 5;
-    cut_to(ctl, under, top);
+    let rest = top - 5;
+    cut_to(ctl, rest, top);
     Regs {
         place: put.place,
         frame: caller,
         handler: regs.handler,
         mtop: regs.mtop,
         ptop: regs.ptop,
-        ctop: under,
+        ctop: rest,
         state: regs.state,
     }
 }
@@ -194,7 +194,8 @@ pub fn form(main: &[u32], ptr: &[u32], heap: &mut [u32], regs: Regs, put: Put)
     let at = put.at;
     let low = put.mtop;
     let pointers = regs.ptop - at;
-    let size = 2 + (pointers + (regs.mtop - low));
+    let words = regs.mtop - low;
+    let size = 2 + (pointers + words);
     let mark = heap[0] as usize;
     let head = (16777216 + pointers) as u32;
     heap[mark] = head;

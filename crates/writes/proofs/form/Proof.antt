@@ -10,8 +10,8 @@ use Rattle.writes.proofs.form.Tie as tie
 sub-pointers : tie.Need-sub-pointers
 sub-pointers c = search needs
 
-sub-size : tie.Need-sub-size
-sub-size c = search needs
+sub-words : tie.Need-sub-words
+sub-words c = search needs
 
 add-size : tie.Need-add-size
 add-size c = search needs
@@ -53,7 +53,7 @@ add-copy : tie.Need-add-copy
 add-copy c = search needs
 
 copy-requires : tie.Need-copy-requires
-copy-requires c κs = (c .before .before .before .before .before .before .before .pre .pointers, c .before .before .before .before .before .before .before .pre .ptr-fits, simp length-set (omega arith))
+copy-requires c κs = (omega arith, omega arith, simp length-set (omega arith))
 
 add-copy-2 : tie.Need-add-copy-2
 add-copy-2 c = search needs
@@ -62,7 +62,8 @@ add-copy-3 : tie.Need-add-copy-3
 add-copy-3 c = search needs
 
 copy-requires-2 : tie.Need-copy-requires-2
-copy-requires-2 c κs = (c .before .before .before .before .before .before .before .before .before .before .before .pre .words, c .before .before .before .before .before .before .before .before .before .before .before .pre .main-fits, rw (c .before .before .before .copy .ensures) (simp (length-sets, length-set) (omega arith)))
+copy-requires-2 c κs =
+    (omega arith, omega arith, rw (c .before .before .before .copy .ensures) (simp (length-sets, length-set) (omega arith)))
 
 add-heap-2 : tie.Need-add-heap-2
 add-heap-2 c = search needs
@@ -90,7 +91,7 @@ form-spec =
     tie.close
     (tie.spec
     sub-pointers
-    sub-size
+    sub-words
     add-size
     add-size-2
     slice-read-mark

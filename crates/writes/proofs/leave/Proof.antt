@@ -27,8 +27,8 @@ add-load c = search needs
 load-requires : tie.Need-load-requires
 load-requires c κs = search needs
 
-sub-under : tie.Need-sub-under
-sub-under c = search needs
+sub-rest : tie.Need-sub-rest
+sub-rest c = search needs
 
 cut-to-requires-2 : tie.Need-cut-to-requires-2
 cut-to-requires-2 c κs = search needs
@@ -52,7 +52,7 @@ leave-spec =
     mul-load
     add-load
     load-requires
-    sub-under
+    sub-rest
     cut-to-requires-2
     same-length-2
     returns-2)
