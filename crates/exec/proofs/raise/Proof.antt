@@ -1,0 +1,86 @@
+-- `exec::raise` meets its contract: no handler, and nothing is written; or the stacks are cut to the handler's tops, its record and
+-- those above it go, and the code is pushed.
+use native.Mathlib.Omega.{arith}
+use Rattle.model.specs.Control.{machine}
+use Rattle.sound.specs.Lists.{length-cut}
+use Rattle.exec.specs.Ended.{uncaught-ends, caught-ends, guard-top, guard-targets}
+use borrow.Author.Needs.{needs}
+use Rattle.exec.proofs.raise.Statement.{statement}
+use Rattle.exec.proofs.raise.Tie as tie
+
+returns : tie.Need-returns
+returns c heap =
+    let S = c .before .before .before .before .before in
+    uncaught-ends (S .args .file .now) (machine (S .args .regs) (S .args .main .now) (S .args .ptr .now) (S .args .ctl .now) heap) (S .args .code) (c .if1 .taken)
+
+guard-at-requires : tie.Need-guard-at-requires
+guard-at-requires c κs = search needs
+
+target-requires : tie.Need-target-requires
+target-requires c κs =
+    let S = c .before .before .before .before .before .before .before .before in
+    guard-targets (S .args .file .now) (S .args .table .now) (S .args .regs) (S .args .main .now) (S .args .ptr .now) (S .args .ctl .now) _ (S .pre) (c .before .before .before .if1 .left) (c .before .guard-at .ensures)
+
+sub-under : tie.Need-sub-under
+sub-under c = search needs
+
+mul-under : tie.Need-mul-under
+mul-under c = search needs
+
+cut-to-requires : tie.Need-cut-to-requires
+cut-to-requires c κs = search needs
+
+cut-to-requires-2 : tie.Need-cut-to-requires-2
+cut-to-requires-2 c κs = search needs
+
+cut-to-requires-3 : tie.Need-cut-to-requires-3
+cut-to-requires-3 c κs = search needs
+
+mul-main : tie.Need-mul-main
+mul-main c =
+    let S = c .before .before .before .before .before .before .before .before .before .before .before .before .before .before .before .before .before .before .before .before .before in
+    omega (arith, S .pre .main-most, guard-top (S .args .file .now) (S .args .table .now) (S .args .regs) (S .args .main .now) (S .args .ptr .now) (S .args .ctl .now) _ (S .pre) (c .before .before .before .before .before .before .before .before .before .before .before .before .before .before .before .before .if1 .left) (c .before .before .before .before .before .before .before .before .before .before .before .before .before .before .guard-at .ensures))
+
+slice-write-main : tie.Need-slice-write-main
+slice-write-main c =
+    let S = c .before .before .before .before .before .before .before .before .before .before .before .before .before .before .before .before .before .before .before .before .before in
+    rw (c .before .before .before .before .before .before .before .before .before .before .cut-to .ensures, length-cut) (guard-top (S .args .file .now) (S .args .table .now) (S .args .regs) (S .args .main .now) (S .args .ptr .now) (S .args .ctl .now) _ (S .pre) (c .before .before .before .before .before .before .before .before .before .before .before .before .before .before .before .before .if1 .left) (c .before .before .before .before .before .before .before .before .before .before .before .before .before .before .guard-at .ensures))
+
+add-above : tie.Need-add-above
+add-above c =
+    let S = c .before .before .before .before .before .before .before .before .before .before .before .before .before .before .before .before .before .before .before .before .before in
+    omega (arith, S .pre .main-most, guard-top (S .args .file .now) (S .args .table .now) (S .args .regs) (S .args .main .now) (S .args .ptr .now) (S .args .ctl .now) _ (S .pre) (c .before .before .before .before .before .before .before .before .before .before .before .before .before .before .before .before .if1 .left) (c .before .before .before .before .before .before .before .before .before .before .before .before .before .before .guard-at .ensures))
+
+same-length : tie.Need-same-length
+same-length c = search needs
+
+same-length-2 : tie.Need-same-length-2
+same-length-2 c = search needs
+
+same-length-3 : tie.Need-same-length-3
+same-length-3 c = search needs
+
+returns-2 : tie.Need-returns-2
+returns-2 c heap =
+    let S = c .before .before .before .before .before .before .before .before .before .before .before .before .before .before .before .before .before .before .before .before .before in
+    caught-ends (S .args .file .now) (machine (S .args .regs) (S .args .main .now) (S .args .ptr .now) (S .args .ctl .now) heap) (S .args .code) _ _ _ _ _ (c .before .before .before .before .before .before .before .before .before .before .before .before .before .before .before .before .if1 .left) (c .before .before .before .before .before .before .before .before .before .before .before .before .before .before .guard-at .ensures) (c .before .before .before .before .before .before .before .before .before .before .before .before .target .ensures) (c .before .before .before .before .before .before .before .before .before .before .cut-to .ensures) (c .before .before .before .before .before .before .cut-to2 .ensures) (c .before .before .cut-to3 .ensures)
+
+pub raise-spec : {M : Type 1} → statement M
+raise-spec =
+    tie.close
+    (tie.spec
+    returns
+    guard-at-requires
+    target-requires
+    sub-under
+    mul-under
+    cut-to-requires
+    cut-to-requires-2
+    cut-to-requires-3
+    mul-main
+    slice-write-main
+    add-above
+    same-length
+    same-length-2
+    same-length-3
+    returns-2)

@@ -1,0 +1,78 @@
+-- `exec::step_with` meets its contract: a write is applied, every other plan raises its code.
+use mathlib.Core.Path.{_∙_, ap, sym}
+use Rattle.model.specs.Control.{machine}
+use Rattle.model.specs.Step.{settle}
+use Rattle.exec.specs.Ended.{endedOf, settle-raised}
+use Rattle.exec.proofs.Tags.{no-write}
+use borrow.Author.Needs.{needs}
+use Rattle.exec.proofs.step_with.Statement.{statement}
+use Rattle.exec.proofs.step_with.Tie as tie
+
+enum-known-plan : tie.Need-enum-known-plan
+enum-known-plan c = search needs
+
+code-of-requires : tie.Need-code-of-requires
+code-of-requires c κs =
+    let S = c .before .before .before .before .before .before .before in
+    (S .pre .raises (no-write (S .args .plan) (c .before .match .keys2)) .main-top .fits, S .pre .thrown)
+
+raise-requires : tie.Need-raise-requires
+raise-requires c κs =
+    let S = c .before .before .before .before .before .before .before .before .before .before .before in
+    S .pre .raises (no-write (S .args .plan) (c .before .before .before .before .before .match .keys2))
+
+same-length : tie.Need-same-length
+same-length c = search needs
+
+same-length-2 : tie.Need-same-length-2
+same-length-2 c = search needs
+
+same-length-3 : tie.Need-same-length-3
+same-length-3 c = search needs
+
+returns : tie.Need-returns
+returns c =
+    let S = c .before .before .before .before .before .before .before .before .before .before .before .before .before .before .before .before .before .before in
+    rw (settle-raised (S .args .file .now) (machine (S .args .regs) (S .args .main .now) (S .args .ptr .now) (S .args .ctl .now) (S .args .heap .now)) (S .args .plan) (no-write (S .args .plan) (c .before .before .before .before .before .before .before .before .before .before .before .before .match .keys2)), ← c .before .before .before .before .before .before .before .before .before .before .code-of .ensures)
+    (c .before .before .before .before .before .before .raise .ensures (S .args .heap .now))
+
+apply-requires : tie.Need-apply-requires
+apply-requires c κs =
+    let S = c .before .before .before .before .before .before .before .before .before .before .before .before in
+    S .pre .writes _ (c .before .before .before .before .before .plan .given .1)
+
+same-length-4 : tie.Need-same-length-4
+same-length-4 c = search needs
+
+same-length-5 : tie.Need-same-length-5
+same-length-5 c = search needs
+
+same-length-6 : tie.Need-same-length-6
+same-length-6 c = search needs
+
+same-length-7 : tie.Need-same-length-7
+same-length-7 c = search needs
+
+returns-2 : tie.Need-returns-2
+unfolding endedOf settle
+returns-2 c =
+    let S = c .before .before .before .before .before .before .before .before .before .before .before .before .before .before .before .before .before .before .before .before .before in
+    rw (c .before .before .before .before .before .before .before .before .before .before .before .before .before .before .plan .given .1, ← c .before .before .before .before .before .before .before .before .apply .ensures)
+
+pub step-with-spec : {M : Type 1} → statement M
+step-with-spec =
+    tie.close
+    (tie.spec
+    enum-known-plan
+    code-of-requires
+    raise-requires
+    same-length
+    same-length-2
+    same-length-3
+    returns
+    apply-requires
+    same-length-4
+    same-length-5
+    same-length-6
+    same-length-7
+    returns-2)

@@ -1,0 +1,3 @@
+pub mod Applies
+pub mod Applied
+pub mod Ended

@@ -1,0 +1,192 @@
+// What a plan comes to: its writes applied, or its exception raised. Document 01's table of codes, and "A raise ..., all in one step".
+ghost use mathlib.Core.Path.{_≡_};
+ghost use mathlib.Core.List.{List};
+ghost use Prim.Native.Nat.{ℕ, _+_, _*_, _≤_};
+ghost use lib.ListN.{length};
+ghost use Rattle.model.specs.File.{operand, headOf};
+ghost use Rattle.model.specs.Control.{machine, recOf};
+ghost use Rattle.model.specs.Step.{applied, raised, settle};
+ghost use Rattle.writes.specs.Asks.{onwards};
+ghost use Rattle.exec.specs.Applies.{Applies};
+ghost use Rattle.exec.specs.Ended.{Targets, Raises, Settles, ended, endedOf, guardAt, codeOf};
+use model::Into;
+use model::Plan;
+use model::Put;
+use model::Regs;
+
+// What a step leads to: on with these registers, or an exception of this code that no handler catches.
+pub struct Outcome {
+    pub on: bool,
+    pub code: u32,
+    pub regs: Regs,
+}
+
+// The registers after an instruction that leaves the control stack as it is.
+fn onward(regs: Regs, put: Put) -> Regs
+    ensures { λ r. ⌜ r ≡ onwards put regs ⌝ }
+{
+    Regs {
+        place: put.place,
+        frame: regs.frame,
+        handler: regs.handler,
+        mtop: put.mtop,
+        ptop: put.ptop,
+        ctop: regs.ctop,
+        state: regs.state,
+    }
+}
+
+// Applies the writes of a plan.
+pub fn apply(
+    file: &[u8],
+    main: &mut [u32],
+    ptr: &mut [u32],
+    ctl: &mut [u32],
+    heap: &mut [u32],
+    regs: Regs,
+    put: Put,
+) -> Regs
+    requires { ⌜ Applies (now file) put (machine regs (now main) (now ptr) (now ctl) (now heap)) ⌝ }
+    ensures { λ r. ⌜ machine r (now (main .exit)) (now (ptr .exit)) (now (ctl .exit)) (now (heap .exit)) ≡ applied (now (file .entry)) put (machine regs (now (main .entry)) (now (ptr .entry)) (now (ctl .entry)) (now (heap .entry))) ⌝ }
+{
+    let into = put.into;
+    let at = put.at;
+    let next = onward(regs, put);
+    match into {
+        Into::Frame => writes::call(file, ctl, regs, put),
+        Into::Return => writes::leave(ctl, regs, put),
+        Into::Handler => writes::open(ctl, regs, put),
+        Into::Close => writes::close(ctl, regs, put),
+        Into::View => {
+            writes::form(main, ptr, heap, regs, put);
+            writes::cut_to(main, put.mtop, regs.mtop);
+            writes::cut_to(ptr, put.ptop, regs.ptop);
+            ptr[at] = put.word;
+            next
+        }
+        _ => {
+            writes::plain(main, ptr, heap, regs, put);
+            next
+        }
+    }
+}
+
+// An open handler's record.
+pub struct Guard {
+    pub at: usize, // its 160
+    pub mtop: usize, // the tops then
+    pub ptop: usize,
+    pub frame: usize, // its frame's record
+    pub outer: usize, // the next outer handler's record
+}
+
+fn guard_at(ctl: &[u32], handler: usize) -> Guard
+    requires { ⌜ (1 ≤ handler) × (5 * handler ≤ length (now ctl)) ⌝ }
+    ensures { λ r. ⌜ r ≡ guardAt (now (ctl .entry)) handler ⌝ }
+{
+    let under = 5 * (handler - 1);
+    Guard {
+        at: writes::load(ctl, under),
+        mtop: writes::load(ctl, under + 1),
+        ptop: writes::load(ctl, under + 2),
+        frame: writes::load(ctl, under + 3),
+        outer: writes::load(ctl, under + 4),
+    }
+}
+
+// Where a 160's operand leads: it counts from the head of the procedure whose frame is given.
+fn target(file: &[u8], table: &[usize; 64], ctl: &[u32], at: usize, frame: usize) -> usize
+    requires { ⌜ Targets (now file) (now table) (now ctl) at frame ⌝ }
+    ensures { λ r. ⌜ r ≡ headOf (now (file .entry)) (recOf (now (ctl .entry)) frame .w2) + operand (now (file .entry)) at ⌝ }
+{
+    let proc = writes::load(ctl, 5 * (frame - 1) + 2);
+    table[proc] + code::operand(file, at)
+}
+
+// Raises an exception, all in one step: frames and the handler's record go, both stacks are cut to its tops, the code is pushed.
+pub fn raise(
+    file: &[u8],
+    table: &[usize; 64],
+    main: &mut [u32],
+    ptr: &mut [u32],
+    ctl: &mut [u32],
+    regs: Regs,
+    code: u32,
+) -> Outcome
+    requires { ⌜ Raises (now file) (now table) regs (now main) (now ptr) (now ctl) ⌝ }
+    ensures { λ r. ⌜ ((heap : List ℕ) → ended r (now (main .exit)) (now (ptr .exit)) (now (ctl .exit)) heap ≡ endedOf (machine regs (now (main .entry)) (now (ptr .entry)) (now (ctl .entry)) heap) (raised (now (file .entry)) (machine regs (now (main .entry)) (now (ptr .entry)) (now (ctl .entry)) heap) code)) ⌝ }
+{
+    let handler = regs.handler;
+    if handler == 0 {
+        return Outcome {
+            on: false,
+            code,
+            regs,
+        };
+    }
+    let guard = guard_at(ctl, handler);
+    let place = target(file, table, ctl, guard.at, guard.frame);
+    let top = guard.mtop;
+    let under = 5 * (handler - 1);
+    writes::cut_to(main, top, regs.mtop);
+    writes::cut_to(ptr, guard.ptop, regs.ptop);
+    writes::cut_to(ctl, under, regs.ctop);
+    main[top] = code;
+    let above = top + 1;
+    let next = Regs {
+        place,
+        frame: guard.frame,
+        handler: guard.outer,
+        mtop: above,
+        ptop: guard.ptop,
+        ctop: under,
+        state: regs.state,
+    };
+    Outcome {
+        on: true,
+        code: 0,
+        regs: next,
+    }
+}
+
+// The code of the exception that a plan raises.
+pub fn code_of(plan: Plan, main: &[u32], mtop: usize) -> u32
+    requires { ⌜ (mtop ≤ length (now main)) × (plan ≡ Plan.Thrown → 1 ≤ mtop) ⌝ }
+    ensures { λ r. ⌜ r ≡ codeOf (now (main .entry)) mtop plan ⌝ }
+{
+    match plan {
+        Plan::Write(_) => 0,
+        Plan::Overflow => 1,
+        Plan::NilObject => 2,
+        Plan::BadField => 3,
+        Plan::HeapFull => 4,
+        Plan::NoRoom => 5,
+        Plan::Thrown => main[mtop - 1],
+    }
+}
+
+// What a plan comes to: its writes, or a raise.
+pub fn step_with(
+    file: &[u8],
+    table: &[usize; 64],
+    main: &mut [u32],
+    ptr: &mut [u32],
+    ctl: &mut [u32],
+    heap: &mut [u32],
+    regs: Regs,
+    plan: Plan,
+) -> Outcome
+    requires { ⌜ Settles (now file) (now table) (machine regs (now main) (now ptr) (now ctl) (now heap)) plan ⌝ }
+    ensures { λ r. ⌜ ended r (now (main .exit)) (now (ptr .exit)) (now (ctl .exit)) (now (heap .exit)) ≡ endedOf (machine regs (now (main .entry)) (now (ptr .entry)) (now (ctl .entry)) (now (heap .entry))) (settle (now (file .entry)) (machine regs (now (main .entry)) (now (ptr .entry)) (now (ctl .entry)) (now (heap .entry))) plan) ⌝ }
+{
+    let Plan::Write(put) = plan else {
+        let code = code_of(plan, main, regs.mtop);
+        return raise(file, table, main, ptr, ctl, regs, code);
+    };
+    let next = apply(file, main, ptr, ctl, heap, regs, put);
+    Outcome {
+        on: true,
+        code: 0,
+        regs: next,
+    }
+}

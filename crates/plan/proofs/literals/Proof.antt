@@ -1,0 +1,74 @@
+-- `plan::literals`: at each of the two codes the definition computes.
+use mathlib.Core.Logic.{⊎-elim}
+use mathlib.Core.Path.{_≡_}
+use native.Mathlib.Omega.{arith}
+use borrow.Author.Needs.{needs}
+use Rattle.model.specs.File.{bodies, bodyOf, insOf}
+use Rattle.model.specs.Instructions.{basicPlan, planOf}
+use Rattle.plan.specs.Ready.{planned}
+use Rattle.plan.proofs.literals.Statement.{statement}
+use Rattle.plan.proofs.literals.Tie as tie
+
+add-at : tie.Need-add-at
+add-at c = search needs
+
+shared-slice-read-signed-byte : tie.Need-shared-slice-read-signed-byte
+unfolding bodyOf bodies
+shared-slice-read-signed-byte c = let b = rw (c .before .if1 .taken) at (c .before .before .before .pre .0) in omega (arith, b .inside)
+
+signed-byte-requires : tie.Need-signed-byte-requires
+signed-byte-requires c κs = search needs
+
+add-writes : tie.Need-add-writes
+add-writes c = search needs
+
+add-writes-2 : tie.Need-add-writes-2
+add-writes-2 c = search needs
+
+writes-requires : tie.Need-writes-requires
+writes-requires c κs = search needs
+
+returns : tie.Need-returns
+unfolding planned planOf basicPlan insOf bodyOf bodies
+returns c = λ m p q h. rw (c .writes .ensures, c .before .before .before .if1 .taken, c .before .signed-byte .ensures .is)
+
+add-writes-3 : tie.Need-add-writes-3
+add-writes-3 c = search needs
+
+add-writes-4 : tie.Need-add-writes-4
+add-writes-4 c = search needs
+
+operand4-requires : tie.Need-operand4-requires
+unfolding bodyOf bodies
+operand4-requires c κs =
+    let e : c .before .before .args .kind ≡ 56 = ⊎-elim (λ e. absurd (c .if1 .left e)) (λ e. e) (c .before .before .pre .2) in
+    let b = rw e at (c .before .before .pre .0) in
+    omega (arith, b .inside)
+
+writes-requires-2 : tie.Need-writes-requires-2
+writes-requires-2 c κs = search needs
+
+returns-2 : tie.Need-returns-2
+unfolding planned planOf basicPlan insOf bodyOf bodies
+returns-2 c =
+    λ m p q h.
+    let e : c .before .before .before .before .args .kind ≡ 56 = ⊎-elim (λ e. absurd (c .before .before .if1 .left e)) (λ e. e)
+    (c .before .before .before .before .pre .2) in
+    rw (c .writes2 .ensures, e, c .before .operand4 .ensures .is)
+
+pub literals-spec : {M : Type 1} → statement M
+literals-spec =
+    tie.close
+    (tie.spec
+    add-at
+    shared-slice-read-signed-byte
+    signed-byte-requires
+    add-writes
+    add-writes-2
+    writes-requires
+    returns
+    add-writes-3
+    add-writes-4
+    operand4-requires
+    writes-requires-2
+    returns-2)

@@ -1,0 +1,154 @@
+-- `plan::ptr_fields`: at each of the two codes the definition computes; its tests of the object are the code's.
+use mathlib.Core.Logic.{⊎-elim}
+use mathlib.Core.Path.{_≡_, _∙_, sym}
+use native.Mathlib.Omega.{arith}
+use borrow.Author.Needs.{needs}
+use borrow.Author.Tests.{eq-eqb, ne-eqb, not-true, not-false}
+use Rattle.model.specs.File.{insOf}
+use Rattle.model.specs.Instructions.{basicPlan, planOf}
+use Rattle.heap.specs.Stores.{in-ptrs}
+use Rattle.plan.specs.Given.{not-nil, lies}
+use Rattle.plan.specs.Ready.{planned}
+use Rattle.plan.proofs.ptr_fields.Statement.{statement}
+use Rattle.plan.proofs.ptr_fields.Tie as tie
+
+sub-top : tie.Need-sub-top
+sub-top c = search needs
+
+mul-wide : tie.Need-mul-wide
+mul-wide c = search needs
+
+shared-slice-read-wide : tie.Need-shared-slice-read-wide
+shared-slice-read-wide c = search needs
+
+wide-requires : tie.Need-wide-requires
+wide-requires c κs = search needs
+
+returns : tie.Need-returns
+unfolding planned planOf basicPlan insOf
+returns c =
+    λ m q.
+    let read = c .before in
+    let z = sym (read .wide .ensures .is) ∙ c .if1 .taken in
+    ⊎-elim (λ e. rw e (rw (eq-eqb _ _ z))) (λ e. rw e (rw (eq-eqb _ _ z))) (read .before .before .before .before .before .before .pre .5)
+
+operand-requires : tie.Need-operand-requires
+operand-requires c κs = search needs
+
+in-ptrs-requires : tie.Need-in-ptrs-requires
+in-ptrs-requires c κs =
+    let read = c .before .before in
+    let l = lies (read .before .before .before .before .before .before .pre .3) (read .wide .ensures .is) (c .before .if1 .left) in
+    omega arith
+
+returns-2 : tie.Need-returns-2
+unfolding planned planOf basicPlan insOf
+returns-2 c =
+    λ m q.
+    let asked = c .before in
+    let read = asked .before .before .before in
+    let n = not-nil (read .wide .ensures .is) (asked .before .before .if1 .left) in
+    let t = rw (
+      read .wide .ensures .is,
+      asked .before .operand .ensures .is,
+    ) at (sym (asked .in-ptrs .ensures) ∙ not-true _ (c .if2 .taken)) in
+    ⊎-elim (λ e. rw e (rw (ne-eqb _ _ n, t))) (λ e. rw e (rw (ne-eqb _ _ n, t)))
+    (read .before .before .before .before .before .before .pre .5)
+
+add-slot : tie.Need-add-slot
+add-slot c = search needs
+
+add-writes : tie.Need-add-writes
+add-writes c = search needs
+
+mul-writes : tie.Need-mul-writes
+mul-writes c = search needs
+
+shared-slice-read-writes : tie.Need-shared-slice-read-writes
+shared-slice-read-writes c =
+    let asked = c .before .before .before in
+    let read = asked .before .before .before in
+    let l = lies (read .before .before .before .before .before .before .pre .3) (read .wide .ensures .is) (asked .before .before .if1 .left) in
+    let g = in-ptrs _ _ _ (sym (asked .in-ptrs .ensures) ∙ not-false _ (c .before .before .if2 .left)) in
+    omega arith
+
+writes-requires : tie.Need-writes-requires
+writes-requires c κs = search needs
+
+returns-3 : tie.Need-returns-3
+unfolding planned planOf basicPlan insOf
+returns-3 c =
+    λ m q.
+    let asked = c .before .before .before .before in
+    let read = asked .before .before .before in
+    let n = not-nil (read .wide .ensures .is) (asked .before .before .if1 .left) in
+    let t = rw (
+      read .wide .ensures .is,
+      asked .before .operand .ensures .is,
+    ) at (sym (asked .in-ptrs .ensures) ∙ not-false _ (c .before .before .before .if2 .left)) in
+    rw (
+      c .writes .ensures,
+      c .before .before .if3 .taken,
+      read .wide .ensures .is,
+      asked .before .operand .ensures .is,
+    ) (rw (ne-eqb _ _ n, t))
+
+sub-value : tie.Need-sub-value
+sub-value c =
+    let pre = c .before .before .before .before .before .before .before .before .before .before .before .before .pre in
+    let e : c .before .before .before .before .before .before .before .before .before .before .before .before .args .kind ≡ 33 = ⊎-elim
+    (λ e. absurd (c .before .if3 .left e)) (λ e. e) (pre .5) in
+    omega (arith, pre .4 e)
+
+add-writes-2 : tie.Need-add-writes-2
+add-writes-2 c = search needs
+
+mul-writes-2 : tie.Need-mul-writes-2
+mul-writes-2 c = search needs
+
+shared-slice-read-writes-2 : tie.Need-shared-slice-read-writes-2
+shared-slice-read-writes-2 c = search needs
+
+writes-requires-2 : tie.Need-writes-requires-2
+writes-requires-2 c κs = search needs
+
+returns-4 : tie.Need-returns-4
+unfolding planned planOf basicPlan insOf
+returns-4 c =
+    λ m q.
+    let asked = c .before .before .before .before .before in
+    let read = asked .before .before .before in
+    let pre = c .before .before .before .before .before .before .before .before .before .before .before .before .before .before .pre in
+    let e : c .before .before .before .before .before .before .before .before .before .before .before .before .before .before .args .kind ≡ 33 = ⊎-elim
+    (λ e. absurd (c .before .before .before .if3 .left e)) (λ e. e) (pre .5) in
+    let n = not-nil (read .wide .ensures .is) (asked .before .before .if1 .left) in
+    let t = rw (
+      read .wide .ensures .is,
+      asked .before .operand .ensures .is,
+    ) at (sym (asked .in-ptrs .ensures) ∙ not-false _ (c .before .before .before .before .if2 .left)) in
+    rw (c .writes2 .ensures, e, read .wide .ensures .is, asked .before .operand .ensures .is) (rw (ne-eqb _ _ n, t))
+
+pub ptr-fields-spec : {M : Type 1} → statement M
+ptr-fields-spec =
+    tie.close
+    (tie.spec
+    sub-top
+    mul-wide
+    shared-slice-read-wide
+    wide-requires
+    returns
+    operand-requires
+    in-ptrs-requires
+    returns-2
+    add-slot
+    add-writes
+    mul-writes
+    shared-slice-read-writes
+    writes-requires
+    returns-3
+    sub-value
+    add-writes-2
+    mul-writes-2
+    shared-slice-read-writes-2
+    writes-requires-2
+    returns-4)

@@ -1,0 +1,4 @@
+pub mod Ready
+pub mod Kinds
+pub mod Given
+pub mod Arms

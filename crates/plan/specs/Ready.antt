@@ -1,0 +1,70 @@
+-- What the machine gives when it plans a step, `Ready`: of a file that the checker passed and a sound state of it.
+use Prim.Native.Nat.{ℕ, suc, _+_, _-_, _*_, _<_, _≤_}
+use mathlib.Core.List.{List}
+use mathlib.Core.Logic.{_⊎_}
+use mathlib.Core.Path.{_≡_}
+use native.Mathlib.Omega.{arith}
+use lib.ListN.{length, getD}
+use Rattle.model.specs.Choice.{Mem}
+use Rattle.model.specs.Words.{wordAt}
+use Rattle.model.specs.File.{Ins, Basic, basic, local, assign, onMain, onPtr, call, byteAt, bodyOf, after, procs, headOf, insOf, insAt}
+use Rattle.model.specs.Checker.{effectOf}
+use Rattle.model.specs.Heap.{Heap, Pointer}
+use Rattle.model.specs.Control.{Machine, mainBase, ptrBase}
+use Rattle.model.specs.Instructions.{mtop, ptop, planOf, planAt}
+use Rattle.model.specs.declared.Plan.{Plan}
+
+-- where the machine is
+abbrev pub placeOf : Machine → ℕ
+placeOf m = m .regs .place
+
+abbrev pub here : List ℕ → Machine → Ins
+here f m = insAt f (placeOf m)
+
+pub record Ready (f table : List ℕ) (m : Machine) : Type 0 where
+  -- refusal 1: the file has at most 4,096 bytes
+  pub short : length f ≤ 4096
+  -- the place is a record's, and the records are whole: refusal 3
+  pub whole : after f (placeOf m) ≤ length f
+  -- the table holds the heads, each of six bytes and its kind: refusals 3 and 4
+  pub few : procs f ≤ 64
+  pub heads : (n : ℕ) → n < 64 → getD table n 0 ≡ headOf f n
+  pub bytes : (n : ℕ) → n < procs f → headOf f n + 6 < length f
+  -- a call names a procedure: refusal 5
+  pub callee : (n : ℕ) → here f m ≡ call n → n < procs f
+  -- the lists have at most these lengths, the heap at least its mark and root: refusal 10
+  pub main-most : length (m .main) ≤ 4096
+  pub ptr-most : length (m .ptr) ≤ 4096
+  pub ctl-most : length (m .ctl) ≤ 1280
+  pub heap-least : 2 ≤ length (m .heap)
+  pub heap-most : length (m .heap) ≤ 16384
+  -- a top is the frame's base with a depth that is at most the procedure's, and the frame fits the list
+  pub main-top : mtop m ≤ length (m .main)
+  pub ptr-top : ptop m ≤ length (m .ptr)
+  pub ctl-top : m .regs .ctop ≤ length (m .ctl)
+  -- what the instruction pops is in the frame, and what it pushes fits it: refusal 7
+  pub pop-main : effectOf f (here f m) .popMain ≤ mtop m
+  pub pop-ptr : effectOf f (here f m) .popPtr ≤ ptop m
+  pub push-main : mtop m - effectOf f (here f m) .popMain + effectOf f (here f m) .pushMain ≤ length (m .main)
+  pub push-ptr : ptop m - effectOf f (here f m) .popPtr + effectOf f (here f m) .pushPtr ≤ length (m .ptr)
+  -- so is the frame word that it names: refusal 7
+  pub local-main : (s : ℕ) → here f m ≡ basic (local onMain s) → mainBase m + s < mtop m
+  pub local-ptr : (s : ℕ) → here f m ≡ basic (local onPtr s) → ptrBase m + s < ptop m
+  pub assign-main : (s : ℕ) → here f m ≡ basic (assign onMain s) → mainBase m + s < mtop m - 1
+  pub assign-ptr : (s : ℕ) → here f m ≡ basic (assign onPtr s) → ptrBase m + s < ptop m - 1
+  -- the running frame has a record: refusal 12
+  pub frame-some : 1 ≤ m .regs .frame
+  pub frame-in : 5 * (m .regs .frame) ≤ m .regs .ctop
+  -- the heap is sound with these objects, and the pointer stack's words are pointers: refusals 11 and 12
+  pub objects : List ℕ
+  pub heap : Heap (m .heap) objects
+  pub pointers : (i : ℕ) → Pointer objects (wordAt (m .ptr) i)
+
+-- the plan of code k at the machine's place, its record being n bytes long
+unfoldable pub planned : List ℕ → Machine → ℕ → ℕ → Plan
+planned f m n k = planOf f m (placeOf m + n) (insOf f (placeOf m) k)
+
+-- which the code at the place is
+pub plan-is : (f : List ℕ) (m : Machine) (k n : ℕ) → byteAt f (placeOf m) ≡ k → bodyOf k ≡ n → planned f m (suc n) k ≡ planAt f m
+unfolding planned planAt after insAt
+plan-is f m k n e b = let s : placeOf m + suc n ≡ placeOf m + 1 + bodyOf k = omega arith in rw (e, s)

@@ -1,0 +1,196 @@
+-- What holds of every state of a run, `Alive`: run's tests let nothing else through, and a step keeps it. Its registers are small. Each
+-- follows from the soundness theory, since a passed check gives the laws of the code.
+use Prim.Native.Nat.{ℕ, _*_, _<_, _≤_}
+use mathlib.Core.Path.{_≡_}
+use mathlib.Core.Bool.{true}
+use mathlib.Core.List.{List}
+use mathlib.Core.Logic.{inl, inr}
+use native.Mathlib.Omega.{arith}
+use lib.ListN.{length}
+use Rattle.model.specs.Choice.{All, Mem}
+use Rattle.model.specs.File.{fileMost, procs, mostMain, mostPtr, instructions}
+use Rattle.model.specs.Heap.{Heap, Pointer, clean, heapOf, objectsOf}
+use Rattle.model.specs.Control.{Machine, machine, recordWords}
+use Rattle.model.specs.Step.{next, step}
+use Rattle.model.specs.Sound.{isIns, sound?}
+use Rattle.model.specs.Calls.{mainMost, ptrMost, ctlMost, heapMost, pass, verdictOf, Lent, lengthTests}
+use Rattle.model.specs.Claim.{Bytes}
+use Rattle.model.specs.declared.Regs.{Regs}
+use Rattle.exact.specs.Walk.{member-in, instruction-below}
+use Rattle.exact.specs.Exact.{passed-as, passed-again}
+use Rattle.scan.specs.Heading.{Placed}
+use Rattle.sound.specs.Tests.{pointer-true}
+use Rattle.sound.specs.Stack.{stack-numbers}
+use Rattle.sound.specs.Laws.{CodeLaws, code-laws, results-most}
+use Rattle.sound.specs.Sound.{Running, Sound, Audited, sound-with, sound?-true}
+use Rattle.sound.specs.Keep.{running-here, running-fits}
+use Rattle.sound.specs.Steps.{step-keeps}
+use Rattle.sound.specs.Registers.{Small, sound-small}
+use Rattle.heap.specs.Audited.{heap-clean}
+use Rattle.theory.specs.Demand.{heap-laws}
+
+-- the lists' lengths: refusal 10
+pub record Sizes (f : List ℕ) (m : Machine) : Type 0 where
+  pub main-least : 1 ≤ length (m .main)
+  pub main-most : length (m .main) ≤ mainMost
+  pub ptr-least : 1 ≤ length (m .ptr)
+  pub ptr-most : length (m .ptr) ≤ ptrMost
+  pub ctl-least : recordWords ≤ length (m .ctl)
+  pub ctl-most : length (m .ctl) ≤ ctlMost
+  pub heap-least : 2 ≤ length (m .heap)
+  pub heap-most : length (m .heap) ≤ heapMost
+  pub main-fits : mostMain f 0 ≤ length (m .main)
+  pub ptr-fits : mostPtr f 0 ≤ length (m .ptr)
+
+pub record Alive (f map table : List ℕ) (m : Machine) : Type 0 where
+  -- the file passed its check, and this is its finished map
+  pub bytes : Bytes f
+  pub short : length f ≤ fileMost
+  pub passes : verdictOf f map ≡ pass map
+  -- the table has the heads
+  pub placed : Placed f table (procs f)
+  pub sizes : Sizes f m
+  pub objects : List ℕ
+  pub heap : Heap (m .heap) objects
+  pub sound : Sound f map (Pointer objects) m
+
+-- a state that run's tests let through; map₀ is the map lent, l has the one that the check left
+pub alive-run : (l : Lent) (map₀ table os : List ℕ) (r : Regs) → Bytes (l .file) → verdictOf (l .file) map₀ ≡ pass (l .map) →
+    Placed (l .file) table (procs (l .file)) → All (lengthTests l) → heapOf (l .heap) ≡ clean os →
+    sound? (l .file) (l .map) (machine r (l .main) (l .ptr) (l .ctl) (l .heap)) ≡ true →
+    Alive (l .file) (l .map) table (machine r (l .main) (l .ptr) (l .ctl) (l .heap))
+unfolding lengthTests objectsOf
+alive-run l map₀ table os r B P H T c s =
+    let m = machine r (l .main) (l .ptr) (l .ctl) (l .heap) in
+    record {
+      bytes = B;
+      short = passed-as (l .file) map₀ (l .map) P .formed .most;
+      passes = passed-again (l .file) map₀ (l .map) P;
+      placed = H;
+      sizes =
+          record {
+            main-least = omega arith;
+            main-most = omega arith;
+            ptr-least = omega arith;
+            ptr-most = omega arith;
+            ctl-least = omega arith;
+            ctl-most = omega arith;
+            heap-least = omega arith;
+            heap-most = omega arith;
+            main-fits = omega arith;
+            ptr-fits = omega arith;
+          };
+      objects = os;
+      heap = heap-clean (l .heap) os c;
+      sound =
+          sound-with (l .file) (l .map) (Audited m) (Pointer os) m (λ v p. pointer-true os v (rw c at p)) (sound?-true (l .file) (l .map) m s);
+    }
+
+module _ {f map table : List ℕ} {m : Machine} (A : Alive f map table m) where
+  pub alive-laws : CodeLaws f map
+  alive-laws = code-laws f map map (A .bytes) (A .passes)
+
+  -- not finished is running
+  pub alive-running : (m .regs .state ≡ 1 → ⊥) → (n : ℕ) × (i : ℕ) × (j : ℕ) × Running f map (Pointer (A .objects)) m n i j
+  alive-running u = go (A .sound)
+    where
+      go : Sound f map (Pointer (A .objects)) m → (n : ℕ) × (i : ℕ) × (j : ℕ) × Running f map (Pointer (A .objects)) m n i j
+      go (inl S) = S
+      go (inr D) = absurd (u (D .state-is))
+
+  pub alive-step : {m′ : Machine} → (m .regs .state ≡ 1 → ⊥) → step f m ≡ next m′ → Alive f map table m′
+  alive-step {m′} u e =
+      let S = alive-running u in
+      let z = A .sizes in
+      let K =
+      step-keeps f map alive-laws m (A .objects) (S .0) (S .1) (S .2) (S .3) (A .heap) heap-laws (omega arith) m′ e in
+      let e0 = K .same-main in
+      let e1 = K .same-ptr in
+      let e2 = K .same-ctl in
+      let e3 = K .same-heap in
+      record {
+        bytes = A .bytes;
+        short = A .short;
+        passes = A .passes;
+        placed = A .placed;
+        sizes =
+            record {
+              main-least = omega arith;
+              main-most = omega arith;
+              ptr-least = omega arith;
+              ptr-most = omega arith;
+              ctl-least = omega arith;
+              ctl-most = omega arith;
+              heap-least = omega arith;
+              heap-most = omega arith;
+              main-fits = omega arith;
+              ptr-fits = omega arith;
+            };
+        objects = K .objects;
+        heap = K .heap;
+        sound = K .sound;
+      }
+
+  -- the registers are words
+  pub alive-small : Small (m .regs)
+  alive-small =
+      let z = A .sizes in
+      sound-small f map (Pointer (A .objects)) m alive-laws (omega arith) (omega arith) (omega arith) (z .main-fits) (z .ptr-fits) (A .sound)
+
+-- and no greater than the lists let them be
+pub record Bounded (r : Regs) : Type 0 where
+  pub place : r .place < fileMost
+  pub frame : recordWords * r .frame ≤ ctlMost
+  pub handler : recordWords * r .handler ≤ ctlMost
+  pub mtop : r .mtop ≤ mainMost
+  pub ptop : r .ptop ≤ ptrMost
+  pub ctop : r .ctop ≤ ctlMost
+  pub state : r .state ≤ 1
+
+pub alive-bounded : {f map table : List ℕ} {m : Machine} → Alive f map table m → Bounded (m .regs)
+unfolding isIns
+alive-bounded {f} {map} {table} {m} A = go (A .sound)
+  where
+    go : Sound f map (Pointer (A .objects)) m → Bounded (m .regs)
+    go (inl S) =
+        let R = S .3 in
+        let L = alive-laws A in
+        let z = A .sizes in
+        let N = stack-numbers f map (length (m .main)) (length (m .ptr)) (m .ctl) (S .0) (R .stack) in
+        let T = running-fits f map L (Pointer (A .objects)) m (S .0) (S .1) (S .2) R in
+        let i : Mem (m .regs .place) (instructions f) =
+        member-in (m .regs .place) (instructions f) (running-here f map (Pointer (A .objects)) m (S .0) (S .1) (S .2) R) in
+        let p = instruction-below f (L .formed .places) (L .formed .records) (m .regs .place) i in
+        let s = A .short in
+        let e = R .ctl-top in
+        let r = R .room in
+        let t = R .state-is in
+        record {
+          place = omega arith;
+          frame = omega arith;
+          handler = omega arith;
+          mtop = omega arith;
+          ptop = omega arith;
+          ctop = omega arith;
+          state = omega arith;
+        }
+    go (inr D) =
+        let L = alive-laws A in
+        let z = A .sizes in
+        let H = results-most f map L in
+        let d0 = D .place-is in
+        let d1 = D .frame-is in
+        let d2 = D .handler-is in
+        let d3 = D .main-top in
+        let d4 = D .ptr-top in
+        let d5 = D .ctl-top in
+        let d6 = D .state-is in
+        record {
+          place = omega arith;
+          frame = omega arith;
+          handler = omega arith;
+          mtop = omega arith;
+          ptop = omega arith;
+          ctop = omega arith;
+          state = omega arith;
+        }

@@ -1,0 +1,3 @@
+pub mod Alive
+pub mod Planning
+pub mod Settling

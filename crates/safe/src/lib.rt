@@ -1,0 +1,1 @@
+// Theorems about the machine's calls; they are in specs/.

@@ -1,0 +1,72 @@
+-- Lists of words: what is left where popped words are zeroed one by one, and stores one after another. Each law is an induction on the
+-- list, or follows from one.
+use Prim.Native.Nat.{ℕ, zero, suc, _+_, _-_, _<_, _≤_}
+use mathlib.Core.Path.{_≡_, refl, ap, sym, _∙_}
+use mathlib.Core.List.{List, [], _∷_, _++_}
+use native.Mathlib.Omega.{arith}
+use native.Mathlib.Numerals.{add-one}
+use lib.ListN.{length, getD, take, drop, set}
+use lib.Seq.{sets, slice, take-suc, drop-append-le, length-take-le, length-slice}
+use Rattle.model.specs.Words.{wordAt, cut}
+use Rattle.sound.specs.Lists.{Zero, length-cut, cut-zero}
+
+-- a stack with its top: it lies in the list, and the words above are 0
+pub record Topped (t : ℕ) (l : List ℕ) : Type 0 where
+  pub fits : t ≤ length l
+  pub zero : Zero t l
+
+-- where the words are 0 already, a cut changes nothing
+pub cut-same : (t : ℕ) (l : List ℕ) → Zero t l → cut t l ≡ l
+unfolding cut
+cut-same t [] z = refl
+cut-same zero (w ∷ l) z = rw (z 0 (omega arith), cut-same zero l (λ i h. z (suc i) (omega arith)))
+cut-same (suc t) (w ∷ l) z = ap (λ (k : List ℕ). w ∷ k) (cut-same t l (λ i h. z (suc i) (omega arith)))
+
+-- one word further down
+pub cut-down : (i : ℕ) (l : List ℕ) → set (cut (suc i) l) i 0 ≡ cut i l
+unfolding cut
+cut-down i [] = refl
+cut-down zero (w ∷ l) = refl
+cut-down (suc i) (w ∷ l) = ap (λ (k : List ℕ). w ∷ k) (cut-down i l)
+
+pub cut-next : (n i : ℕ) (l₀ l : List ℕ) → n < i → l ≡ cut i l₀ → set l (i - 1) 0 ≡ cut (i - 1) l₀
+cut-next n i l₀ l h e =
+    let s : i ≡ suc (i - 1) = omega arith in
+    ap (λ (x : List ℕ). set x (i - 1) 0) (e ∙ ap (λ (k : ℕ). cut k l₀) s) ∙ cut-down (i - 1) l₀
+
+pub cut-cut : (s t : ℕ) (l : List ℕ) → s ≤ t → cut s (cut t l) ≡ cut s l
+unfolding cut
+cut-cut s t [] h = refl
+cut-cut zero zero (w ∷ l) h = ap (λ (k : List ℕ). 0 ∷ k) (cut-cut zero zero l (omega arith))
+cut-cut zero (suc t) (w ∷ l) h = ap (λ (k : List ℕ). 0 ∷ k) (cut-cut zero t l (omega arith))
+cut-cut (suc s) zero (w ∷ l) h = absurd (omega arith)
+cut-cut (suc s) (suc t) (w ∷ l) h = ap (λ (k : List ℕ). w ∷ k) (cut-cut s t l (omega arith))
+
+pub cut-topped : (t : ℕ) (l : List ℕ) → t ≤ length l → Topped t (cut t l)
+cut-topped t l h = record { fits = rw length-cut h; zero = cut-zero t l }
+
+-- a cut to above the top
+pub cut-above : (new old : ℕ) (l : List ℕ) → old ≤ new → Topped old l → l ≡ cut new l
+cut-above new old l h t = sym (cut-same new l (λ i k. t .zero i (omega arith)))
+
+-- the topmost word zeroed
+pub cut-last : (new old : ℕ) (l : List ℕ) → new < old → Topped old l → set l (old - 1) 0 ≡ cut (old - 1) l
+cut-last new old l h t = cut-next new old l l h (cut-above old old l (omega arith) t)
+
+-- stores one after another
+pub sets-append : (xs ys l : List ℕ) (i : ℕ) → sets l i (xs ++ ys) ≡ sets (sets l i xs) (i + length xs) ys
+sets-append [] ys l i = let e : i + 0 ≡ i = omega arith in rw e
+sets-append (x ∷ xs) ys l i =
+    let e : i + suc (length xs) ≡ suc i + length xs = omega arith in rw e (sets-append xs ys (set l i x) (suc i))
+
+slice-snoc : (a i : ℕ) (l : List ℕ) → a ≤ i → i < length l → slice a (suc i) l ≡ slice a i l ++ (wordAt l i ∷ [])
+slice-snoc a i l h k =
+    ap (drop a) (take-suc l i 0 k)
+    ∙ drop-append-le a (take i l) (wordAt l i ∷ []) (rw (length-take-le i l (omega arith)) h)
+
+-- one word more is copied
+pub copy-more : (h l : List ℕ) (to a i j : ℕ) → a ≤ i → i < length l → j ≡ to + (i - a) →
+    set (sets h to (slice a i l)) j (wordAt l i) ≡ sets h to (slice a (i + 1) l)
+copy-more h l to a i j low k e =
+    let n : to + length (slice a i l) ≡ j = ap (λ (n : ℕ). to + n) (length-slice a i l (omega arith)) ∙ sym e in
+    sym (rw (add-one i, slice-snoc a i l low k, sets-append (slice a i l) (wordAt l i ∷ []) h to, n) refl)
