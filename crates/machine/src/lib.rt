@@ -4,8 +4,9 @@ ghost use Prim.Native.Nat.{_+_, _*_, _<_, _≤_};
 ghost use lib.ListN.{length, replicate};
 ghost use Rattle.model.specs.Choice.{all};
 ghost use Rattle.model.specs.File as model;
-ghost use Rattle.model.specs.Calls.{lent, answers, startOf};
+ghost use Rattle.model.specs.Calls.{lent, answers, startOf, runOf};
 ghost use Rattle.machine.specs.Admit.{lengthList, Tables, Admitted};
+ghost use Rattle.machine.specs.Runs.{CountIs};
 use code::Head;
 use heap::HeapAudit;
 use model::Answer;
@@ -135,4 +136,58 @@ pub fn start(
     };
     frames::put_regs(bytes, first);
     Answer::Ready
+}
+
+// The number of procedures: behind the last head the table has 0, and only the first head stands at place 0.
+fn count(table: &[usize; 64]) -> usize
+    ensures { λ r. ⌜ CountIs (now (table .entry)) r ⌝ }
+{
+    let mut k = 1;
+    while k < 64 {
+        if table[k] == 0 {
+            return k;
+        }
+        k += 1;
+    }
+    64
+}
+
+// Tests 1 to 12, then the run.
+pub fn run(
+    file: &[u8],
+    map: &mut [u16],
+    main: &mut [u32],
+    ptr: &mut [u32],
+    ctl: &mut [u32],
+    heap: &mut [u32],
+    bytes: &mut [u8],
+    budget: u32,
+) -> Answer
+    ensures { λ r. ⌜ answers r (lent (now (file .entry)) (now (map .exit)) (now (main .exit)) (now (ptr .exit)) (now (ctl .exit)) (now (heap .exit)) (now (bytes .exit))) ≡ runOf budget (lent (now (file .entry)) (now (map .entry)) (now (main .entry)) (now (ptr .entry)) (now (ctl .entry)) (now (heap .entry)) (now (bytes .entry))) ⌝ }
+{
+    let mut table = [0usize; 64];
+    let mut marks = [false; 16384];
+    let a = admit(
+        file,
+        map,
+        &mut table,
+        &mut marks,
+        main,
+        ptr,
+        ctl,
+        heap,
+        bytes,
+    );
+    let Answer::Passed = a else {
+        return a;
+    };
+    let k = count(&table);
+    let regs = frames::regs_from(bytes);
+    if frames::sound_state(file, map, &table, k, main, ptr, ctl, &marks, regs) {
+        let out = run::run_on(file, &table, main, ptr, ctl, heap, regs, budget);
+        let left = out.regs;
+        frames::put_regs(bytes, left);
+        return out.answer;
+    }
+    Answer::Refused(12, 0)
 }
