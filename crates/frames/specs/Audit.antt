@@ -2,7 +2,7 @@
 -- read from the top on.
 use Prim.Native.Nat.{ℕ, zero, suc, _+_, _-_, _*_, _/_, _<_, _≤_}
 use mathlib.Core.Bool.{Bool, true, false}
-use mathlib.Core.List.{List, [], _∷_, _++_}
+use mathlib.Core.List.{List, [], _∷_}
 use mathlib.Core.Path.{_≡_, refl, ap, sym, _∙_}
 use native.Mathlib.Numerals.{add-one}
 use native.Mathlib.Omega.{arith}
@@ -17,6 +17,8 @@ use Rattle.model.specs.Control.{Machine, recordWords, down, records}
 use Rattle.model.specs.Sound.{mainAt, ptrAt, innerAt, zeros, pointers, stackTests, runningTests, finishedTests, sound?}
 use Rattle.model.specs.declared.Regs.{Regs}
 use Rattle.frames.specs.declared.Reading.{Reading}
+use Rattle.code.specs.declared.Head.{Head}
+use Rattle.frames.specs.Places.{HeadFor}
 use Rattle.frames.specs.Tests.{Fails, test, fails, last, all-both}
 use Rattle.frames.specs.Records.{reading, stackOf}
 
@@ -52,33 +54,33 @@ tops-last map r n d a b c h e =
     (ap (λ (x : ℕ). leb x (r .ptop)) e)
     (a, (b, (c, (h, tt))))
 
--- finished
-abbrev pub doneList : List ℕ → Regs → List Test
-doneList f r =
+-- finished, with procedure 0's results
+abbrev pub doneList : ℕ → ℕ → Regs → List Test
+doneList m p r =
     same (r .place) 0
     ∷ same (r .frame) 0
     ∷ same (r .handler) 0
     ∷ same (r .ctop) 0
-    ∷ same (r .mtop) (resultsMain f 0)
-    ∷ same (r .ptop) (resultsPtr f 0)
+    ∷ same (r .mtop) m
+    ∷ same (r .ptop) p
     ∷ []
 
-unfoldable pub doneOk : List ℕ → Regs → Bool
-doneOk f r = all (doneList f r)
+unfoldable pub doneOk : Head → Regs → Bool
+doneOk h r = all (doneList (h .r) (h .s) r)
 
-pub done-fails : (f : List ℕ) (r : Regs) (k : ℕ) → Fails (test k (doneList f r)) → false ≡ doneOk f r
+pub done-fails : (h : Head) (r : Regs) (k : ℕ) → Fails (test k (doneList (h .r) (h .s) r)) → false ≡ doneOk h r
 unfolding doneOk
-done-fails f r k h = fails k (doneList f r) h
+done-fails h r k e = fails k (doneList (h .r) (h .s) r) e
 
-pub done-last : (f : List ℕ) (r : Regs) (d : ℕ) → r .place ≡ 0 → r .frame ≡ 0 → r .handler ≡ 0 → r .ctop ≡ 0 → r .mtop ≡ resultsMain f 0 →
-    d ≡ resultsPtr f 0 → eqb (r .ptop) d ≡ doneOk f r
+pub done-last : (h : Head) (r : Regs) → r .place ≡ 0 → r .frame ≡ 0 → r .handler ≡ 0 → r .ctop ≡ 0 → r .mtop ≡ h .r →
+    eqb (r .ptop) (h .s) ≡ doneOk h r
 unfolding doneOk
-done-last f r d a b c h i e =
-    last (same (r .place) 0 ∷ same (r .frame) 0 ∷ same (r .handler) 0 ∷ same (r .ctop) 0 ∷ same (r .mtop) (resultsMain f 0) ∷ [])
-    (same (r .ptop) (resultsPtr f 0))
-    (eqb (r .ptop) d)
-    (ap (eqb (r .ptop)) e)
-    (a, (b, (c, (h, (i, tt)))))
+done-last h r a b c d e =
+    last (same (r .place) 0 ∷ same (r .frame) 0 ∷ same (r .handler) 0 ∷ same (r .ctop) 0 ∷ same (r .mtop) (h .r) ∷ [])
+    (same (r .ptop) (h .s))
+    (eqb (r .ptop) (h .s))
+    refl
+    (a, (b, (c, (d, (e, tt)))))
 
 -- the words of the stacks
 unfoldable pub restOk : Machine → Bool
@@ -116,25 +118,32 @@ module _ (f map : List ℕ) (m : Machine) where
   sound-is :
       sound? f map m
       ≡ (if eqb (m .regs .state) 1
-      then (if doneOk f (m .regs) then restOk m else false)
+      then (if all (doneList (resultsMain f 0) (resultsPtr f 0) (m .regs)) then restOk m else false)
       else (if topsOk map (m .regs) (length (m .ctl)) then (if recordsOk f map m then restOk m else false) else false))
-  unfolding sound? runningTests finishedTests topsOk doneOk restOk recordsOk topmost stackOf
+  unfolding sound? runningTests finishedTests topsOk restOk recordsOk topmost stackOf
   sound-is = go (eqb (m .regs .state) 1)
     where
       go : (t : Bool) →
           (if t then all (finishedTests f m) else all (runningTests f map m))
           ≡ (if t
-          then (if doneOk f (m .regs) then restOk m else false)
+          then (if all (doneList (resultsMain f 0) (resultsPtr f 0) (m .regs)) then restOk m else false)
           else (if topsOk map (m .regs) (length (m .ctl)) then (if recordsOk f map m then restOk m else false) else false))
-      go true = all-both (doneList f (m .regs)) (stackTests m)
+      go true = all-both (doneList (resultsMain f 0) (resultsPtr f 0) (m .regs)) (stackTests m)
       go false = all-both (topsList map (m .regs) (length (m .ctl))) (yes? (recordsOk f map m) ∷ stackTests m)
 
-  module _ (done : m .regs .state ≡ 1) where
-    pub sound-done : (r : Bool) → doneOk f (m .regs) ≡ true → r ≡ restOk m → r ≡ sound? f map m
-    sound-done r e h = h ∙ sym (sound-is ∙ rw (eq-eqb (m .regs .state) 1 done, e))
+  module _ (done : m .regs .state ≡ 1) (h : Head) (H : HeadFor f 0 h) where
+    done-is : sound? f map m ≡ (if doneOk h (m .regs) then restOk m else false)
+    unfolding doneOk
+    done-is =
+        sound-is
+        ∙ rw (eq-eqb (m .regs .state) 1 done)
+        (λ i. if all (doneList (sym (H .r-is) i) (sym (H .s-is) i) (m .regs)) then restOk m else false)
 
-    pub sound-undone : doneOk f (m .regs) ≡ false → false ≡ sound? f map m
-    sound-undone e = sym (sound-is ∙ rw (eq-eqb (m .regs .state) 1 done, e))
+    pub sound-done : (r : Bool) → doneOk h (m .regs) ≡ true → r ≡ restOk m → r ≡ sound? f map m
+    sound-done r e d = d ∙ sym (done-is ∙ rw e)
+
+    pub sound-undone : doneOk h (m .regs) ≡ false → false ≡ sound? f map m
+    sound-undone e = sym (done-is ∙ rw e)
 
   module _ (on : m .regs .state ≡ 1 → ⊥) where
     pub sound-tops : topsOk map (m .regs) (length (m .ctl)) ≡ false → false ≡ sound? f map m

@@ -1,10 +1,9 @@
 -- Control records from the top downwards: the tests with the procedure that the record names are the model's, since a frame whose
 -- place is an instruction of that procedure has it; and what one record leaves of `stack?` to the records below.
-use Prim.Native.Nat.{ℕ, zero, suc, _+_, _-_, _*_, _<_, _≤_}
-use mathlib.Core.Bool.{Bool, true, false, true≢false, _&&_}
+use Prim.Native.Nat.{ℕ, zero, suc, _+_, _-_, _<_, _≤_}
+use mathlib.Core.Bool.{Bool, true, false, _&&_}
 use mathlib.Core.List.{List, [], _∷_}
 use mathlib.Core.Path.{_≡_, refl, ap, sym, _∙_}
-use native.Mathlib.Numerals.{add-one}
 use native.Mathlib.Omega.{arith}
 use lib.Dec.{leb, eqb}
 use lib.ListN.{length}
@@ -13,7 +12,7 @@ use Rattle.model.specs.Choice.{if_then_else_, Test, same, most, yes?, all, all-
 use Rattle.model.specs.File.{byteAt, operand, procAt, paramsMain, paramsPtr, mostMain, mostPtr}
 use Rattle.model.specs.Checker.{none}
 use Rattle.model.specs.Control.{Rec, rec, recAt, down}
-use Rattle.model.specs.Sound.{mainAt, ptrAt, innerAt, isIns, isCall, callSize, frameTests, firstTests, callerTests, handlerTests, stack?}
+use Rattle.model.specs.Sound.{mainAt, ptrAt, innerAt, isIns, isCall, callSize, frameTests, stack?}
 use Rattle.frames.specs.declared.Record.{Record}
 use Rattle.frames.specs.declared.Reading.{Reading}
 use Rattle.frames.specs.declared.Below.{Below}

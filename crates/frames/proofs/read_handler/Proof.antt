@@ -1,31 +1,23 @@
 -- A handler that passes its tests leads to the one outside it.
-use Rattle.frames.specs.Records.{told-handler, told-outside}
 use mathlib.Core.Path.{sym, _∙_}
-use borrow.Author.Tests.{not-true, not-false}
 use native.Mathlib.Omega.{arith}
+use borrow.Author.Tests.{not-true, not-false}
 use borrow.Author.Needs.{needs}
-use Rattle.frames.proofs.past_handler.Statement.{statement}
-use Rattle.frames.proofs.past_handler.Tie as tie
-use Rattle.frames.proofs.past_handler.Reads as reads
-use Rattle.frames.proofs.past_handler.Lts as lts
-use Rattle.frames.proofs.handler_right.Reads as handler-right-reads
-use Rattle.frames.proofs.inner_at.Reads as inner-at-reads
+use Rattle.frames.specs.Records.{told-handler, told-outside}
+use Rattle.frames.proofs.read_handler.Statement.{statement}
+use Rattle.frames.proofs.read_handler.Tie as tie
 
--- src/lib.rt:313:9
 handler-right-requires : tie.Need-handler-right-requires
 handler-right-requires c κs = search needs
 
--- src/lib.rt:314:9
 returns : tie.Need-returns
 returns c = λ f lm lp rs e h. told-handler _ _ _ _ rs _ e _ _ h (sym (c .before .handler-right .ensures) ∙ not-true _ (c .if1 .taken))
 
--- src/lib.rt:317:16
 inner-at-requires : tie.Need-inner-at-requires
 inner-at-requires c κs = search needs
 
--- src/lib.rt:309:1
 returns-2 : tie.Need-returns-2
 returns-2 c = λ f lm lp rs e h. let l = c .inner-at .ensures .small in told-outside _ _ _ _ rs _ e _ _ h _ (sym (c .before .before .handler-right .ensures) ∙ not-false _ (c .before .if1 .left)) (c .inner-at .ensures .is) (omega arith) (c .before .before .before .before .pre .0)
 
-pub past-handler-spec : {M : Type 1} → statement M
-past-handler-spec = tie.close (tie.spec handler-right-requires returns inner-at-requires returns-2)
+pub read-handler-spec : {M : Type 1} → statement M
+read-handler-spec = tie.close (tie.spec handler-right-requires returns inner-at-requires returns-2)
