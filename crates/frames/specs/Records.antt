@@ -18,7 +18,9 @@ use Rattle.frames.specs.declared.Reading.{Reading}
 use Rattle.frames.specs.declared.Below.{Below}
 use Rattle.frames.specs.declared.Below.the-variants.{End, On}
 use Rattle.frames.specs.Tests.{Fails, test, fails, last}
-use Rattle.frames.specs.Places.{inProc, in-proc-true}
+use Rattle.code.specs.declared.Head.{Head}
+use Rattle.code.specs.Parts.{Small}
+use Rattle.frames.specs.Places.{inProc, in-proc-true, HeadFor}
 
 abbrev pub asRec : Record → Rec
 asRec w = rec (w .w0) (w .w1) (w .w2) (w .w3) (w .w4)
@@ -257,14 +259,24 @@ module _ (f map : List ℕ) (lm lp : ℕ) (rs : List Rec) (left : ℕ) (count : 
             let d : callerOk f map (w .w2) w s calls ≡ false = rw c-is at h in
             record { is = frame-yes ∙ rw (ne-eqb (s .frame) 1 later, d); near = tt }
 
-        pub told-caller : (t i j : ℕ) → callerOk f map (w .w2) w s c ≡ true → t ≡ innerAt map c → i ≡ s .main + paramsMain f (w .w2) - mainAt map c →
-            j ≡ s .ptr + paramsPtr f (w .w2) - ptrAt map c → Near (reading t c (w .w4) (s .handler) i j) →
+        -- t, m and q are the map's numbers at the call, i and j the caller's bases
+        pub told-caller : (h : Head) (t m q i j : ℕ) → Reads lm lp left w s → HeadFor f (w .w2) h → callerOk f map (w .w2) w s c ≡ true →
+            Small 65536 (innerAt map c) t → m ≡ mainAt map c → q ≡ ptrAt map c → i ≡ s .main + h .a - m → j ≡ s .ptr + h .b - q →
             Told f map lm lp rs w s (On (reading t c (w .w4) (s .handler) i j))
-        told-caller t i j h et ei ej near =
-            let d : callerOk f map (w .w2) w s calls ≡ true = rw c-is at h in
+        told-caller h t m q i j R H a T em eq ei ej =
+            let d : callerOk f map (w .w2) w s calls ≡ true = rw c-is at a in
+            let x : i ≡ s .main + paramsMain f (w .w2) - mainAt map c = let y = H .a-is in omega arith in
+            let z : j ≡ s .ptr + paramsPtr f (w .w2) - ptrAt map c = let y = H .b-is in omega arith in
+            let fits = frame-fits w s f lm lp left e in
+            let ha = H .a-small in
+            let hb = H .b-small in
+            let ts = T .small in
+            let lm-low = R .main in
+            let lp-low = R .ptr in
+            let small = R .small in
             record {
-              is = frame-yes ∙ rw (ne-eqb (s .frame) 1 later, d, et, ei, ej, c-is);
-              near = near;
+              is = frame-yes ∙ rw (ne-eqb (s .frame) 1 later, d, T .is, x, z, c-is);
+              near = record { inner = omega arith; place = omega arith; main = omega arith; ptr = omega arith };
             }
 
   module _ (held : s .inner ≡ none → ⊥) where
@@ -275,12 +287,12 @@ module _ (f map : List ℕ) (lm lp : ℕ) (rs : List Rec) (left : ℕ) (count : 
     pub told-handler : handlerOk map left w s ≡ false → Told f map lm lp rs w s (End false)
     told-handler e = record { is = stack-handler ∙ rw e; near = tt }
 
-    pub told-outside : (t : ℕ) → handlerOk map left w s ≡ true → t ≡ innerAt map (s .inner) → t < 4294967296 → Near s →
+    pub told-outside : (t : ℕ) → handlerOk map left w s ≡ true → Small 65536 (innerAt map (s .inner)) t → Near s →
         Told f map lm lp rs w s (On (reading t (s .place) (s .frame) (w .w4) (s .main) (s .ptr)))
-    told-outside t e et small N =
+    told-outside t e T N =
         record {
-          is = stack-handler ∙ rw (e, et);
-          near = record { inner = small; place = N .place; main = N .main; ptr = N .ptr };
+          is = stack-handler ∙ rw (e, T .is);
+          near = record { inner = let l = T .small in omega arith; place = N .place; main = N .main; ptr = N .ptr };
         }
 
 -- the records that are left

@@ -303,6 +303,14 @@ fn handler_right(map: &[u16], left: usize, w: Record, s: Reading) -> bool
     w.w3 == s.frame
 }
 
+// A caller's base: its depth at the call, less the parameters, reaches up to the base of the frame that it called.
+fn caller_base(base: usize, params: usize, depth: usize) -> usize
+    requires { ⌜ (base < 4294967296) × (params < 256) ⌝ }
+    ensures { λ r. ⌜ r ≡ base + params - depth ⌝ }
+{
+    less(base + params, depth)
+}
+
 // What a record tells: the verdict, or what to read on with.
 pub enum Below {
     End(bool),
@@ -353,8 +361,8 @@ fn read_frame(
     if !caller_right(file, map, w, s, head, c) {
         return Below::End(false);
     }
-    let main = less(s.main + head.a, main_at(map, c));
-    let ptr = less(s.ptr + head.b, ptr_at(map, c));
+    let main = caller_base(s.main, head.a, main_at(map, c));
+    let ptr = caller_base(s.ptr, head.b, ptr_at(map, c));
     Below::On(Reading {
         inner: inner_at(map, c),
         place: c,

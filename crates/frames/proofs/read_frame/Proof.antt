@@ -1,10 +1,11 @@
--- A frame that passes its tests is the first one, or leads to its caller, whose bases are this frame's with the parameters, less the depths at the call.
+-- A frame that passes its tests is the first one, or leads to its caller, whose bases are this frame's with the parameters, less the
+-- depths at the call.
 use mathlib.Core.Path.{sym, _∙_}
 use native.Mathlib.Omega.{arith}
-use borrow.Author.Tests.{not-true, not-false}
 use borrow.Author.Needs.{needs}
-use Rattle.frames.specs.Records.{frame-in, frame-fits, told-frame, told-first, told-call, told-caller}
+use borrow.Author.Tests.{not-true, not-false}
 use Rattle.frames.specs.Places.{in-proc-below}
+use Rattle.frames.specs.Records.{frame-in, told-frame, told-first, told-call, told-caller}
 use Rattle.frames.proofs.read_frame.Statement.{statement}
 use Rattle.frames.proofs.read_frame.Tie as tie
 
@@ -32,40 +33,23 @@ caller-right-requires c κs = let l = c .before .before .before .before .before 
 returns-3 : tie.Need-returns-3
 returns-3 c = λ rs e. told-call _ _ _ _ rs _ e _ _ (c .before .before .before .before .before .before .before .before .before .before .pre .2) (sym (c .before .before .before .before .before .before .before .frame-right .ensures) ∙ not-false _ (c .before .before .before .before .before .before .if1 .left)) (c .before .before .before .before .if2 .left) _ (c .before .before .less .ensures) (sym (c .before .caller-right .ensures) ∙ not-true _ (c .if3 .taken))
 
-add-less : tie.Need-add-less
-add-less c = let a = c .before .before .before .before .before .before .before .before .before .before .before .before .pre .1 .near .main in let b = c .before .before .before .before .before .head-of .ensures .a-small in omega arith
-
 main-at-requires : tie.Need-main-at-requires
-main-at-requires c κs = let a = c .before .before .before .before .before .before .before .before .before .before .before .before .pre .1 .small in let b = c .before .before .before .before .less .ensures in omega arith
+main-at-requires c κs = let a = c .before .before .before .before .before .before .before .before .before .before .pre .1 .small in let b = c .before .before .less .ensures in omega arith
 
-less-requires-2 : tie.Need-less-requires-2
-less-requires-2 c κs = search needs
-
-add-less-2 : tie.Need-add-less-2
-add-less-2 c = let a = c .before .before .before .before .before .before .before .before .before .before .before .before .before .before .before .before .pre .1 .near .ptr in let b = c .before .before .before .before .before .before .before .before .before .head-of .ensures .b-small in omega arith
+caller-base-requires : tie.Need-caller-base-requires
+caller-base-requires c κs = (c .before .before .before .before .before .before .before .before .before .before .before .pre .1 .near .main, c .before .before .before .before .head-of .ensures .a-small)
 
 ptr-at-requires : tie.Need-ptr-at-requires
-ptr-at-requires c κs = let a = c .before .before .before .before .before .before .before .before .before .before .before .before .before .before .before .before .pre .1 .small in let b = c .before .before .before .before .before .before .before .before .less .ensures in omega arith
+ptr-at-requires c κs = let a = c .before .before .before .before .before .before .before .before .before .before .before .before .pre .1 .small in let b = c .before .before .before .before .less .ensures in omega arith
 
-less-requires-3 : tie.Need-less-requires-3
-less-requires-3 c κs = search needs
+caller-base-requires-2 : tie.Need-caller-base-requires-2
+caller-base-requires-2 c κs = (c .before .before .before .before .before .before .before .before .before .before .before .before .before .pre .1 .near .ptr, c .before .before .before .before .before .before .head-of .ensures .b-small)
 
 inner-at-requires : tie.Need-inner-at-requires
-inner-at-requires c κs = let a = c .before .before .before .before .before .before .before .before .before .before .before .before .before .before .before .before .before .before .pre .1 .small in let b = c .before .before .before .before .before .before .before .before .before .before .less .ensures in omega arith
+inner-at-requires c κs = let a = c .before .before .before .before .before .before .before .before .before .before .before .before .before .before .pre .1 .small in let b = c .before .before .before .before .before .before .less .ensures in omega arith
 
 returns-4 : tie.Need-returns-4
-returns-4 c = λ rs e.
-    let p = c .before .before .before .before .before .before .before .before .before .before .before .before .before .before .before .before .before .before .before .pre .1 in
-    let t = (sym (c .before .before .before .before .before .before .before .before .before .before .before .before .before .before .before .before .frame-right .ensures) ∙ not-false _ (c .before .before .before .before .before .before .before .before .before .before .before .before .before .before .before .if1 .left)) in
-    let z = frame-fits _ _ _ _ _ _ t in
-    let h = c .before .before .before .before .before .before .before .before .before .before .before .before .head-of .ensures in
-    let m = c .before .before .before .before .before .before .main-at .ensures .is in
-    let q = c .before .before .ptr-at .ensures .is in
-    let n = c .inner-at .ensures in
-    let d = c .before .before .before .before .before .before .before .before .before .before .before .less .ensures in
-    let i = c .before .before .before .before .before .less2 .ensures in
-    let j = c .before .less3 .ensures in
-    told-caller _ _ _ _ rs _ e _ _ (c .before .before .before .before .before .before .before .before .before .before .before .before .before .before .before .before .before .before .before .pre .2) t (c .before .before .before .before .before .before .before .before .before .before .before .before .before .if2 .left) _ d _ _ _ (sym (c .before .before .before .before .before .before .before .before .before .before .caller-right .ensures) ∙ not-false _ (c .before .before .before .before .before .before .before .before .before .if3 .left)) (n .is) (omega arith) (omega arith) (record { inner = omega arith; place = omega arith; main = omega arith; ptr = omega arith })
+returns-4 c = λ rs e. told-caller _ _ _ _ rs _ e _ _ (c .before .before .before .before .before .before .before .before .before .before .before .before .before .before .before .pre .2) (sym (c .before .before .before .before .before .before .before .before .before .before .before .before .frame-right .ensures) ∙ not-false _ (c .before .before .before .before .before .before .before .before .before .before .before .if1 .left)) (c .before .before .before .before .before .before .before .before .before .if2 .left) _ (c .before .before .before .before .before .before .before .less .ensures) _ _ _ _ _ _ (c .before .before .before .before .before .before .before .before .before .before .before .before .before .before .before .pre .1) (c .before .before .before .before .before .before .before .before .head-of .ensures) (sym (c .before .before .before .before .before .before .caller-right .ensures) ∙ not-false _ (c .before .before .before .before .before .if3 .left)) (c .inner-at .ensures) (c .before .before .before .before .main-at .ensures .is) (c .before .before .ptr-at .ensures .is) (c .before .before .before .caller-base .ensures) (c .before .caller-base2 .ensures)
 
 pub read-frame-spec : {M : Type 1} → statement M
 read-frame-spec =
@@ -79,11 +63,9 @@ read-frame-spec =
     less-requires
     caller-right-requires
     returns-3
-    add-less
     main-at-requires
-    less-requires-2
-    add-less-2
+    caller-base-requires
     ptr-at-requires
-    less-requires-3
+    caller-base-requires-2
     inner-at-requires
     returns-4)

@@ -1,6 +1,5 @@
 -- A handler that passes its tests leads to the one outside it.
 use mathlib.Core.Path.{sym, _∙_}
-use native.Mathlib.Omega.{arith}
 use borrow.Author.Tests.{not-true, not-false}
 use borrow.Author.Needs.{needs}
 use Rattle.frames.specs.Records.{told-handler, told-outside}
@@ -17,7 +16,7 @@ inner-at-requires : tie.Need-inner-at-requires
 inner-at-requires c κs = search needs
 
 returns-2 : tie.Need-returns-2
-returns-2 c = λ f lm lp rs e h. let l = c .inner-at .ensures .small in told-outside _ _ _ _ rs _ e _ _ h _ (sym (c .before .before .handler-right .ensures) ∙ not-false _ (c .before .if1 .left)) (c .inner-at .ensures .is) (omega arith) (c .before .before .before .before .pre .0)
+returns-2 c = λ f lm lp rs e h. told-outside _ _ _ _ rs _ e _ _ h _ (sym (c .before .before .handler-right .ensures) ∙ not-false _ (c .before .if1 .left)) (c .inner-at .ensures) (c .before .before .before .before .pre .0)
 
 pub read-handler-spec : {M : Type 1} → statement M
 read-handler-spec = tie.close (tie.spec handler-right-requires returns inner-at-requires returns-2)
