@@ -39,9 +39,9 @@ all-both (t ∷ ts) us = go (holds t) (all-both ts us)
     go true e = e
     go false e = refl
 
+pub alone : (b : Bool) → b ≡ (if b then true else false)
+alone true = refl
+alone false = refl
+
 pub last : (ts : List Test) (t : Test) (r : Bool) → r ≡ holds t → All ts → r ≡ all (ts ++ (t ∷ []))
 last ts t r e h = e ∙ alone (holds t) ∙ sym (all-both ts (t ∷ []) ∙ rw (true-all ts h))
-  where
-    alone : (b : Bool) → b ≡ (if b then true else false)
-    alone true = refl
-    alone false = refl

@@ -220,7 +220,7 @@ fn frame_right(
     s: Reading,
 ) -> bool
     requires { ⌜ Ready (now file) (now map) (now table) k × Near s × (left < 4294967296) ⌝ }
-    ensures { λ r. ⌜ r ≡ frameOk (now (file .entry)) lm lp left w s ⌝ }
+    ensures { λ r. ⌜ r ≡ frameOk w s (now (file .entry)) lm lp left ⌝ }
 {
     if !within(file, map, table, k, w.w2, s.place) {
         return false;
@@ -243,7 +243,7 @@ fn frame_right(
 
 // The tests of the first frame's record.
 fn first_right(w: Record, s: Reading) -> bool
-    ensures { λ r. ⌜ r ≡ firstOk (w .w2) w s ⌝ }
+    ensures { λ r. ⌜ r ≡ firstOk w s (w .w2) ⌝ }
 {
     if w.w2 != 0 {
         return false;
@@ -266,7 +266,7 @@ fn first_right(w: Record, s: Reading) -> bool
 // The frame was called at `c`; `head` is its procedure's.
 fn caller_right(file: &[u8], map: &[u16], w: Record, s: Reading, head: Head, c: usize) -> bool
     requires { ⌜ HeadFor (now file) (w .w2) head × Near s × (c < 4294967296) ⌝ }
-    ensures { λ r. ⌜ r ≡ callerOk (now (file .entry)) (now (map .entry)) (w .w2) w s c ⌝ }
+    ensures { λ r. ⌜ r ≡ callerOk w s (now (file .entry)) (now (map .entry)) (w .w2) c ⌝ }
 {
     if byte_at(file, c) != CALL {
         return false;
@@ -286,7 +286,7 @@ fn caller_right(file: &[u8], map: &[u16], w: Record, s: Reading, head: Head, c: 
 // The tests of a handler's record, on top of `left` others.
 fn handler_right(map: &[u16], left: usize, w: Record, s: Reading) -> bool
     requires { ⌜ Near s × (left < 4294967296) ⌝ }
-    ensures { λ r. ⌜ r ≡ handlerOk (now (map .entry)) left w s ⌝ }
+    ensures { λ r. ⌜ r ≡ handlerOk w s (now (map .entry)) left ⌝ }
 {
     if s.handler != left + 1 {
         return false;
@@ -480,7 +480,7 @@ fn tops_right(map: &[u16], regs: Regs, room: usize) -> bool
 
 // The registers of a finished state; `head` is procedure 0's.
 fn done_right(head: Head, regs: Regs) -> bool
-    ensures { λ r. ⌜ r ≡ doneOk head regs ⌝ }
+    ensures { λ r. ⌜ r ≡ doneOk (head .r) (head .s) regs ⌝ }
 {
     if regs.place != 0 {
         return false;

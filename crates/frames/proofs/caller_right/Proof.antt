@@ -1,7 +1,8 @@
 -- One test after the other.
-use mathlib.Core.Path.{sym, ap, _∙_}
+use mathlib.Core.Path.{sym, _∙_}
 use Prim.Native.Nat.{_+_}
 use native.Mathlib.Omega.{arith}
+use lib.Dec.{leb}
 use borrow.Author.Needs.{needs}
 use Rattle.frames.specs.Records.{caller-fails, caller-last}
 use Rattle.frames.proofs.caller_right.Statement.{statement}
@@ -41,7 +42,7 @@ add-result : tie.Need-add-result
 add-result c = let n = c .before .before .before .before .before .before .before .before .before .before .before .before .before .before .before .before .pre .1 .ptr in let h = c .before .before .before .before .before .before .before .before .before .before .before .before .before .before .before .before .pre .0 .b-small in omega arith
 
 returns-5 : tie.Need-returns-5
-returns-5 c = let h = c .before .before .before .before .before .before .before .before .before .before .before .before .before .before .before .before .pre .0 .a-is in let m = c .before .before .before .before .main-at .ensures .is in let t = c .before .before .before .if4 .left in caller-last _ _ _ _ _ _ _ _ (sym (c .before .before .before .before .before .before .before .before .before .before .before .before .before .byte-at .ensures .is) ∙ c .before .before .before .before .before .before .before .before .before .before .before .before .if1 .left) (sym (c .before .before .before .before .before .before .before .before .before .before .before .operand .ensures) ∙ c .before .before .before .before .before .before .before .before .before .if2 .left) (c .before .before .before .before .before .before .before .if3 .left) (omega arith) (c .before .before .ptr-at .ensures .is) (ap (_+_ (c .before .before .before .before .before .before .before .before .before .before .before .before .before .before .before .before .args .s .ptr)) (c .before .before .before .before .before .before .before .before .before .before .before .before .before .before .before .before .pre .0 .b-is))
+returns-5 c = let h = c .before .before .before .before .before .before .before .before .before .before .before .before .before .before .before .before .pre .0 .a-is in let m = c .before .before .before .before .main-at .ensures .is in let t = c .before .before .before .if4 .left in caller-last _ _ _ _ _ _ _ (λ i. leb (c .before .before .ptr-at .ensures .is i) (c .before .before .before .before .before .before .before .before .before .before .before .before .before .before .before .before .args .s .ptr + c .before .before .before .before .before .before .before .before .before .before .before .before .before .before .before .before .pre .0 .b-is i)) (sym (c .before .before .before .before .before .before .before .before .before .before .before .before .before .byte-at .ensures .is) ∙ c .before .before .before .before .before .before .before .before .before .before .before .before .if1 .left, (sym (c .before .before .before .before .before .before .before .before .before .before .before .operand .ensures) ∙ c .before .before .before .before .before .before .before .before .before .if2 .left, (c .before .before .before .before .before .before .before .if3 .left, (omega arith, tt))))
 
 pub caller-right-spec : {M : Type 1} → statement M
 caller-right-spec =

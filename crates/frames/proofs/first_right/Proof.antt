@@ -19,7 +19,7 @@ returns-5 : tie.Need-returns-5
 returns-5 c = first-fails _ _ _ 4 (c .if5 .taken)
 
 returns-6 : tie.Need-returns-6
-returns-6 c = first-last _ _ _ (c .before .before .before .before .before .before .before .before .before .if1 .left) (c .before .before .before .before .before .before .before .if2 .left) (c .before .before .before .before .before .if3 .left) (c .before .before .before .if4 .left) (c .before .if5 .left)
+returns-6 c = first-last _ _ _ (c .before .before .before .before .before .before .before .before .before .if1 .left, (c .before .before .before .before .before .before .before .if2 .left, (c .before .before .before .before .before .if3 .left, (c .before .before .before .if4 .left, (c .before .if5 .left, tt)))))
 
 pub first-right-spec : {M : Type 1} → statement M
 first-right-spec = tie.close (tie.spec returns returns-2 returns-3 returns-4 returns-5 returns-6)

@@ -1,7 +1,8 @@
 -- One test after the other; the procedure is the one that the record names.
 use mathlib.Core.Path.{sym, ap, _∙_}
-use Prim.Native.Nat.{_+_}
+use Prim.Native.Nat.{ℕ, _+_}
 use native.Mathlib.Omega.{arith}
+use lib.Dec.{leb}
 use borrow.Author.Tests.{not-true, not-false}
 use borrow.Author.Needs.{needs}
 use Rattle.frames.specs.Records.{frame-fails, frame-last}
@@ -40,7 +41,7 @@ add-result : tie.Need-add-result
 add-result c = let n = c .before .before .before .before .before .before .before .before .before .before .before .before .before .before .before .before .before .before .pre .1 .ptr in let h = c .before .before .before .before .before .head-of .ensures .y-small in omega arith
 
 returns-6 : tie.Need-returns-6
-returns-6 c = let e = c .before .before .before .before .before .head-of .ensures in let t = c .before .before .if5 .left in let x = e .x-is in frame-last _ _ _ _ _ _ _ (sym (c .before .before .before .before .before .before .before .before .before .before .before .before .before .before .before .within .ensures) ∙ not-false _ (c .before .before .before .before .before .before .before .before .before .before .before .before .before .before .if1 .left)) (c .before .before .before .before .before .before .before .before .before .before .before .before .if2 .left) (c .before .before .before .before .before .before .before .before .before .if3 .left) (c .before .before .before .before .before .before .if4 .left) (omega arith) (ap (_+_ (c .before .before .before .before .before .before .before .before .before .before .before .before .before .before .before .before .before .before .args .s .ptr)) (e .y-is))
+returns-6 c = let e = c .before .before .before .before .before .head-of .ensures in let t = c .before .before .if5 .left in let x = e .x-is in frame-last _ _ _ _ _ _ _ (ap (λ (y : ℕ). leb (c .before .before .before .before .before .before .before .before .before .before .before .before .before .before .before .before .before .before .args .s .ptr + y) (c .before .before .before .before .before .before .before .before .before .before .before .before .before .before .before .before .before .before .args .lp)) (e .y-is)) (sym (c .before .before .before .before .before .before .before .before .before .before .before .before .before .before .before .within .ensures) ∙ not-false _ (c .before .before .before .before .before .before .before .before .before .before .before .before .before .before .if1 .left), (c .before .before .before .before .before .before .before .before .before .before .before .before .if2 .left, (c .before .before .before .before .before .before .before .before .before .if3 .left, (c .before .before .before .before .before .before .if4 .left, (omega arith, tt)))))
 
 pub frame-right-spec : {M : Type 1} → statement M
 frame-right-spec =

@@ -33,7 +33,7 @@ returns-4 : tie.Need-returns-4
 returns-4 c = let e = c .before .before .before .ptr-at .ensures .is in let t = c .if4 .taken in handler-fails _ _ _ _ 3 (omega arith)
 
 returns-5 : tie.Need-returns-5
-returns-5 c = let d = c .before .before .before .before .before .before .before .before .before .main-at .ensures .is in let e = c .before .before .before .before .before .ptr-at .ensures .is in let t = c .before .before .before .before .before .before .if3 .left in let u = c .before .before .if4 .left in handler-last _ _ _ _ (c .before .before .before .before .before .before .before .before .before .before .before .before .before .if1 .left) (c .before .before .before .before .before .before .before .before .before .before .if2 .left) (omega arith) (omega arith)
+returns-5 c = let d = c .before .before .before .before .before .before .before .before .before .main-at .ensures .is in let e = c .before .before .before .before .before .ptr-at .ensures .is in let t = c .before .before .before .before .before .before .if3 .left in let u = c .before .before .if4 .left in handler-last _ _ _ _ (c .before .before .before .before .before .before .before .before .before .before .before .before .before .if1 .left, (c .before .before .before .before .before .before .before .before .before .before .if2 .left, (omega arith, (omega arith, tt))))
 
 pub handler-right-spec : {M : Type 1} → statement M
 handler-right-spec =

@@ -1,5 +1,8 @@
 -- One test after the other.
+use mathlib.Core.Path.{ap}
+use Prim.Native.Nat.{ℕ}
 use native.Mathlib.Omega.{arith}
+use lib.Dec.{leb}
 use borrow.Author.Needs.{needs}
 use Rattle.frames.specs.Audit.{tops-fails, tops-last}
 use Rattle.frames.proofs.tops_right.Statement.{statement}
@@ -27,7 +30,7 @@ ptr-at-requires : tie.Need-ptr-at-requires
 ptr-at-requires c κs = search needs
 
 returns-5 : tie.Need-returns-5
-returns-5 c = let e = c .before .before .before .before .main-at .ensures .is in let t = c .before .before .if4 .left in tops-last _ _ _ _ (c .before .before .before .before .before .before .before .before .before .before .if1 .left) (c .before .before .before .before .before .before .before .if2 .left) (c .before .before .before .before .before .if3 .left) (omega arith) (c .before .ptr-at .ensures .is)
+returns-5 c = let e = c .before .before .before .before .main-at .ensures .is in let t = c .before .before .if4 .left in tops-last _ _ _ _ (ap (λ (x : ℕ). leb x (c .before .before .before .before .before .before .before .before .before .before .before .before .before .args .regs .ptop)) (c .before .ptr-at .ensures .is)) (c .before .before .before .before .before .before .before .before .before .before .if1 .left, (c .before .before .before .before .before .before .before .if2 .left, (c .before .before .before .before .before .if3 .left, (omega arith, tt))))
 
 pub tops-right-spec : {M : Type 1} → statement M
 tops-right-spec =
