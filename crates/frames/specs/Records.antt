@@ -181,18 +181,25 @@ module _ (f map : List ℕ) (lm lp : ℕ) (rs : List Rec) (left : ℕ) (count : 
   unfolding frameOk inProc
   frame-alike = rw above (go (isIns f (s .place)) (eqb (w .w2) (procAt f (s .place))) refl)
     where
+      -- the three tests between, and the last two for procedure n
+      behind : Bool → Bool → Bool → Bool → Bool
+      behind a b c r = if a then (if b then (if c then r else false) else false) else false
+
+      between : Bool → Bool
+      between r = behind (eqb (s .frame) (left + 1)) (eqb (w .w0) (s .main)) (eqb (w .w1) (s .ptr)) r
+
       rest : ℕ → Bool
       rest n = all (most (s .main + mostMain f n) lm ∷ most (s .ptr + mostPtr f n) lp ∷ [])
 
-      dead : (a b c : Bool) → false ≡ (if a then (if b then (if c then false else false) else false) else false)
+      dead : (a b c : Bool) → false ≡ behind a b c false
       dead true true true = refl
       dead true true false = refl
       dead true false c = refl
       dead false b c = refl
 
       go : (t u : Bool) → eqb (w .w2) (procAt f (s .place)) ≡ u →
-          (if t && u then (if eqb (s .frame) (left + 1) then (if eqb (w .w0) (s .main) then (if eqb (w .w1) (s .ptr) then rest (w .w2) else false) else false) else false) else false)
-          ≡ (if t then (if eqb (s .frame) (left + 1) then (if eqb (w .w0) (s .main) then (if eqb (w .w1) (s .ptr) then (if u then rest (procAt f (s .place)) else false) else false) else false) else false) else false)
+          (if t && u then between (rest (w .w2)) else false)
+          ≡ (if t then between (if u then rest (procAt f (s .place)) else false) else false)
       go true true e = rw (eqb-true (w .w2) (procAt f (s .place)) e)
       go true false e = dead (eqb (s .frame) (left + 1)) (eqb (w .w0) (s .main)) (eqb (w .w1) (s .ptr))
       go false u e = refl

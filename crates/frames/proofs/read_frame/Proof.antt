@@ -37,7 +37,7 @@ main-at-requires : tie.Need-main-at-requires
 main-at-requires c κs = let a = c .before .before .before .before .before .before .before .before .before .before .pre .1 .small in let b = c .before .before .less .ensures in omega arith
 
 caller-base-requires : tie.Need-caller-base-requires
-caller-base-requires c κs = (c .before .before .before .before .before .before .before .before .before .before .before .pre .1 .near .main, c .before .before .before .before .head-of .ensures .a-small)
+caller-base-requires c κs = let h = c .before .before .before .before .head-of .ensures .a-small in (c .before .before .before .before .before .before .before .before .before .before .before .pre .1 .near .main, omega arith)
 
 ptr-at-requires : tie.Need-ptr-at-requires
 ptr-at-requires c κs = let a = c .before .before .before .before .before .before .before .before .before .before .before .before .pre .1 .small in let b = c .before .before .before .before .less .ensures in omega arith
