@@ -6,101 +6,83 @@ use mathlib.Core.List.{List, [], _∷_, _++_}
 use mathlib.Core.Path.{_≡_, refl, ap, sym, _∙_}
 use native.Mathlib.Numerals.{add-one}
 use native.Mathlib.Omega.{arith}
-use lib.Dec.{leb, eqb}
+use lib.Dec.{eqb}
 use lib.ListN.{length, getD, drop}
 use lib.Seq.{drop-cons}
 use borrow.Author.Tests.{eq-eqb, ne-eqb}
-use Rattle.model.specs.Choice.{if_then_else_, Test, same, most, yes?, all, all-true}
+use Rattle.model.specs.Choice.{if_then_else_, Test, same, most, yes?, holds, all, All, all-true}
 use Rattle.model.specs.File.{resultsMain, resultsPtr}
 use Rattle.model.specs.Heap.{objectsOf}
 use Rattle.model.specs.Control.{Machine, recordWords, down, records}
 use Rattle.model.specs.Sound.{mainAt, ptrAt, innerAt, zeros, pointers, stackTests, runningTests, finishedTests, sound?}
 use Rattle.model.specs.declared.Regs.{Regs}
 use Rattle.frames.specs.declared.Reading.{Reading}
-use Rattle.frames.specs.Tests.{Fails, test, fails, last, all-both}
+use Rattle.code.specs.declared.Head.{Head}
+use Rattle.frames.specs.Places.{HeadFor}
+use Rattle.frames.specs.Tests.{Fails, test, fails, last, all-both, alone}
 use Rattle.frames.specs.Records.{reading, stackOf}
 
--- running: state, tops; n is the length of the control stack
-abbrev pub topsList : List ℕ → Regs → ℕ → List Test
-topsList map r n =
-    same (r .state) 0
-    ∷ same (r .ctop) (recordWords * (r .ctop / recordWords))
-    ∷ most (r .ctop) n
-    ∷ most (mainAt map (r .place)) (r .mtop)
-    ∷ most (ptrAt map (r .place)) (r .ptop)
-    ∷ []
+module _ (map : List ℕ) (r : Regs) (n : ℕ) where
+  -- running: state and tops; n is the length of the control stack
+  abbrev pub topsFirst : List Test
+  topsFirst =
+      same (r .state) 0
+      ∷ same (r .ctop) (recordWords * (r .ctop / recordWords))
+      ∷ most (r .ctop) n
+      ∷ most (mainAt map (r .place)) (r .mtop)
+      ∷ []
 
-unfoldable pub topsOk : List ℕ → Regs → ℕ → Bool
-topsOk map r n = all (topsList map r n)
+  abbrev pub topsLast : Test
+  topsLast = most (ptrAt map (r .place)) (r .ptop)
 
-pub tops-fails : (map : List ℕ) (r : Regs) (n k : ℕ) → Fails (test k (topsList map r n)) → false ≡ topsOk map r n
-unfolding topsOk
-tops-fails map r n k h = fails k (topsList map r n) h
+  unfoldable pub topsOk : Bool
+  topsOk = all (topsFirst ++ (topsLast ∷ []))
 
-pub tops-last : (map : List ℕ) (r : Regs) (n d : ℕ) → r .state ≡ 0 → r .ctop ≡ recordWords * (r .ctop / recordWords) → r .ctop ≤ n →
-    mainAt map (r .place) ≤ r .mtop → d ≡ ptrAt map (r .place) → leb d (r .ptop) ≡ topsOk map r n
-unfolding topsOk
-tops-last map r n d a b c h e =
-    last
-    (same (r .state) 0
-    ∷ same (r .ctop) (recordWords * (r .ctop / recordWords))
-    ∷ most (r .ctop) n
-    ∷ most (mainAt map (r .place)) (r .mtop)
-    ∷ [])
-    (most (ptrAt map (r .place)) (r .ptop))
-    (leb d (r .ptop))
-    (ap (λ (x : ℕ). leb x (r .ptop)) e)
-    (a, (b, (c, (h, tt))))
+  pub tops-fails : (k : ℕ) → Fails (test k (topsFirst ++ (topsLast ∷ []))) → false ≡ topsOk
+  unfolding topsOk
+  tops-fails k h = fails k (topsFirst ++ (topsLast ∷ [])) h
 
--- finished
-abbrev pub doneList : List ℕ → Regs → List Test
-doneList f r =
-    same (r .place) 0
-    ∷ same (r .frame) 0
-    ∷ same (r .handler) 0
-    ∷ same (r .ctop) 0
-    ∷ same (r .mtop) (resultsMain f 0)
-    ∷ same (r .ptop) (resultsPtr f 0)
-    ∷ []
+  pub tops-last : (t : Bool) → t ≡ holds topsLast → All topsFirst → t ≡ topsOk
+  unfolding topsOk
+  tops-last t e h = last topsFirst topsLast t e h
 
-unfoldable pub doneOk : List ℕ → Regs → Bool
-doneOk f r = all (doneList f r)
+  -- the control stack has room for the records
+  pub tops-room : topsOk ≡ true → recordWords * (r .ctop / recordWords) ≤ n
+  unfolding topsOk
+  tops-room e = let a = all-true (topsFirst ++ (topsLast ∷ [])) e in let b = a .1 .0 in let c = a .1 .1 .0 in omega arith
 
-pub done-fails : (f : List ℕ) (r : Regs) (k : ℕ) → Fails (test k (doneList f r)) → false ≡ doneOk f r
-unfolding doneOk
-done-fails f r k h = fails k (doneList f r) h
+-- finished, with main and pointer results as many as m and p
+module _ (m p : ℕ) (r : Regs) where
+  abbrev pub doneFirst : List Test
+  doneFirst = same (r .place) 0 ∷ same (r .frame) 0 ∷ same (r .handler) 0 ∷ same (r .ctop) 0 ∷ same (r .mtop) m ∷ []
 
-pub done-last : (f : List ℕ) (r : Regs) (d : ℕ) → r .place ≡ 0 → r .frame ≡ 0 → r .handler ≡ 0 → r .ctop ≡ 0 → r .mtop ≡ resultsMain f 0 →
-    d ≡ resultsPtr f 0 → eqb (r .ptop) d ≡ doneOk f r
-unfolding doneOk
-done-last f r d a b c h i e =
-    last (same (r .place) 0 ∷ same (r .frame) 0 ∷ same (r .handler) 0 ∷ same (r .ctop) 0 ∷ same (r .mtop) (resultsMain f 0) ∷ [])
-    (same (r .ptop) (resultsPtr f 0))
-    (eqb (r .ptop) d)
-    (ap (eqb (r .ptop)) e)
-    (a, (b, (c, (h, (i, tt)))))
+  abbrev pub doneLast : Test
+  doneLast = same (r .ptop) p
+
+  unfoldable pub doneOk : Bool
+  doneOk = all (doneFirst ++ (doneLast ∷ []))
+
+  pub done-fails : (k : ℕ) → Fails (test k (doneFirst ++ (doneLast ∷ []))) → false ≡ doneOk
+  unfolding doneOk
+  done-fails k h = fails k (doneFirst ++ (doneLast ∷ [])) h
+
+  pub done-last : All doneFirst → holds doneLast ≡ doneOk
+  unfolding doneOk
+  done-last h = last doneFirst doneLast (holds doneLast) refl h
 
 -- the words of the stacks
-unfoldable pub restOk : Machine → Bool
-restOk m = all (stackTests m)
+module _ (m : Machine) where
+  unfoldable pub restOk : Bool
+  restOk = all (stackTests m)
 
-pub rest-fails : (m : Machine) (k : ℕ) → Fails (test k (stackTests m)) → false ≡ restOk m
-unfolding restOk
-rest-fails m k h = fails k (stackTests m) h
+  pub rest-fails : (k : ℕ) → Fails (test k (stackTests m)) → false ≡ restOk
+  unfolding restOk
+  rest-fails k h = fails k (stackTests m) h
 
-pub rest-last : (m : Machine) (r : Bool) → zeros (drop (m .regs .mtop) (m .main)) ≡ true → zeros (drop (m .regs .ptop) (m .ptr)) ≡ true →
-    zeros (drop (m .regs .ctop) (m .ctl)) ≡ true → r ≡ pointers (objectsOf (m .heap)) (m .ptr) → r ≡ restOk m
-unfolding restOk
-rest-last m r a b c e =
-    last
-    (yes? (zeros (drop (m .regs .mtop) (m .main)))
-    ∷ yes? (zeros (drop (m .regs .ptop) (m .ptr)))
-    ∷ yes? (zeros (drop (m .regs .ctop) (m .ctl)))
-    ∷ [])
-    (yes? (pointers (objectsOf (m .heap)) (m .ptr)))
-    r
-    e
-    (a, (b, (c, tt)))
+  pub rest-last : (r : Bool) → zeros (drop (m .regs .mtop) (m .main)) ≡ true → zeros (drop (m .regs .ptop) (m .ptr)) ≡ true →
+      zeros (drop (m .regs .ctop) (m .ctl)) ≡ true → r ≡ pointers (objectsOf (m .heap)) (m .ptr) → r ≡ restOk
+  unfolding restOk
+  rest-last r a b c e = rw (a, b, c) (e ∙ alone (pointers (objectsOf (m .heap)) (m .ptr)))
 
 -- what the registers tell of the topmost frame
 unfoldable pub topmost : List ℕ → Regs → Reading
@@ -116,7 +98,7 @@ module _ (f map : List ℕ) (m : Machine) where
   sound-is :
       sound? f map m
       ≡ (if eqb (m .regs .state) 1
-      then (if doneOk f (m .regs) then restOk m else false)
+      then (if doneOk (resultsMain f 0) (resultsPtr f 0) (m .regs) then restOk m else false)
       else (if topsOk map (m .regs) (length (m .ctl)) then (if recordsOk f map m then restOk m else false) else false))
   unfolding sound? runningTests finishedTests topsOk doneOk restOk recordsOk topmost stackOf
   sound-is = go (eqb (m .regs .state) 1)
@@ -124,17 +106,20 @@ module _ (f map : List ℕ) (m : Machine) where
       go : (t : Bool) →
           (if t then all (finishedTests f m) else all (runningTests f map m))
           ≡ (if t
-          then (if doneOk f (m .regs) then restOk m else false)
+          then (if doneOk (resultsMain f 0) (resultsPtr f 0) (m .regs) then restOk m else false)
           else (if topsOk map (m .regs) (length (m .ctl)) then (if recordsOk f map m then restOk m else false) else false))
-      go true = all-both (doneList f (m .regs)) (stackTests m)
-      go false = all-both (topsList map (m .regs) (length (m .ctl))) (yes? (recordsOk f map m) ∷ stackTests m)
+      go true = all-both (doneFirst (resultsMain f 0) (resultsPtr f 0) (m .regs) ++ (doneLast (resultsMain f 0) (resultsPtr f 0) (m .regs) ∷ [])) (stackTests m)
+      go false = all-both (topsFirst map (m .regs) (length (m .ctl)) ++ (topsLast map (m .regs) (length (m .ctl)) ∷ [])) (yes? (recordsOk f map m) ∷ stackTests m)
 
-  module _ (done : m .regs .state ≡ 1) where
-    pub sound-done : (r : Bool) → doneOk f (m .regs) ≡ true → r ≡ restOk m → r ≡ sound? f map m
-    sound-done r e h = h ∙ sym (sound-is ∙ rw (eq-eqb (m .regs .state) 1 done, e))
+  module _ (done : m .regs .state ≡ 1) (h : Head) (H : HeadFor f 0 h) where
+    done-is : sound? f map m ≡ (if doneOk (h .r) (h .s) (m .regs) then restOk m else false)
+    done-is = sound-is ∙ rw (eq-eqb (m .regs .state) 1 done, ← H .r-is, ← H .s-is)
 
-    pub sound-undone : doneOk f (m .regs) ≡ false → false ≡ sound? f map m
-    sound-undone e = sym (sound-is ∙ rw (eq-eqb (m .regs .state) 1 done, e))
+    pub sound-done : (r : Bool) → doneOk (h .r) (h .s) (m .regs) ≡ true → r ≡ restOk m → r ≡ sound? f map m
+    sound-done r e d = d ∙ sym (done-is ∙ rw e)
+
+    pub sound-undone : doneOk (h .r) (h .s) (m .regs) ≡ false → false ≡ sound? f map m
+    sound-undone e = sym (done-is ∙ rw e)
 
   module _ (on : m .regs .state ≡ 1 → ⊥) where
     pub sound-tops : topsOk map (m .regs) (length (m .ctl)) ≡ false → false ≡ sound? f map m
@@ -151,11 +136,6 @@ module _ (f map : List ℕ) (m : Machine) where
 
       pub sound-rest : (r : Bool) → b ≡ true → r ≡ restOk m → r ≡ sound? f map m
       sound-rest r e h = h ∙ sym (sound-is ∙ rw (ne-eqb (m .regs .state) 1 on, t, sym records-are ∙ e))
-
--- the control stack has room for the records
-pub tops-room : (map : List ℕ) (r : Regs) (n : ℕ) → topsOk map r n ≡ true → recordWords * (r .ctop / recordWords) ≤ n
-unfolding topsOk
-tops-room map r n e = let a = all-true (topsList map r n) e in let b = a .1 .0 in let c = a .1 .1 .0 in omega arith
 
 -- zeros from i on
 module _ (l : List ℕ) (i : ℕ) where

@@ -1,9 +1,8 @@
 -- A place is an instruction of procedure n exactly when it lies behind head n, before that procedure's end, and the map has a depth
 -- for it: heads rise, and a passed file's map has 65,535 where no instruction starts.
-use Prim.Native.Nat.{ℕ, zero, suc, _+_, _-_, _*_, _<_, _≤_}
+use Prim.Native.Nat.{ℕ, zero, suc, _+_, _-_, _<_, _≤_}
 use mathlib.Core.Bool.{Bool, true, false, true≢false, not, _&&_}
 use mathlib.Core.List.{List, [], _∷_}
-use mathlib.Core.Logic.{_⊎_, inl, inr}
 use mathlib.Core.Path.{_≡_, refl, ap, sym, _∙_}
 use native.Mathlib.Decide.{ℕ-discrete, decLt}
 use native.Mathlib.Omega.{arith}
@@ -11,23 +10,27 @@ use lib.Dec.{ltb, leb, eqb}
 use lib.ListN.{length, getD}
 use borrow.Author.Tests.{lt-ltb, le-ltb, le-leb, lt-leb, eq-eqb, ne-eqb, eqb-true}
 use Rattle.model.specs.Choice.{if_then_else_, Mem, member}
-use Rattle.model.specs.File.{byteAt, headKind, isHead, select, after, instructions, heads, procs, headOf, procAt, upTo, recordsOf, starts, paramsMain, paramsPtr, resultsMain, resultsPtr, mostMain, mostPtr}
+use Rattle.model.specs.File.{byteAt, headKind, isHead, select, instructions, heads, procs, headOf, procAt, upTo, recordsOf, starts, paramsMain, paramsPtr, resultsMain, resultsPtr, mostMain, mostPtr}
 use Rattle.model.specs.Checker.{none, State}
 use Rattle.model.specs.Sound.{mainAt, isIns}
 use Rattle.model.specs.Calls.{pass, verdictOf}
-use Rattle.model.specs.Claim.{Bytes, assigned}
+use Rattle.model.specs.Claim.{Bytes}
 use Rattle.exact.specs.Pass.{Rising}
 use Rattle.exact.specs.Walk.{member-in, in-member, getD-in, upTo-none, upTo-most, heads-rise, first-head, head-in, ins-in, Walk, walk, walk-above, after-head, instruction-below, procs-some, proc-below}
-use Rattle.exact.specs.Exact.{Passed, passed-as, passed-shape, passed-rest}
+use Rattle.exact.specs.Exact.{passed-as, passed-shape, passed-rest}
 use Rattle.code.specs.declared.Head.{Head}
-use Rattle.code.specs.Heads.{HeadIs, headBytes, procHead, head-of}
+use Rattle.code.specs.Heads.{HeadIs, procHead, head-of}
 use Rattle.scan.specs.Heading.{Placed}
 
--- what the audit goes by: a file with its map and the table of its k heads
-pub record Ready (f map table : List ℕ) (k : ℕ) : Type 0 where
+-- a file whose records are whole, with the table of its k heads
+pub record Tabled (f table : List ℕ) (k : ℕ) : Type 0 where
   pub places : List ℕ
   pub records : recordsOf f ≡ starts places
   pub placed : Placed f table k
+
+-- and with a map that has 65,535 where no instruction starts: what the audit goes by
+pub record Ready (f map table : List ℕ) (k : ℕ) : Type 0 where
+  pub heads : Tabled f table k
   pub shows : (p : ℕ) → p < length f → eqb (mainAt map p) none ≡ not (isIns f p)
 
 -- a file that passed is ready, with the finished map
@@ -35,7 +38,10 @@ pub passed-ready : (f map₀ map table : List ℕ) (k : ℕ) → Bytes f → ver
 unfolding isIns mostMain
 passed-ready f map₀ map table k B e P =
     let W = passed-as f map₀ map e .formed in
-    record { places = W .places; records = W .records; placed = P; shows = λ p l. shows p l (member p (instructions f)) refl }
+    record {
+      heads = record { places = W .places; records = W .records; placed = P };
+      shows = λ p l. shows p l (member p (instructions f)) refl;
+    }
   where
     shows : (p : ℕ) → p < length f → (t : Bool) → member p (instructions f) ≡ t → eqb (mainAt map p) none ≡ not (member p (instructions f))
     shows p l true w =
@@ -172,43 +178,47 @@ module _ (f ps : List ℕ) (e : recordsOf f ≡ starts ps) where
       go true false w v = refl
       go false u w v = refl
 
-module _ (f map table : List ℕ) (k : ℕ) (R : Ready f map table k) (n p : ℕ) where
+module _ (f table : List ℕ) (k n : ℕ) (P : Placed f table k) where
   head-here : n < k → getD table n 0 ≡ headOf f n
-  head-here h = let a = R .placed .few in R .placed .heads n (omega arith)
+  head-here h = let a = P .few in P .heads n (omega arith)
 
-  pub table-end : n < k → n + 1 < k → getD table (n + 1) 0 ≡ endOf f n
+  pub table-end : n + 1 < k → getD table (n + 1) 0 ≡ endOf f n
   unfolding endOf
-  table-end h l =
-      let a = R .placed .few in
-      let b = R .placed .count in
-      R .placed .heads (n + 1) (omega arith) ∙ rw (lt-ltb (n + 1) (procs f) (omega arith))
+  table-end h =
+      let a = P .few in
+      let b = P .count in
+      P .heads (n + 1) (omega arith) ∙ rw (lt-ltb (n + 1) (procs f) (omega arith))
 
   pub file-end : k ≤ n + 1 → length f ≡ endOf f n
   unfolding endOf
-  file-end h = let b = R .placed .count in rw (le-ltb (n + 1) (procs f) (omega arith))
+  file-end h = let b = P .count in rw (le-ltb (n + 1) (procs f) (omega arith))
+
+module _ (f map table : List ℕ) (k : ℕ) (R : Ready f map table k) (n p : ℕ) where
+  abbrev T : Tabled f table k
+  T = R .heads
 
   pub within-none : k ≤ n → false ≡ inProc f n p
   within-none h =
-      out f (R .places) (R .records) n p
-      (λ m e. let a = proc-below f (R .places) (R .records) p in let b = R .placed .count in omega arith)
+      out f (T .places) (T .records) n p
+      (λ m e. let a = proc-below f (T .places) (T .records) p in let b = T .placed .count in omega arith)
 
   pub within-low : n < k → p ≤ getD table n 0 → false ≡ inProc f n p
   within-low h l =
-      out f (R .places) (R .records) n p
-      (λ m e. let a = own-head f (R .places) (R .records) p m in let b = head-here h ∙ ap (headOf f) e in omega arith)
+      out f (T .places) (T .records) n p
+      (λ m e. let a = own-head f (T .places) (T .records) p m in let b = head-here f table k n (T .placed) h ∙ ap (headOf f) e in omega arith)
 
-  pub within-high : n < k → endOf f n ≤ p → false ≡ inProc f n p
-  within-high h l =
-      out f (R .places) (R .records) n p
-      (λ m e. let a = own-end f (R .places) (R .records) p m in let b = ap (endOf f) e in omega arith)
+  pub within-high : endOf f n ≤ p → false ≡ inProc f n p
+  within-high l =
+      out f (T .places) (T .records) n p
+      (λ m e. let a = own-end f (T .places) (T .records) p m in let b = ap (endOf f) e in omega arith)
 
   pub within-here : n < k → getD table n 0 < p → p < endOf f n → not (eqb (mainAt map p) none) ≡ inProc f n p
   unfolding inProc
   within-here h a b =
-      let c = R .placed .count in
-      let d = head-here h in
-      let w = between f (R .places) (R .records) n p (omega arith) (omega arith) b in
-      let l = end-low f (R .places) (R .records) n in
+      let c = T .placed .count in
+      let d = head-here f table k n (T .placed) h in
+      let w = between f (T .places) (T .records) n p (omega arith) (omega arith) b in
+      let l = end-low f (T .places) (T .records) n in
       rw (R .shows p (omega arith), w, eq-eqb n n refl) (go (isIns f p))
     where
       go : (t : Bool) → not (not t) ≡ (t && true)
@@ -228,18 +238,18 @@ pub record HeadFor (f : List ℕ) (n : ℕ) (v : Head) : Type 0 where
   pub x-small : v .x < 256
   pub y-small : v .y < 256
 
-module _ (f map table : List ℕ) (k : ℕ) (R : Ready f map table k) (n : ℕ) where
+module _ (f table : List ℕ) (k : ℕ) (T : Tabled f table k) (n : ℕ) where
   pub head-inside : n < k → getD table n 0 + 6 < length f
   head-inside h =
-      let a = head-here f map table k R n 0 h in
-      let b = R .placed .count in
-      let w = head-whole f (R .places) (R .records) n (omega arith) in
+      let a = head-here f table k n (T .placed) h in
+      let b = T .placed .count in
+      let w = head-whole f (T .places) (T .records) n (omega arith) in
       omega arith
 
   pub head-for : (v : Head) → n < k → HeadIs f (getD table n 0) v → HeadFor f n v
   unfolding procHead
   head-for v h H =
-      let e = H .is ∙ head-of f n (getD table n 0) (head-here f map table k R n 0 h) in
+      let e = H .is ∙ head-of f n (getD table n 0) (head-here f table k n (T .placed) h) in
       record {
         a-is = ap (λ (x : Head). x .a) e;
         b-is = ap (λ (x : Head). x .b) e;
@@ -256,9 +266,9 @@ module _ (f map table : List ℕ) (k : ℕ) (R : Ready f map table k) (n : ℕ) 
   pub in-proc-below : (p : ℕ) → inProc f n p ≡ true → n < k
   in-proc-below p e =
       let a = in-proc-true f n p e in
-      let b = proc-below f (R .places) (R .records) p in
-      let c = R .placed .count in
+      let b = proc-below f (T .places) (T .records) p in
+      let c = T .placed .count in
       omega arith
 
-  pub some-proc : 0 < k
-  some-proc = let a = procs-some f (R .places) (R .records) in let c = R .placed .count in omega arith
+pub some-proc : (f table : List ℕ) (k : ℕ) → Tabled f table k → 0 < k
+some-proc f table k T = let a = procs-some f (T .places) (T .records) in let c = T .placed .count in omega arith

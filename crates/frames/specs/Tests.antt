@@ -2,8 +2,7 @@
 use Prim.Native.Nat.{ℕ, zero, suc, _<_}
 use mathlib.Core.Bool.{Bool, true, false}
 use mathlib.Core.List.{List, [], _∷_, _++_}
-use mathlib.Core.Path.{_≡_, refl, ap, sym, _∙_}
-use lib.Dec.{leb, eqb}
+use mathlib.Core.Path.{_≡_, refl, sym, _∙_}
 use lib.ListN.{getD}
 use borrow.Author.Tests.{ne-eqb, lt-leb}
 use Rattle.model.specs.Choice.{if_then_else_, Test, same, most, yes?, holds, all, All, true-all}
@@ -40,9 +39,9 @@ all-both (t ∷ ts) us = go (holds t) (all-both ts us)
     go true e = e
     go false e = refl
 
+pub alone : (b : Bool) → b ≡ (if b then true else false)
+alone true = refl
+alone false = refl
+
 pub last : (ts : List Test) (t : Test) (r : Bool) → r ≡ holds t → All ts → r ≡ all (ts ++ (t ∷ []))
 last ts t r e h = e ∙ alone (holds t) ∙ sym (all-both ts (t ∷ []) ∙ rw (true-all ts h))
-  where
-    alone : (b : Bool) → b ≡ (if b then true else false)
-    alone true = refl
-    alone false = refl

@@ -1,17 +1,18 @@
 // Refusal 12: registers, stacks and control records against a passed file and its map; registers as bytes.
 // Document 01, Memory, third paragraph, and Refused, "Sound". The records are read from the top downwards, each once.
 ghost use mathlib.Core.Path.{_≡_};
-ghost use mathlib.Core.List.{List, _++_};
+ghost use mathlib.Core.List.{List};
 ghost use Prim.Native.Nat.{ℕ, _+_, _-_, _*_, _/_, _<_, _≤_};
-ghost use lib.ListN.{length, getD, drop, take};
+ghost use lib.ListN.{length, getD, drop};
 ghost use Rattle.model.specs.File.{byteAt, operand};
 ghost use Rattle.model.specs.Heap.{objectsOf};
-ghost use Rattle.model.specs.Control.{Rec, down, machine, wordFrom, regsFrom, bytesOf, regBytes};
+ghost use Rattle.model.specs.Control.{Rec, down, machine, wordFrom, regsFrom, regBytes};
 ghost use Rattle.model.specs.Sound.{mainAt, ptrAt, innerAt, zeros, sound?};
 ghost use Rattle.code.specs.Parts.{Small};
 ghost use Rattle.heap.specs.Table.{Marks};
 ghost use Rattle.frames.specs.Registers.{Words, Stored};
-ghost use Rattle.frames.specs.Places.{Ready, endOf, inProc, HeadFor};
+ghost use Rattle.scan.specs.Heading.{Placed};
+ghost use Rattle.frames.specs.Places.{Tabled, Ready, endOf, inProc, HeadFor};
 ghost use Rattle.frames.specs.Records.{RecordIs, Near, Reads, Told, stackOf, frameOk, firstOk, callerOk, handlerOk};
 ghost use Rattle.frames.specs.Audit.{topsOk, doneOk, restOk, topmost};
 use code::Head;
@@ -71,6 +72,7 @@ pub fn regs_from(bytes: &[u8]) -> Regs
     }
 }
 
+// Puts register `i`, most significant byte first.
 fn put_word(bytes: &mut [u8], i: usize, w: usize)
     requires { ⌜ (length (now bytes) ≡ 28) × (i < 7) ⌝ }
     ensures { λ _. ⌜ Stored (now (bytes .entry)) i w (now (bytes .exit)) ⌝ }
@@ -102,6 +104,7 @@ fn byte_at(file: &[u8], p: usize) -> usize
     if p < file.len() { byte(file[p]) } else { 0 }
 }
 
+// The operand of the call at `p`, which may be no instruction.
 fn operand(file: &[u8], p: usize) -> usize
     requires { ⌜ p < 4294967296 ⌝ }
     ensures { λ r. ⌜ r ≡ operand (now (file .entry)) p ⌝ }
@@ -139,8 +142,8 @@ fn inner_at(map: &[u16], p: usize) -> usize
 
 // Where procedure `n` ends: at the next head, or with the file.
 fn end_of(file: &[u8], table: &[usize; 64], k: usize, n: usize) -> usize
-    requires { ⌜ (n < k) × (k ≤ 64) ⌝ }
-    ensures { λ r. ⌜ ((map : List ℕ) → Ready (now (file .entry)) map (now (table .entry)) k → r ≡ endOf (now (file .entry)) n) ⌝ }
+    requires { ⌜ Placed (now file) (now table) k × (n < k) ⌝ }
+    ensures { λ r. ⌜ r ≡ endOf (now (file .entry)) n ⌝ }
 {
     let next = n + 1;
     if next < k { table[next] } else { file.len() }
@@ -163,20 +166,20 @@ fn within(file: &[u8], map: &[u16], table: &[usize; 64], k: usize, n: usize, p: 
     main_at(map, p) != NONE
 }
 
-fn head_of(file: &[u8], map: &[u16], table: &[usize; 64], k: usize, n: usize) -> Head
-    requires { ⌜ Ready (now file) (now map) (now table) k × (n < k) ⌝ }
+fn head_of(file: &[u8], table: &[usize; 64], k: usize, n: usize) -> Head
+    requires { ⌜ Tabled (now file) (now table) k × (n < k) ⌝ }
     ensures { λ r. ⌜ HeadFor (now (file .entry)) n r ⌝ }
 {
     code::head_at(file, table[n])
 }
 
-// A control record's words.
+// A control record's words: a frame's, or a handler's.
 pub struct Record {
-    pub w0: usize,
-    pub w1: usize,
-    pub w2: usize,
-    pub w3: usize,
-    pub w4: usize,
+    pub w0: usize, // main base; the place of its 160
+    pub w1: usize, // pointer base; the main top then
+    pub w2: usize, // procedure; the pointer top then
+    pub w3: usize, // return place; its frame's record
+    pub w4: usize, // the caller's record; the next outer handler's
 }
 
 // The record on top of `left` others.
@@ -217,7 +220,7 @@ fn frame_right(
     s: Reading,
 ) -> bool
     requires { ⌜ Ready (now file) (now map) (now table) k × Near s × (left < 4294967296) ⌝ }
-    ensures { λ r. ⌜ r ≡ frameOk (now (file .entry)) lm lp left w s ⌝ }
+    ensures { λ r. ⌜ r ≡ frameOk w s (now (file .entry)) lm lp left ⌝ }
 {
     if !within(file, map, table, k, w.w2, s.place) {
         return false;
@@ -231,16 +234,16 @@ fn frame_right(
     if w.w1 != s.ptr {
         return false;
     }
-    let head = head_of(file, map, table, k, w.w2);
+    let head = head_of(file, table, k, w.w2);
     if lm < s.main + head.x {
         return false;
     }
     s.ptr + head.y <= lp
 }
 
-// The first frame's record.
+// The tests of the first frame's record.
 fn first_right(w: Record, s: Reading) -> bool
-    ensures { λ r. ⌜ r ≡ firstOk (w .w2) w s ⌝ }
+    ensures { λ r. ⌜ r ≡ firstOk w s (w .w2) ⌝ }
 {
     if w.w2 != 0 {
         return false;
@@ -263,7 +266,7 @@ fn first_right(w: Record, s: Reading) -> bool
 // The frame was called at `c`; `head` is its procedure's.
 fn caller_right(file: &[u8], map: &[u16], w: Record, s: Reading, head: Head, c: usize) -> bool
     requires { ⌜ HeadFor (now file) (w .w2) head × Near s × (c < 4294967296) ⌝ }
-    ensures { λ r. ⌜ r ≡ callerOk (now (file .entry)) (now (map .entry)) (w .w2) w s c ⌝ }
+    ensures { λ r. ⌜ r ≡ callerOk w s (now (file .entry)) (now (map .entry)) (w .w2) c ⌝ }
 {
     if byte_at(file, c) != CALL {
         return false;
@@ -280,10 +283,10 @@ fn caller_right(file: &[u8], map: &[u16], w: Record, s: Reading, head: Head, c: 
     ptr_at(map, c) <= s.ptr + head.b
 }
 
-// A handler's record, on top of `left` others.
+// The tests of a handler's record, on top of `left` others.
 fn handler_right(map: &[u16], left: usize, w: Record, s: Reading) -> bool
     requires { ⌜ Near s × (left < 4294967296) ⌝ }
-    ensures { λ r. ⌜ r ≡ handlerOk (now (map .entry)) left w s ⌝ }
+    ensures { λ r. ⌜ r ≡ handlerOk w s (now (map .entry)) left ⌝ }
 {
     if s.handler != left + 1 {
         return false;
@@ -300,13 +303,22 @@ fn handler_right(map: &[u16], left: usize, w: Record, s: Reading) -> bool
     w.w3 == s.frame
 }
 
+// A caller's base: its depth at the call, less the parameters, reaches up to the base of the frame that it called.
+fn caller_base(base: usize, params: usize, depth: usize) -> usize
+    requires { ⌜ (base < 4294967296) × (params < 256) ⌝ }
+    ensures { λ r. ⌜ r ≡ base + params - depth ⌝ }
+{
+    less(base + params, depth)
+}
+
 // What a record tells: the verdict, or what to read on with.
 pub enum Below {
     End(bool),
     On(Reading),
 }
 
-fn past_handler(map: &[u16], left: usize, w: Record, s: Reading) -> Below
+// A handler's record leads to the next outer one of its frame, or to the frame.
+fn read_handler(map: &[u16], left: usize, w: Record, s: Reading) -> Below
     requires { ⌜ Near s × (left < 4294967296) ⌝ }
     ensures { λ r. ⌜ ((f : List ℕ) (lm lp : ℕ) (rs : List Rec) → length rs ≡ left → (s .inner ≡ 65535 → ⊥) → Told f (now (map .entry)) lm lp rs w s r) ⌝ }
 {
@@ -324,7 +336,7 @@ fn past_handler(map: &[u16], left: usize, w: Record, s: Reading) -> Below
 }
 
 // A frame's record: the first frame ends the reading, any other leads to its caller.
-fn past_frame(
+fn read_frame(
     file: &[u8],
     map: &[u16],
     table: &[usize; 64],
@@ -344,13 +356,13 @@ fn past_frame(
     if s.frame == 1 {
         return Below::End(first_right(w, s));
     }
-    let head = head_of(file, map, table, k, w.w2);
+    let head = head_of(file, table, k, w.w2);
     let c = less(w.w3, CALL_SIZE);
     if !caller_right(file, map, w, s, head, c) {
         return Below::End(false);
     }
-    let main = less(s.main + head.a, main_at(map, c));
-    let ptr = less(s.ptr + head.b, ptr_at(map, c));
+    let main = caller_base(s.main, head.a, main_at(map, c));
+    let ptr = caller_base(s.ptr, head.b, ptr_at(map, c));
     Below::On(Reading {
         inner: inner_at(map, c),
         place: c,
@@ -362,7 +374,7 @@ fn past_frame(
 }
 
 // The record on top of `left` others.
-fn past(
+fn read_record(
     file: &[u8],
     map: &[u16],
     table: &[usize; 64],
@@ -377,9 +389,9 @@ fn past(
     ensures { λ r. ⌜ ((rs : List Rec) → length rs ≡ left → Told (now (file .entry)) (now (map .entry)) lm lp rs w s r) ⌝ }
 {
     if s.inner == NONE {
-        past_frame(file, map, table, k, lm, lp, left, w, s)
+        read_frame(file, map, table, k, lm, lp, left, w, s)
     } else {
-        past_handler(map, left, w, s)
+        read_handler(map, left, w, s)
     }
 }
 
@@ -403,7 +415,7 @@ fn records_right(
     while 0 < left {
         left -= 1;
         let w = record_at(ctl, left);
-        let found = past(file, map, table, k, lm, lp, left, w, s);
+        let found = read_record(file, map, table, k, lm, lp, left, w, s);
         match found {
             Below::End(right) => {
                 return right;
@@ -467,9 +479,8 @@ fn tops_right(map: &[u16], regs: Regs, room: usize) -> bool
 }
 
 // The registers of a finished state; `head` is procedure 0's.
-fn done_right(file: &[u8], head: Head, regs: Regs) -> bool
-    requires { ⌜ HeadFor (now file) 0 head ⌝ }
-    ensures { λ r. ⌜ r ≡ doneOk (now (file .entry)) regs ⌝ }
+fn done_right(head: Head, regs: Regs) -> bool
+    ensures { λ r. ⌜ r ≡ doneOk (head .r) (head .s) regs ⌝ }
 {
     if regs.place != 0 {
         return false;
@@ -520,8 +531,8 @@ pub fn sound_state(
     ensures { λ r. ⌜ ((heap : List ℕ) → Marks (objectsOf heap) (now (marks .entry)) → r ≡ sound? (now (file .entry)) (now (map .entry)) (machine regs (now (main .entry)) (now (ptr .entry)) (now (ctl .entry)) heap)) ⌝ }
 {
     if regs.state == 1 {
-        let head = head_of(file, map, table, k, 0);
-        if done_right(file, head, regs) {
+        let head = head_of(file, table, k, 0);
+        if done_right(head, regs) {
             return words_right(main, ptr, ctl, marks, regs);
         }
         return false;

@@ -2,32 +2,24 @@
 use Rattle.frames.specs.Records.{first-fails, first-last}
 use Rattle.frames.proofs.first_right.Statement.{statement}
 use Rattle.frames.proofs.first_right.Tie as tie
-use Rattle.frames.proofs.first_right.Reads as reads
-use Rattle.frames.proofs.first_right.Lts as lts
 
--- src/lib.rt:246:9
 returns : tie.Need-returns
 returns c = first-fails _ _ _ 0 (c .if1 .taken)
 
--- src/lib.rt:249:9
 returns-2 : tie.Need-returns-2
 returns-2 c = first-fails _ _ _ 1 (c .if2 .taken)
 
--- src/lib.rt:252:9
 returns-3 : tie.Need-returns-3
 returns-3 c = first-fails _ _ _ 2 (c .if3 .taken)
 
--- src/lib.rt:255:9
 returns-4 : tie.Need-returns-4
 returns-4 c = first-fails _ _ _ 3 (c .if4 .taken)
 
--- src/lib.rt:258:9
 returns-5 : tie.Need-returns-5
 returns-5 c = first-fails _ _ _ 4 (c .if5 .taken)
 
--- src/lib.rt:242:1
 returns-6 : tie.Need-returns-6
-returns-6 c = first-last _ _ _ (c .before .before .before .before .before .before .before .before .before .if1 .left) (c .before .before .before .before .before .before .before .if2 .left) (c .before .before .before .before .before .if3 .left) (c .before .before .before .if4 .left) (c .before .if5 .left)
+returns-6 c = first-last _ _ _ (c .before .before .before .before .before .before .before .before .before .if1 .left, (c .before .before .before .before .before .before .before .if2 .left, (c .before .before .before .before .before .if3 .left, (c .before .before .before .if4 .left, (c .before .if5 .left, tt)))))
 
 pub first-right-spec : {M : Type 1} → statement M
 first-right-spec = tie.close (tie.spec returns returns-2 returns-3 returns-4 returns-5 returns-6)

@@ -1,61 +1,47 @@
 -- One test after the other; the procedure is the one that the record names.
+use mathlib.Core.Path.{sym, ap, _∙_}
+use Prim.Native.Nat.{ℕ, _+_}
+use native.Mathlib.Omega.{arith}
+use lib.Dec.{leb}
+use borrow.Author.Tests.{not-true, not-false}
+use borrow.Author.Needs.{needs}
 use Rattle.frames.specs.Records.{frame-fails, frame-last}
 use Rattle.frames.specs.Places.{in-proc-below}
-use mathlib.Core.Path.{sym, ap, _∙_}
-use Prim.Native.Nat.{_+_}
-use borrow.Author.Tests.{not-true, not-false}
-use native.Mathlib.Omega.{arith}
-use borrow.Author.Needs.{needs}
 use Rattle.frames.proofs.frame_right.Statement.{statement}
 use Rattle.frames.proofs.frame_right.Tie as tie
-use Rattle.frames.proofs.frame_right.Reads as reads
-use Rattle.frames.proofs.frame_right.Lts as lts
-use Rattle.frames.proofs.head_of.Reads as head-of-reads
-use Rattle.frames.proofs.within.Reads as within-reads
 
--- src/lib.rt:222:9
 within-requires : tie.Need-within-requires
 within-requires c κs = search needs
 
--- src/lib.rt:223:9
 returns : tie.Need-returns
 returns c = frame-fails _ _ _ _ _ _ 0 (sym (c .before .within .ensures) ∙ not-true _ (c .if1 .taken))
 
--- src/lib.rt:225:19
 add-if2 : tie.Need-add-if2
 add-if2 c = search needs
 
--- src/lib.rt:226:9
 returns-2 : tie.Need-returns-2
 returns-2 c = frame-fails _ _ _ _ _ _ 1 (c .if2 .taken)
 
--- src/lib.rt:229:9
 returns-3 : tie.Need-returns-3
 returns-3 c = frame-fails _ _ _ _ _ _ 2 (c .if3 .taken)
 
--- src/lib.rt:232:9
 returns-4 : tie.Need-returns-4
 returns-4 c = frame-fails _ _ _ _ _ _ 3 (c .if4 .taken)
 
--- src/lib.rt:234:9
 head-of-requires : tie.Need-head-of-requires
-head-of-requires c κs = (c .before .before .before .before .before .before .before .before .before .before .before .before .pre .0, in-proc-below _ _ _ _ (c .before .before .before .before .before .before .before .before .before .before .before .before .pre .0) _ _ (sym (c .before .before .before .before .before .before .before .before .before .within .ensures) ∙ not-false _ (c .before .before .before .before .before .before .before .before .if1 .left)))
+head-of-requires c κs = (c .before .before .before .before .before .before .before .before .before .before .before .before .pre .0 .heads, in-proc-below _ _ _ (c .before .before .before .before .before .before .before .before .before .before .before .before .pre .0 .heads) _ _ (sym (c .before .before .before .before .before .before .before .before .before .within .ensures) ∙ not-false _ (c .before .before .before .before .before .before .before .before .if1 .left)))
 
--- src/lib.rt:235:13
 add-if5 : tie.Need-add-if5
 add-if5 c = let n = c .before .before .before .before .before .before .before .before .before .before .before .before .before .before .before .pre .1 .main in let h = c .before .before .head-of .ensures .x-small in omega arith
 
--- src/lib.rt:236:9
 returns-5 : tie.Need-returns-5
 returns-5 c = let e = c .before .before .before .head-of .ensures .x-is in let t = c .if5 .taken in frame-fails _ _ _ _ _ _ 4 (omega arith)
 
--- src/lib.rt:238:5
 add-result : tie.Need-add-result
 add-result c = let n = c .before .before .before .before .before .before .before .before .before .before .before .before .before .before .before .before .before .before .pre .1 .ptr in let h = c .before .before .before .before .before .head-of .ensures .y-small in omega arith
 
--- src/lib.rt:208:1
 returns-6 : tie.Need-returns-6
-returns-6 c = let e = c .before .before .before .before .before .head-of .ensures in let t = c .before .before .if5 .left in let x = e .x-is in frame-last _ _ _ _ _ _ _ (sym (c .before .before .before .before .before .before .before .before .before .before .before .before .before .before .before .within .ensures) ∙ not-false _ (c .before .before .before .before .before .before .before .before .before .before .before .before .before .before .if1 .left)) (c .before .before .before .before .before .before .before .before .before .before .before .before .if2 .left) (c .before .before .before .before .before .before .before .before .before .if3 .left) (c .before .before .before .before .before .before .if4 .left) (omega arith) (ap (_+_ (c .before .before .before .before .before .before .before .before .before .before .before .before .before .before .before .before .before .before .args .s .ptr)) (e .y-is))
+returns-6 c = let e = c .before .before .before .before .before .head-of .ensures in let t = c .before .before .if5 .left in let x = e .x-is in frame-last _ _ _ _ _ _ _ (ap (λ (y : ℕ). leb (c .before .before .before .before .before .before .before .before .before .before .before .before .before .before .before .before .before .before .args .s .ptr + y) (c .before .before .before .before .before .before .before .before .before .before .before .before .before .before .before .before .before .before .args .lp)) (e .y-is)) (sym (c .before .before .before .before .before .before .before .before .before .before .before .before .before .before .before .within .ensures) ∙ not-false _ (c .before .before .before .before .before .before .before .before .before .before .before .before .before .before .if1 .left), (c .before .before .before .before .before .before .before .before .before .before .before .before .if2 .left, (c .before .before .before .before .before .before .before .before .before .if3 .left, (c .before .before .before .before .before .before .if4 .left, (omega arith, tt)))))
 
 pub frame-right-spec : {M : Type 1} → statement M
 frame-right-spec =

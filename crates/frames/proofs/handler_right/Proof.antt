@@ -1,53 +1,39 @@
 -- One test after the other.
-use Rattle.frames.specs.Records.{handler-fails, handler-last}
 use native.Mathlib.Omega.{arith}
 use borrow.Author.Needs.{needs}
+use Rattle.frames.specs.Records.{handler-fails, handler-last}
 use Rattle.frames.proofs.handler_right.Statement.{statement}
 use Rattle.frames.proofs.handler_right.Tie as tie
-use Rattle.frames.proofs.handler_right.Reads as reads
-use Rattle.frames.proofs.handler_right.Lts as lts
-use Rattle.frames.proofs.main_at.Reads as main-at-reads
-use Rattle.frames.proofs.ptr_at.Reads as ptr-at-reads
 
--- src/lib.rt:288:21
 add-if1 : tie.Need-add-if1
 add-if1 c = search needs
 
--- src/lib.rt:289:9
 returns : tie.Need-returns
 returns c = handler-fails _ _ _ _ 0 (c .if1 .taken)
 
--- src/lib.rt:292:9
 returns-2 : tie.Need-returns-2
 returns-2 c = handler-fails _ _ _ _ 1 (c .if2 .taken)
 
--- src/lib.rt:294:25
 main-at-requires : tie.Need-main-at-requires
 main-at-requires c κs = search needs
 
--- src/lib.rt:294:16
 add-if3 : tie.Need-add-if3
 add-if3 c = search needs
 
--- src/lib.rt:295:9
 returns-3 : tie.Need-returns-3
 returns-3 c = let e = c .before .before .before .main-at .ensures .is in let t = c .if3 .taken in handler-fails _ _ _ _ 2 (omega arith)
 
--- src/lib.rt:297:24
 ptr-at-requires : tie.Need-ptr-at-requires
 ptr-at-requires c κs = search needs
 
--- src/lib.rt:297:16
 add-if4 : tie.Need-add-if4
 add-if4 c = search needs
 
--- src/lib.rt:298:9
 returns-4 : tie.Need-returns-4
 returns-4 c = let e = c .before .before .before .ptr-at .ensures .is in let t = c .if4 .taken in handler-fails _ _ _ _ 3 (omega arith)
 
--- src/lib.rt:284:1
 returns-5 : tie.Need-returns-5
-returns-5 c = let d = c .before .before .before .before .before .before .before .before .before .main-at .ensures .is in let e = c .before .before .before .before .before .ptr-at .ensures .is in let t = c .before .before .before .before .before .before .if3 .left in let u = c .before .before .if4 .left in handler-last _ _ _ _ (c .before .before .before .before .before .before .before .before .before .before .before .before .before .if1 .left) (c .before .before .before .before .before .before .before .before .before .before .if2 .left) (omega arith) (omega arith)
+returns-5 c = let d = c .before .before .before .before .before .before .before .before .before .main-at .ensures .is in let e = c .before .before .before .before .before .ptr-at .ensures .is in let t = c .before .before .before .before .before .before .if3 .left in let u = c .before .before .if4 .left in handler-last _ _ _ _ (c .before .before .before .before .before .before .before .before .before .before .before .before .before .if1 .left, (c .before .before .before .before .before .before .before .before .before .before .if2 .left, (omega arith, (omega arith, tt))))
 
 pub handler-right-spec : {M : Type 1} → statement M
 handler-right-spec =

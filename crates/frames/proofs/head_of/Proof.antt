@@ -1,27 +1,21 @@
 -- The table has the head's place.
-use Rattle.frames.specs.Places.{head-inside, head-for}
+use native.Mathlib.Omega.{arith}
 use borrow.Author.Needs.{needs}
+use Rattle.frames.specs.Places.{head-inside, head-for}
 use Rattle.frames.proofs.head_of.Statement.{statement}
 use Rattle.frames.proofs.head_of.Tie as tie
-use Rattle.frames.proofs.head_of.Reads as reads
-use Rattle.frames.proofs.head_of.Lts as lts
-use Rattle.code.proofs.head_at.Reads as head-at-reads
 
--- src/lib.rt:170:25
 mul-head-at : tie.Need-mul-head-at
 mul-head-at c = search needs
 
--- src/lib.rt:170:25
 element-copy-out-head-at : tie.Need-element-copy-out-head-at
-element-copy-out-head-at c = search needs
+element-copy-out-head-at c = let l = c .before .pre .0 .placed .few in omega arith
 
--- src/lib.rt:170:5
 head-at-requires : tie.Need-head-at-requires
-head-at-requires c κs = head-inside _ _ _ _ (c .before .before .before .pre .0) _ (c .before .before .before .pre .1)
+head-at-requires c κs = head-inside _ _ _ (c .before .before .pre .0) _ (c .before .before .pre .1)
 
--- src/lib.rt:166:1
 returns : tie.Need-returns
-returns c = head-for _ _ _ _ (c .before .before .before .before .pre .0) _ _ (c .before .before .before .before .pre .1) (c .head-at .ensures)
+returns c = head-for _ _ _ (c .before .before .before .pre .0) _ _ (c .before .before .before .pre .1) (c .head-at .ensures)
 
 pub head-of-spec : {M : Type 1} → statement M
 head-of-spec = tie.close (tie.spec mul-head-at element-copy-out-head-at head-at-requires returns)

@@ -1,31 +1,24 @@
 -- The map is read where it has a number, and is 65,535 past its end.
-use Rattle.frames.specs.Places.{beyond}
-use Rattle.scan.specs.Marks.{getD-any}
 use mathlib.Core.Path.{sym}
 use native.Mathlib.Omega.{arith}
 use borrow.Author.Needs.{needs}
+use Rattle.scan.specs.Marks.{getD-any}
+use Rattle.frames.specs.Places.{beyond}
 use Rattle.frames.proofs.number.Statement.{statement}
 use Rattle.frames.proofs.number.Tie as tie
-use Rattle.frames.proofs.number.Reads as reads
-use Rattle.frames.proofs.number.Lts as lts
 
--- src/lib.rt:116:24
 mul-result : tie.Need-mul-result
 mul-result c = search needs
 
--- src/lib.rt:116:24
 shared-slice-read-result : tie.Need-shared-slice-read-result
 shared-slice-read-result c = search needs
 
--- src/lib.rt:116:24
 cast-result : tie.Need-cast-result
 cast-result c = omega (arith, c .shared-slice-known .given (c .before .before .args .i))
 
--- src/lib.rt:113:1
 returns : tie.Need-returns
 returns c = record { is = getD-any (c .before .before .args .map .now) (c .before .before .args .i) 0 65535 (omega arith); small = omega (arith, c .shared-slice-known .given (c .before .before .args .i)) }
 
--- src/lib.rt:113:1
 returns-2 : tie.Need-returns-2
 returns-2 c = record { is = sym (beyond (c .before .args .map .now) (c .before .args .i) 65535 (omega arith)); small = omega arith }
 

@@ -2,66 +2,50 @@
 use mathlib.Core.Path.{refl}
 use native.Mathlib.Omega.{arith}
 use lib.ListN.{length-set}
-use Rattle.frames.specs.Registers.{stored}
 use borrow.Author.Needs.{needs}
+use Rattle.frames.specs.Registers.{stored}
 use Rattle.frames.proofs.put_word.Statement.{statement}
 use Rattle.frames.proofs.put_word.Tie as tie
-use Rattle.frames.proofs.put_word.Reads as reads
-use Rattle.frames.proofs.put_word.Lts as lts
 
--- src/lib.rt:70:14
 mul-at : tie.Need-mul-at
 mul-at c = search needs
 
--- src/lib.rt:71:17
 cast-bytes : tie.Need-cast-bytes
 cast-bytes c = search needs
 
--- src/lib.rt:71:5
 slice-write-bytes : tie.Need-slice-write-bytes
 slice-write-bytes c = search needs
 
--- src/lib.rt:72:21
 cast-bytes-2 : tie.Need-cast-bytes-2
 cast-bytes-2 c = search needs
 
--- src/lib.rt:72:11
 add-bytes : tie.Need-add-bytes
 add-bytes c = search needs
 
--- src/lib.rt:72:5
 slice-write-bytes-2 : tie.Need-slice-write-bytes-2
 slice-write-bytes-2 c = simp length-set (omega arith)
 
--- src/lib.rt:73:21
 cast-bytes-3 : tie.Need-cast-bytes-3
 cast-bytes-3 c = search needs
 
--- src/lib.rt:73:11
 add-bytes-2 : tie.Need-add-bytes-2
 add-bytes-2 c = search needs
 
--- src/lib.rt:73:5
 slice-write-bytes-3 : tie.Need-slice-write-bytes-3
 slice-write-bytes-3 c = simp length-set (omega arith)
 
--- src/lib.rt:74:21
 cast-bytes-4 : tie.Need-cast-bytes-4
 cast-bytes-4 c = search needs
 
--- src/lib.rt:74:11
 add-bytes-3 : tie.Need-add-bytes-3
 add-bytes-3 c = search needs
 
--- src/lib.rt:74:5
 slice-write-bytes-4 : tie.Need-slice-write-bytes-4
 slice-write-bytes-4 c = simp length-set (omega arith)
 
--- src/lib.rt:66:1
 same-length : tie.Need-same-length
 same-length c = search needs
 
--- src/lib.rt:66:1
 returns : tie.Need-returns
 returns c = stored _ _ _ _ (omega arith) refl
 

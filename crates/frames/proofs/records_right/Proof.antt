@@ -1,16 +1,12 @@
 -- The invariant: what all the records come to is what those that are left come to.
-use Rattle.frames.specs.Records.{Near, stackOf, read-none, read-end, read-on}
-use Rattle.model.specs.Control.{down}
-use mathlib.Core.Path.{_≡_, refl, ap, sym, _∙_}
+use mathlib.Core.Path.{_≡_, refl}
 use Prim.Native.Nat.{_≤_}
-use borrow.Author.Needs.{needs}
 use native.Mathlib.Omega.{arith}
+use borrow.Author.Needs.{needs}
+use Rattle.model.specs.Control.{down}
+use Rattle.frames.specs.Records.{Near, stackOf, read-none, read-end, read-on}
 use Rattle.frames.proofs.records_right.Statement.{statement}
 use Rattle.frames.proofs.records_right.Tie as tie
-use Rattle.frames.proofs.records_right.Reads as reads
-use Rattle.frames.proofs.records_right.Lts as lts
-use Rattle.frames.proofs.past.Reads as past-reads
-use Rattle.frames.proofs.record_at.Reads as record-at-reads
 
 abbrev Inv-loop : tie.InvT-loop
 Inv-loop file map table k lm lp ctl count left₀ s₀ left s = (left ≤ count) × Near s × (stackOf file map lm lp (down ctl count) s₀ ≡ stackOf file map lm lp (down ctl left) s)
@@ -18,43 +14,33 @@ Inv-loop file map table k lm lp ctl count left₀ s₀ left s = (left ≤ count)
 abbrev μ-loop : tie.MeasureT-loop
 μ-loop file map table k lm lp ctl count left₀ s₀ left s = left
 
--- src/lib.rt:403:5
 loop-holds : tie.Need-loop-holds Inv-loop μ-loop
 loop-holds c = (omega arith, c .before .before .before .pre .1, refl)
 
--- src/lib.rt:404:9
 sub-left : tie.Need-sub-left Inv-loop μ-loop
 sub-left c = omega arith
 
--- src/lib.rt:405:13
 record-at-requires : tie.Need-record-at-requires Inv-loop μ-loop
 record-at-requires c κs = let l = c .before .before .before .before .before .pre .2 in omega arith
 
--- src/lib.rt:406:13
-past-requires : tie.Need-past-requires Inv-loop μ-loop
-past-requires c κs = (c .before .before .before .before .before .before .pre .0, record { near = c .before .before .loop .inv .1; main = c .before .before .before .before .before .before .pre .4; ptr = c .before .before .before .before .before .before .pre .5; few = omega arith; small = c .record-at .ensures .small })
+read-record-requires : tie.Need-read-record-requires Inv-loop μ-loop
+read-record-requires c κs = (c .before .before .before .before .before .before .pre .0, record { near = c .before .before .loop .inv .1; main = c .before .before .before .before .before .before .pre .4; ptr = c .before .before .before .before .before .before .pre .5; few = omega arith; small = c .record-at .ensures .small })
 
--- src/lib.rt:408:24
 enum-known-found : tie.Need-enum-known-found Inv-loop μ-loop
 enum-known-found c = search needs
 
--- src/lib.rt:409:17
 returns : tie.Need-returns Inv-loop μ-loop
-returns c = read-end _ _ _ _ _ (c .before .before .before .before .before .before .before .before .before .before .args .count) _ (c .before .before .before .before .before .before .before .before .before .before .args .top) _ (c .before .before .before .before .before .before .loop .inv .2) _ _ (c .before .before .before .before .before .loop-test .taken) (c .before .before .before .before .record-at .ensures) (c .before .before .before .past .ensures) _ (c .before .found .given .1)
+returns c = read-end _ _ _ _ _ (c .before .before .before .before .before .before .before .before .before .before .args .count) _ (c .before .before .before .before .before .before .before .before .before .before .args .top) _ (c .before .before .before .before .before .before .loop .inv .2) _ _ (c .before .before .before .before .before .loop-test .taken) (c .before .before .before .before .record-at .ensures) (c .before .before .before .read-record .ensures) _ (c .before .found .given .1)
 
--- src/lib.rt:411:23
 enum-known-found-2 : tie.Need-enum-known-found-2 Inv-loop μ-loop
 enum-known-found-2 c = search needs
 
--- src/lib.rt:403:5
 loop-less : tie.Need-loop-less Inv-loop μ-loop
 loop-less c = omega arith
 
--- src/lib.rt:403:5
 loop-again : tie.Need-loop-again Inv-loop μ-loop
-loop-again c = let w = read-on _ _ _ _ _ (c .before .before .before .before .before .before .before .before .before .before .args .count) _ (c .before .before .before .before .before .before .before .before .before .before .args .top) _ (c .before .before .before .before .before .before .loop .inv .2) _ _ (c .before .before .before .before .before .loop-test .taken) (c .before .before .before .before .record-at .ensures) (c .before .before .before .past .ensures) _ (c .before .found2 .given .1) in (omega arith, w .0, w .1)
+loop-again c = let w = read-on _ _ _ _ _ (c .before .before .before .before .before .before .before .before .before .before .args .count) _ (c .before .before .before .before .before .before .before .before .before .before .args .top) _ (c .before .before .before .before .before .before .loop .inv .2) _ _ (c .before .before .before .before .before .loop-test .taken) (c .before .before .before .before .record-at .ensures) (c .before .before .before .read-record .ensures) _ (c .before .found2 .given .1) in (omega arith, w .0, w .1)
 
--- src/lib.rt:387:1
 returns-2 : tie.Need-returns-2 Inv-loop μ-loop
 returns-2 c = read-none _ _ _ _ _ (c .before .before .before .before .before .args .count) _ (c .before .before .before .before .before .args .top) _ (c .before .loop .inv .2) (c .loop-test .left)
 
@@ -67,7 +53,7 @@ records-right-spec =
     loop-holds
     sub-left
     record-at-requires
-    past-requires
+    read-record-requires
     enum-known-found
     returns
     enum-known-found-2

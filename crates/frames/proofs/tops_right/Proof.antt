@@ -1,45 +1,36 @@
 -- One test after the other.
-use Rattle.frames.specs.Audit.{tops-fails, tops-last}
+use mathlib.Core.Path.{ap}
+use Prim.Native.Nat.{ℕ}
 use native.Mathlib.Omega.{arith}
+use lib.Dec.{leb}
 use borrow.Author.Needs.{needs}
+use Rattle.frames.specs.Audit.{tops-fails, tops-last}
 use Rattle.frames.proofs.tops_right.Statement.{statement}
 use Rattle.frames.proofs.tops_right.Tie as tie
-use Rattle.frames.proofs.tops_right.Reads as reads
-use Rattle.frames.proofs.tops_right.Lts as lts
-use Rattle.frames.proofs.main_at.Reads as main-at-reads
-use Rattle.frames.proofs.ptr_at.Reads as ptr-at-reads
 
--- src/lib.rt:455:9
 returns : tie.Need-returns
 returns c = tops-fails _ _ _ 0 (c .if1 .taken)
 
--- src/lib.rt:457:21
 mul-if2 : tie.Need-mul-if2
 mul-if2 c = search needs
 
--- src/lib.rt:458:9
 returns-2 : tie.Need-returns-2
 returns-2 c = tops-fails _ _ _ 1 (c .if2 .taken)
 
--- src/lib.rt:461:9
 returns-3 : tie.Need-returns-3
 returns-3 c = tops-fails _ _ _ 2 (c .if3 .taken)
 
--- src/lib.rt:463:20
 main-at-requires : tie.Need-main-at-requires
 main-at-requires c κs = search needs
 
--- src/lib.rt:464:9
 returns-4 : tie.Need-returns-4
 returns-4 c = let e = c .before .before .main-at .ensures .is in let t = c .if4 .taken in tops-fails _ _ _ 3 (omega arith)
 
--- src/lib.rt:466:5
 ptr-at-requires : tie.Need-ptr-at-requires
 ptr-at-requires c κs = search needs
 
--- src/lib.rt:450:1
 returns-5 : tie.Need-returns-5
-returns-5 c = let e = c .before .before .before .before .main-at .ensures .is in let t = c .before .before .if4 .left in tops-last _ _ _ _ (c .before .before .before .before .before .before .before .before .before .before .if1 .left) (c .before .before .before .before .before .before .before .if2 .left) (c .before .before .before .before .before .if3 .left) (omega arith) (c .before .ptr-at .ensures .is)
+returns-5 c = let e = c .before .before .before .before .main-at .ensures .is in let t = c .before .before .if4 .left in tops-last _ _ _ _ (ap (λ (x : ℕ). leb x (c .before .before .before .before .before .before .before .before .before .before .before .before .before .args .regs .ptop)) (c .before .ptr-at .ensures .is)) (c .before .before .before .before .before .before .before .before .before .before .if1 .left, (c .before .before .before .before .before .before .before .if2 .left, (c .before .before .before .before .before .if3 .left, (omega arith, tt))))
 
 pub tops-right-spec : {M : Type 1} → statement M
 tops-right-spec =

@@ -1,86 +1,64 @@
 -- The word is the sum of its four bytes, each below 256.
 use native.Mathlib.Omega.{arith}
-use Rattle.model.specs.Control.{wordFrom}
 use borrow.Author.Needs.{needs}
+use Rattle.model.specs.Control.{wordFrom}
 use Rattle.frames.proofs.word_from.Statement.{statement}
 use Rattle.frames.proofs.word_from.Tie as tie
-use Rattle.frames.proofs.word_from.Reads as reads
-use Rattle.frames.proofs.word_from.Lts as lts
-use Rattle.frames.proofs.byte.Reads as byte-reads
 
--- src/lib.rt:45:14
 mul-at : tie.Need-mul-at
 mul-at c = search needs
 
--- src/lib.rt:46:21
 shared-slice-read-byte : tie.Need-shared-slice-read-byte
 shared-slice-read-byte c = search needs
 
--- src/lib.rt:46:16
 byte-requires : tie.Need-byte-requires
 byte-requires c κs = search needs
 
--- src/lib.rt:46:16
 mul-high : tie.Need-mul-high
 mul-high c = search needs
 
--- src/lib.rt:46:51
 add-byte : tie.Need-add-byte
 add-byte c = search needs
 
--- src/lib.rt:46:45
 shared-slice-read-byte-2 : tie.Need-shared-slice-read-byte-2
 shared-slice-read-byte-2 c = search needs
 
--- src/lib.rt:46:40
 byte-requires-2 : tie.Need-byte-requires-2
 byte-requires-2 c κs = search needs
 
--- src/lib.rt:46:16
 add-high : tie.Need-add-high
 add-high c = search needs
 
--- src/lib.rt:47:26
 add-byte-2 : tie.Need-add-byte-2
 add-byte-2 c = search needs
 
--- src/lib.rt:47:20
 shared-slice-read-byte-3 : tie.Need-shared-slice-read-byte-3
 shared-slice-read-byte-3 c = search needs
 
--- src/lib.rt:47:15
 byte-requires-3 : tie.Need-byte-requires-3
 byte-requires-3 c κs = search needs
 
--- src/lib.rt:47:15
 mul-low : tie.Need-mul-low
 mul-low c = search needs
 
--- src/lib.rt:47:54
 add-byte-3 : tie.Need-add-byte-3
 add-byte-3 c = search needs
 
--- src/lib.rt:47:48
 shared-slice-read-byte-4 : tie.Need-shared-slice-read-byte-4
 shared-slice-read-byte-4 c = search needs
 
--- src/lib.rt:47:43
 byte-requires-4 : tie.Need-byte-requires-4
 byte-requires-4 c κs = search needs
 
--- src/lib.rt:47:15
 add-low : tie.Need-add-low
 add-low c = search needs
 
--- src/lib.rt:48:5
 mul-result : tie.Need-mul-result
 mul-result c = search needs
 
--- src/lib.rt:48:5
 add-result : tie.Need-add-result
 add-result c = search needs
 
--- src/lib.rt:41:1
 returns : tie.Need-returns
 unfolding wordFrom
 returns c = let a = c .before .before .before .before .before .before .byte .ensures in let b = c .before .before .before .before .byte2 .ensures in let d = c .before .before .byte3 .ensures in let e = c .byte4 .ensures in record { is = omega arith; small = omega arith }

@@ -1,44 +1,32 @@
 -- One test after the other.
-use Rattle.frames.specs.Audit.{rest-fails, rest-last}
 use mathlib.Core.Path.{sym, _∙_}
 use borrow.Author.Tests.{not-true, not-false}
 use borrow.Author.Needs.{needs}
+use Rattle.frames.specs.Audit.{rest-fails, rest-last}
 use Rattle.frames.proofs.words_right.Statement.{statement}
 use Rattle.frames.proofs.words_right.Tie as tie
-use Rattle.frames.proofs.words_right.Reads as reads
-use Rattle.frames.proofs.words_right.Lts as lts
-use Rattle.frames.proofs.zeros_from.Reads as zeros-from-reads
-use Rattle.heap.proofs.audit_pointers.Reads as audit-pointers-reads
 
--- src/lib.rt:437:9
 zeros-from-requires : tie.Need-zeros-from-requires
 zeros-from-requires c κs = search needs
 
--- src/lib.rt:438:9
 returns : tie.Need-returns
 returns c = λ heap K. rest-fails _ 0 (sym (c .before .zeros-from .ensures) ∙ not-true _ (c .if1 .taken))
 
--- src/lib.rt:440:9
 zeros-from-requires-2 : tie.Need-zeros-from-requires-2
 zeros-from-requires-2 c κs = search needs
 
--- src/lib.rt:441:9
 returns-2 : tie.Need-returns-2
 returns-2 c = λ heap K. rest-fails _ 1 (sym (c .before .zeros-from2 .ensures) ∙ not-true _ (c .if2 .taken))
 
--- src/lib.rt:443:9
 zeros-from-requires-3 : tie.Need-zeros-from-requires-3
 zeros-from-requires-3 c κs = search needs
 
--- src/lib.rt:444:9
 returns-3 : tie.Need-returns-3
 returns-3 c = λ heap K. rest-fails _ 2 (sym (c .before .zeros-from3 .ensures) ∙ not-true _ (c .if3 .taken))
 
--- src/lib.rt:446:5
 audit-pointers-requires : tie.Need-audit-pointers-requires
 audit-pointers-requires c κs = search needs
 
--- src/lib.rt:434:1
 returns-4 : tie.Need-returns-4
 returns-4 c = λ heap K. rest-last _ _ (sym (c .before .before .before .before .before .before .zeros-from .ensures) ∙ not-false _ (c .before .before .before .before .before .if1 .left)) (sym (c .before .before .before .before .zeros-from2 .ensures) ∙ not-false _ (c .before .before .before .if2 .left)) (sym (c .before .before .zeros-from3 .ensures) ∙ not-false _ (c .before .if3 .left)) (c .audit-pointers .ensures _ K)
 
