@@ -1,7 +1,7 @@
 -- What the code leaves of a list is what the model says: records pushed and taken away, a view formed.
 use Prim.Native.Nat.{ℕ, suc, _+_, _-_, _*_, _/_}
-use mathlib.Core.Path.{_≡_, refl, ap, sym, _∙_}
-use mathlib.Core.List.{List, [], _∷_, _++_}
+use mathlib.Core.Path.{_≡_, ap, sym}
+use mathlib.Core.List.{List, [], _∷_}
 use native.Mathlib.Omega.{arith}
 use native.Mathlib.Numerals.{add-one}
 use lib.ListN.{length, set}
