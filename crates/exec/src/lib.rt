@@ -108,13 +108,15 @@ fn resume(guard: Guard, place: usize, handler: usize, state: usize) -> Regs
     requires { ⌜ (guard .mtop < 4096) × (1 ≤ handler) × (handler ≤ 1280) ⌝ }
     ensures { λ r. ⌜ r ≡ resumed guard place handler state ⌝ }
 {
+    let above = guard.mtop + 1;
+    let under = 5 * (handler - 1);
     Regs {
         place,
         frame: guard.frame,
         handler: guard.outer,
-        mtop: guard.mtop + 1,
+        mtop: above,
         ptop: guard.ptop,
-        ctop: 5 * (handler - 1),
+        ctop: under,
         state,
     }
 }
