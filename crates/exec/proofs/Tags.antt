@@ -7,7 +7,7 @@ use denote.Enum.Declared.{tagOf}
 use Rattle.model.proofs.Into as made
 use Rattle.model.proofs.Plan as planned
 use Rattle.model.specs.Control.{Machine}
-use Rattle.model.specs.Step.{applyInto, applied}
+use Rattle.model.specs.Step.{applyInto}
 use Rattle.model.specs.declared.Into.{Into}
 use Rattle.model.specs.declared.Into.the-variants as into
 use Rattle.model.specs.declared.Put.{Put}

@@ -6,7 +6,7 @@ use mathlib.Core.List.{List}
 use lib.ListN.{length, getD, set}
 use borrow.Author.Tests.{eq-eqb, ne-eqb}
 use Rattle.model.specs.Words.{wordAt, cut}
-use Rattle.model.specs.Calls.{mainMost}
+use Rattle.model.specs.Calls.{mainMost, ctlMost}
 use Rattle.model.specs.File.{fileMost, procsMost, headOf, operand}
 use Rattle.model.specs.Control.{Machine, machine, regs, recOf, recordWords}
 use Rattle.model.specs.Instructions.{mtop}
@@ -72,17 +72,25 @@ unfoldable pub guardAt : List ℕ → ℕ → Guard
 guardAt l n =
     record { at = recOf l n .w0; mtop = recOf l n .w1; ptop = recOf l n .w2; frame = recOf l n .w3; outer = recOf l n .w4 }
 
--- the table of the heads, and a handler's 160 and frame
+-- the registers in the handler
+abbrev pub resumed : Guard → ℕ → ℕ → ℕ → Regs
+resumed g place handler state = regs place (g .frame) (g .outer) (g .mtop + 1) (g .ptop) (recordWords * (handler - 1)) state
+
+-- the table of the heads, and a handler's 160 and frame: what its target is counted from
 pub record Targets (f table ctl : List ℕ) (at frame : ℕ) : Type 0 where
   pub heads : (n : ℕ) → n < procsMost → getD table n 0 ≡ headOf f n
+  -- heads lie in the file
   pub head-most : (n : ℕ) → headOf f n ≤ fileMost
+  -- a 160 stands there, and is not cut short
   pub operand : at + 2 < length f
+  -- the frame that opened it lies under it, and has its procedure's number
   pub frame-some : 1 ≤ frame
   pub frame-fits : recordWords * frame ≤ length ctl
   pub proc : recOf ctl frame .w2 < procsMost
 
--- what a raise asks for. An open handler's record lies on the stack, with a free word at its main top for the code that is pushed
+-- what a raise asks for, and what of that only where a handler is open
 pub record Caught (f table : List ℕ) (r : Regs) (main ctl : List ℕ) : Type 0 where
+  -- the checker counts the code that is pushed on the handler's main top
   pub main-top : recOf ctl (r .handler) .w1 < length main
   pub targets : Targets f table ctl (recOf ctl (r .handler) .w0) (recOf ctl (r .handler) .w3)
 
@@ -91,6 +99,7 @@ pub record Raises (f table : List ℕ) (r : Regs) (main ptr ctl : List ℕ) : Ty
   pub ptr-top : Topped (r .ptop) ptr
   pub ctl-top : Topped (r .ctop) ctl
   pub main-most : length main ≤ mainMost
+  pub ctl-most : length ctl ≤ ctlMost
   pub handler : recordWords * r .handler ≤ r .ctop
   pub caught : (r .handler ≡ 0 → ⊥) → Caught f table r main ctl
 
@@ -102,6 +111,7 @@ stands-raises f table m S C =
       ptr-top = S .ptr;
       ctl-top = S .ctl;
       main-most = S .main-most;
+      ctl-most = S .ctl-most;
       handler = S .handler;
       caught = C;
     }
@@ -113,24 +123,21 @@ module _ (f : List ℕ) (m : Machine) (code : ℕ) where
   unfolding endedOf raised
   uncaught-ends h = rw (eq-eqb (m .regs .handler) 0 h)
 
-  pub caught-ends : (g : Guard) (place : ℕ) (main ptr ctl : List ℕ) → (m .regs .handler ≡ 0 → ⊥) → g ≡ guardAt (m .ctl) (m .regs .handler) →
+  pub caught-ends : (g : Guard) (place : ℕ) (r : Regs) (main ptr ctl : List ℕ) → (m .regs .handler ≡ 0 → ⊥) → g ≡ guardAt (m .ctl) (m .regs .handler) →
       place ≡ headOf f (recOf (m .ctl) (g .frame) .w2) + operand f (g .at) →
+      r ≡ resumed g place (m .regs .handler) (m .regs .state) →
       main ≡ cut (g .mtop) (m .main) →
       ptr ≡ cut (g .ptop) (m .ptr) →
       ctl ≡ cut (recordWords * (m .regs .handler - 1)) (m .ctl) →
       ended
-      (record {
-        on = true;
-        code = 0;
-        regs = regs place (g .frame) (g .outer) (g .mtop + 1) (g .ptop) (recordWords * (m .regs .handler - 1)) (m .regs .state);
-      })
+      (record { on = true; code = 0; regs = r })
       (set main (g .mtop) code)
       ptr
       ctl
       (m .heap)
       ≡ endedOf m (raised f m code)
   unfolding endedOf raised caught guardAt
-  caught-ends g place main ptr ctl h eg e em ep ec = rw (ne-eqb (m .regs .handler) 0 h, e, em, ep, ec, eg)
+  caught-ends g place r main ptr ctl h eg e er em ep ec = rw (ne-eqb (m .regs .handler) 0 h, er, e, em, ep, ec, eg)
 
 -- its main top has a word, and its 160 leads to a place
 module _ (f table : List ℕ) (r : Regs) (main ptr ctl : List ℕ) (g : Guard) (R : Raises f table r main ptr ctl)

@@ -1,14 +1,14 @@
 // What a plan comes to: its writes applied, or its exception raised. Document 01's table of codes, and "A raise ..., all in one step".
 ghost use mathlib.Core.Path.{_≡_};
 ghost use mathlib.Core.List.{List};
-ghost use Prim.Native.Nat.{ℕ, _+_, _*_, _≤_};
+ghost use Prim.Native.Nat.{ℕ, _+_, _*_, _<_, _≤_};
 ghost use lib.ListN.{length};
 ghost use Rattle.model.specs.File.{operand, headOf};
 ghost use Rattle.model.specs.Control.{machine, recOf};
 ghost use Rattle.model.specs.Step.{applied, raised, settle};
 ghost use Rattle.writes.specs.Asks.{onwards};
 ghost use Rattle.exec.specs.Applies.{Applies};
-ghost use Rattle.exec.specs.Ended.{Targets, Raises, Settles, ended, endedOf, guardAt, codeOf};
+ghost use Rattle.exec.specs.Ended.{Targets, Raises, Settles, ended, endedOf, guardAt, resumed, codeOf};
 use model::Into;
 use model::Plan;
 use model::Put;
@@ -103,6 +103,24 @@ fn target(file: &[u8], table: &[usize; 64], ctl: &[u32], at: usize, frame: usize
     table[proc] + code::operand(file, at)
 }
 
+// The registers in the handler: the code lies on its main top, and its record is gone.
+fn resume(guard: Guard, place: usize, handler: usize, state: usize) -> Regs
+    requires { ⌜ (guard .mtop < 4096) × (1 ≤ handler) × (handler ≤ 1280) ⌝ }
+    ensures { λ r. ⌜ r ≡ resumed guard place handler state ⌝ }
+{
+    let above = guard.mtop + 1;
+    let under = 5 * (handler - 1);
+    Regs {
+        place,
+        frame: guard.frame,
+        handler: guard.outer,
+        mtop: above,
+        ptop: guard.ptop,
+        ctop: under,
+        state,
+    }
+}
+
 // Raises an exception, all in one step: frames and the handler's record go, both stacks are cut to its tops, the code is pushed.
 pub fn raise(
     file: &[u8],
@@ -132,16 +150,7 @@ pub fn raise(
     writes::cut_to(ptr, guard.ptop, regs.ptop);
     writes::cut_to(ctl, under, regs.ctop);
     main[top] = code;
-    let above = top + 1;
-    let next = Regs {
-        place,
-        frame: guard.frame,
-        handler: guard.outer,
-        mtop: above,
-        ptop: guard.ptop,
-        ctop: under,
-        state: regs.state,
-    };
+    let next = resume(guard, place, handler, regs.state);
     Outcome {
         on: true,
         code: 0,

@@ -5,7 +5,8 @@ use mathlib.Core.List.{List}
 use lib.ListN.{length, set}
 use lib.Dec.{eqb}
 use Rattle.model.specs.Choice.{if_then_else_}
-use Rattle.model.specs.Calls.{heapMost}
+use Rattle.model.specs.File.{fileMost}
+use Rattle.model.specs.Calls.{ptrMost, ctlMost, heapMost}
 use Rattle.model.specs.Heap.{markOf}
 use Rattle.model.specs.Control.{Machine, machine, regs, recordWords}
 use Rattle.model.specs.Step.{onward, mainCut, ptrCut, finished, returned}
@@ -17,10 +18,10 @@ use Rattle.writes.specs.Lists.{Topped}
 
 -- a record is pushed on the control stack
 pub record Pushes (r : Regs) (ctl : List ℕ) : Type 0 where
-  pub place : r .place < 4096
-  pub frame : r .frame ≤ 1280
-  pub handler : r .handler ≤ 1280
-  pub top : r .ctop ≤ 1280
+  pub place : r .place < fileMost
+  pub frame : r .frame ≤ ctlMost
+  pub handler : r .handler ≤ ctlMost
+  pub top : r .ctop ≤ ctlMost
   pub whole : r .ctop ≡ recordWords * (r .ctop / recordWords)
   pub room : r .ctop + recordWords ≤ length ctl
 
@@ -30,7 +31,7 @@ pub record Room (lm lp : ℕ) (heap : List ℕ) (r : Regs) (put : Put) : Type 0 
   pub main-fits : r .mtop ≤ lm
   pub pointers : put .at ≤ r .ptop
   pub ptr-fits : r .ptop ≤ lp
-  pub few : r .ptop ≤ 4096
+  pub few : r .ptop ≤ ptrMost
   pub free : markOf heap + (2 + ((r .ptop - put .at) + (r .mtop - put .mtop))) ≤ length heap
   pub heap-most : length heap ≤ heapMost
 

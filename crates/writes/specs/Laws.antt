@@ -1,11 +1,11 @@
 -- What the code leaves of a list is what the model says: records pushed and taken away, a view formed.
 use Prim.Native.Nat.{ℕ, suc, _+_, _-_, _*_, _/_}
-use mathlib.Core.Path.{_≡_, refl, ap, sym, _∙_}
-use mathlib.Core.List.{List, [], _∷_, _++_}
+use mathlib.Core.Path.{_≡_, ap, sym}
+use mathlib.Core.List.{List, [], _∷_}
 use native.Mathlib.Omega.{arith}
 use native.Mathlib.Numerals.{add-one}
-use lib.ListN.{length, set, length-set}
-use lib.Seq.{sets, slice, length-sets, length-slice}
+use lib.ListN.{length, set}
+use lib.Seq.{sets, slice, length-slice}
 use borrow.Author.Tests.{eq-eqb, ne-eqb}
 use Rattle.model.specs.Words.{wordAt, cut}
 use Rattle.model.specs.File.{operand, after}
@@ -64,26 +64,17 @@ form-words h h₁ h₂ ps ws n k en ek e₁ e₂ =
     (ap (λ (l : List ℕ). set l 0 (markOf h + (2 + (length ps + length ws))))
     (sym (sets-append ps ws (set (set h (markOf h) (16777216 + length ps)) (suc (markOf h)) (2 + (length ps + length ws))) (suc (suc (markOf h))))))
 
--- what is stored before the mark
-module _ (main ptr h : List ℕ) (r : Regs) (put : Put) where
-  abbrev head : List ℕ
-  head = set (set h (markOf h) (16777216 + (r .ptop - put .at))) (markOf h + 1) (2 + ((r .ptop - put .at) + (r .mtop - put .mtop)))
-
-  module _ (h₁ h₂ : List ℕ) (e₁ : h₁ ≡ sets head (markOf h + 2) (slice (put .at) (r .ptop) ptr))
-      (e₂ : h₂ ≡ sets h₁ (markOf h + 2 + (r .ptop - put .at)) (slice (put .mtop) (r .mtop) main)) where
-    pub form-long : length h₂ ≡ length h
-    form-long =
-        ap length e₂ ∙ length-sets h₁ (markOf h + 2 + (r .ptop - put .at)) (slice (put .mtop) (r .mtop) main)
-        ∙ ap length e₁
-        ∙ length-sets head (markOf h + 2) (slice (put .at) (r .ptop) ptr)
-        ∙ simp length-set
-
-    pub form-writes : Room (length main) (length ptr) h r put →
-        set h₂ 0 (markOf h + (2 + ((r .ptop - put .at) + (r .mtop - put .mtop))))
-        ≡ formed h (slice (put .at) (r .ptop) ptr) (slice (put .mtop) (r .mtop) main)
-    form-writes R =
-        form-words h h₁ h₂ (slice (put .at) (r .ptop) ptr) (slice (put .mtop) (r .mtop) main) (r .ptop - put .at) (r .mtop - put .mtop)
-        (sym (length-slice (put .at) (r .ptop) ptr (R .ptr-fits))) (sym (length-slice (put .mtop) (r .mtop) main (R .main-fits))) e₁ e₂
+pub form-writes : (main ptr h h₁ h₂ : List ℕ) (r : Regs) (put : Put) →
+    h₁ ≡ sets (set (set h (markOf h) (16777216 + (r .ptop - put .at))) (markOf h + 1) (2 + ((r .ptop - put .at) + (r .mtop - put .mtop))))
+    (markOf h + 2)
+    (slice (put .at) (r .ptop) ptr) →
+    h₂ ≡ sets h₁ (markOf h + 2 + (r .ptop - put .at)) (slice (put .mtop) (r .mtop) main) →
+    Room (length main) (length ptr) h r put →
+    set h₂ 0 (markOf h + (2 + ((r .ptop - put .at) + (r .mtop - put .mtop))))
+    ≡ formed h (slice (put .at) (r .ptop) ptr) (slice (put .mtop) (r .mtop) main)
+form-writes main ptr h h₁ h₂ r put e₁ e₂ R =
+    form-words h h₁ h₂ (slice (put .at) (r .ptop) ptr) (slice (put .mtop) (r .mtop) main) (r .ptop - put .at) (r .mtop - put .mtop)
+    (sym (length-slice (put .at) (r .ptop) ptr (R .ptr-fits))) (sym (length-slice (put .mtop) (r .mtop) main (R .main-fits))) e₁ e₂
 
 -- a plain write: the stacks cut, and a word stored
 module _ (put : Put) (m : Machine) (main ptr : List ℕ) (em : main ≡ mainCut put m) (ep : ptr ≡ ptrCut put m) where

@@ -5,7 +5,7 @@ use mathlib.Core.Path.{_≡_, refl, ap, sym, _∙_}
 use mathlib.Core.List.{List, [], _∷_, _++_}
 use native.Mathlib.Omega.{arith}
 use native.Mathlib.Numerals.{add-one}
-use lib.ListN.{length, getD, take, drop, set}
+use lib.ListN.{length, take, drop, set}
 use lib.Seq.{sets, slice, take-suc, drop-append-le, length-take-le, length-slice}
 use Rattle.model.specs.Words.{wordAt, cut}
 use Rattle.sound.specs.Lists.{Zero, length-cut, cut-zero}

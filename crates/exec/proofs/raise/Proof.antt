@@ -46,10 +46,10 @@ slice-write-main c =
     let S = c .before .before .before .before .before .before .before .before .before .before .before .before .before .before .before .before .before .before .before .before .before in
     rw (c .before .before .before .before .before .before .before .before .before .before .cut-to .ensures, length-cut) (guard-top (S .args .file .now) (S .args .table .now) (S .args .regs) (S .args .main .now) (S .args .ptr .now) (S .args .ctl .now) _ (S .pre) (c .before .before .before .before .before .before .before .before .before .before .before .before .before .before .before .before .if1 .left) (c .before .before .before .before .before .before .before .before .before .before .before .before .before .before .guard-at .ensures))
 
-add-above : tie.Need-add-above
-add-above c =
+resume-requires : tie.Need-resume-requires
+resume-requires c κs =
     let S = c .before .before .before .before .before .before .before .before .before .before .before .before .before .before .before .before .before .before .before .before .before in
-    omega (arith, S .pre .main-most, guard-top (S .args .file .now) (S .args .table .now) (S .args .regs) (S .args .main .now) (S .args .ptr .now) (S .args .ctl .now) _ (S .pre) (c .before .before .before .before .before .before .before .before .before .before .before .before .before .before .before .before .if1 .left) (c .before .before .before .before .before .before .before .before .before .before .before .before .before .before .guard-at .ensures))
+    (omega (arith, S .pre .main-most, guard-top (S .args .file .now) (S .args .table .now) (S .args .regs) (S .args .main .now) (S .args .ptr .now) (S .args .ctl .now) _ (S .pre) (c .before .before .before .before .before .before .before .before .before .before .before .before .before .before .before .before .if1 .left) (c .before .before .before .before .before .before .before .before .before .before .before .before .before .before .guard-at .ensures)), omega (arith, c .before .before .before .before .before .before .before .before .before .before .before .before .before .before .before .before .if1 .left), omega (arith, S .pre .handler, S .pre .ctl-top .fits, S .pre .ctl-most))
 
 same-length : tie.Need-same-length
 same-length c = search needs
@@ -62,8 +62,8 @@ same-length-3 c = search needs
 
 returns-2 : tie.Need-returns-2
 returns-2 c heap =
-    let S = c .before .before .before .before .before .before .before .before .before .before .before .before .before .before .before .before .before .before .before .before .before in
-    caught-ends (S .args .file .now) (machine (S .args .regs) (S .args .main .now) (S .args .ptr .now) (S .args .ctl .now) heap) (S .args .code) _ _ _ _ _ (c .before .before .before .before .before .before .before .before .before .before .before .before .before .before .before .before .if1 .left) (c .before .before .before .before .before .before .before .before .before .before .before .before .before .before .guard-at .ensures) (c .before .before .before .before .before .before .before .before .before .before .before .before .target .ensures) (c .before .before .before .before .before .before .before .before .before .before .cut-to .ensures) (c .before .before .before .before .before .before .cut-to2 .ensures) (c .before .before .cut-to3 .ensures)
+    let S = c .before .before .before .before .before .before .before .before .before .before .before .before .before .before .before .before .before .before .before .before .before .before in
+    caught-ends (S .args .file .now) (machine (S .args .regs) (S .args .main .now) (S .args .ptr .now) (S .args .ctl .now) heap) (S .args .code) _ _ _ _ _ _ (c .before .before .before .before .before .before .before .before .before .before .before .before .before .before .before .before .before .if1 .left) (c .before .before .before .before .before .before .before .before .before .before .before .before .before .before .before .guard-at .ensures) (c .before .before .before .before .before .before .before .before .before .before .before .before .before .target .ensures) (c .resume .ensures) (c .before .before .before .before .before .before .before .before .before .before .before .cut-to .ensures) (c .before .before .before .before .before .before .before .cut-to2 .ensures) (c .before .before .before .cut-to3 .ensures)
 
 pub raise-spec : {M : Type 1} → statement M
 raise-spec =
@@ -79,7 +79,7 @@ raise-spec =
     cut-to-requires-3
     mul-main
     slice-write-main
-    add-above
+    resume-requires
     same-length
     same-length-2
     same-length-3

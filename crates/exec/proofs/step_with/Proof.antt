@@ -1,5 +1,4 @@
 -- `exec::step_with` meets its contract: a write is applied, every other plan raises its code.
-use mathlib.Core.Path.{_∙_, ap, sym}
 use Rattle.model.specs.Control.{machine}
 use Rattle.model.specs.Step.{settle}
 use Rattle.exec.specs.Ended.{endedOf, settle-raised}

@@ -1,6 +1,6 @@
 -- `writes::cut_to` meets its contract: with the topmost word zeroed the stack is cut to one less, and a cut of that is a cut of the stack.
-use mathlib.Core.Path.{_≡_, ap, sym, _∙_}
-use Prim.Native.Nat.{ℕ, _-_, _<_}
+use mathlib.Core.Path.{_≡_, ap, _∙_}
+use Prim.Native.Nat.{ℕ, _-_}
 use native.Mathlib.Omega.{arith}
 use lib.ListN.{length, length-set}
 use Rattle.model.specs.Words.{cut}

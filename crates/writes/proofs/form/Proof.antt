@@ -2,7 +2,7 @@
 use native.Mathlib.Omega.{arith}
 use lib.ListN.{length-set}
 use lib.Seq.{length-sets}
-use Rattle.writes.specs.Laws.{form-long, form-writes}
+use Rattle.writes.specs.Laws.{form-writes}
 use borrow.Author.Needs.{needs}
 use Rattle.writes.proofs.form.Statement.{statement}
 use Rattle.writes.proofs.form.Tie as tie
@@ -72,19 +72,15 @@ cast-heap-2 : tie.Need-cast-heap-2
 cast-heap-2 c = search needs
 
 slice-write-heap-3 : tie.Need-slice-write-heap-3
-slice-write-heap-3 c =
-    let S = c .before .before .before .before .before .before .before .before .before .before .before .before .before .before in
-    omega (arith, form-long (S .args .main .now) (S .args .ptr .now) (S .args .heap .now) (S .args .regs) (S .args .put) _ _ (c .before .before .before .before .before .before .copy .ensures) (c .before .before .copy2 .ensures))
+slice-write-heap-3 c = omega (arith, c .before .before .copy2 .kept .0, simp length-set at (c .before .before .before .before .before .before .copy .kept .0))
 
 same-length : tie.Need-same-length
-same-length c =
-    let S = c .before .before .before .before .before .before .before .before .before .before .before .before .before .before in
-    simp length-set (form-long (S .args .main .now) (S .args .ptr .now) (S .args .heap .now) (S .args .regs) (S .args .put) _ _ (c .before .before .before .before .before .before .copy .ensures) (c .before .before .copy2 .ensures))
+same-length c = simp length-set (omega (arith, c .before .before .copy2 .kept .0, simp length-set at (c .before .before .before .before .before .before .copy .kept .0)))
 
 returns : tie.Need-returns
 returns c =
     let S = c .before .before .before .before .before .before .before .before .before .before .before .before .before .before in
-    form-writes (S .args .main .now) (S .args .ptr .now) (S .args .heap .now) (S .args .regs) (S .args .put) _ _ (c .before .before .before .before .before .before .copy .ensures) (c .before .before .copy2 .ensures) (S .pre)
+    form-writes (S .args .main .now) (S .args .ptr .now) (S .args .heap .now) _ _ (S .args .regs) (S .args .put) (c .before .before .before .before .before .before .copy .ensures) (c .before .before .copy2 .ensures) (S .pre)
 
 pub form-spec : {M : Type 1} → statement M
 form-spec =
