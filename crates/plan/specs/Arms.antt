@@ -6,7 +6,7 @@ use mathlib.Core.Path.{_≡_, refl, ap}
 use native.Mathlib.Omega.{arith}
 use lib.ListN.{length}
 use Rattle.model.specs.Words.{wordAt}
-use Rattle.model.specs.File.{byteAt, bodies, bodyOf, after, operand, operand2, insOf, insAt}
+use Rattle.model.specs.File.{byteAt, bodyOf, after, operand, operand2, insOf, insAt}
 use Rattle.model.specs.Checker.{basicEffect, effectOf}
 use Rattle.model.specs.Control.{Machine, mainBase, ptrBase}
 use Rattle.model.specs.Instructions.{mtop, ptop}

@@ -1,13 +1,11 @@
 -- What the machine gives when it plans a step, `Ready`: of a file that the checker passed and a sound state of it.
 use Prim.Native.Nat.{ℕ, suc, _+_, _-_, _*_, _<_, _≤_}
 use mathlib.Core.List.{List}
-use mathlib.Core.Logic.{_⊎_}
 use mathlib.Core.Path.{_≡_}
 use native.Mathlib.Omega.{arith}
 use lib.ListN.{length, getD}
-use Rattle.model.specs.Choice.{Mem}
 use Rattle.model.specs.Words.{wordAt}
-use Rattle.model.specs.File.{Ins, Basic, basic, local, assign, onMain, onPtr, call, byteAt, bodyOf, after, procs, headOf, insOf, insAt}
+use Rattle.model.specs.File.{Ins, basic, local, assign, onMain, onPtr, call, byteAt, bodyOf, after, procs, headOf, insOf, insAt}
 use Rattle.model.specs.Checker.{effectOf}
 use Rattle.model.specs.Heap.{Heap, Pointer}
 use Rattle.model.specs.Control.{Machine, mainBase, ptrBase}

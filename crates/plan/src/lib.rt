@@ -9,7 +9,7 @@ ghost use mathlib.Core.Path.{_≡_};
 ghost use mathlib.Core.List.{List};
 ghost use mathlib.Core.Logic.{_⊎_};
 ghost use Prim.Native.Nat.{ℕ, suc, _+_, _-_, _*_, _<_, _≤_};
-ghost use lib.ListN.{length, getD};
+ghost use lib.ListN.{length};
 ghost use Rattle.model.specs.Words.{wordAt};
 ghost use Rattle.model.specs.File as model;
 ghost use Rattle.model.specs.Control.{machine, recOf};
@@ -46,6 +46,47 @@ fn wide(w: u32) -> usize
     ensures { λ r. ⌜ Small 4294967296 w r ⌝ }
 {
     w as usize
+}
+
+// A pointer pushed by an instruction of one byte.
+fn pushes(regs: Regs, word: u32) -> Plan
+    requires { ⌜ (regs .place < 4096) × (regs .ptop ≤ 4096) ⌝ }
+    ensures { λ r. ⌜ r ≡ write Into.Pointer (regs .place + 1) (regs .mtop) (regs .ptop + 1) (regs .ptop) word ⌝ }
+{
+    writes(
+        Into::Pointer,
+        regs.place + 1,
+        regs.mtop,
+        regs.ptop + 1,
+        regs.ptop,
+        word,
+    )
+}
+
+// 1 and 3: forwards, backwards.
+fn jumps(file: &[u8], regs: Regs, kind: u8) -> Plan
+    requires { ⌜ Body (now file) (regs .place) 2 × ((kind ≡ 1) ⊎ (kind ≡ 3)) ⌝ }
+    ensures { λ r. ⌜ ((m p c h : List ℕ) → r ≡ planned (now (file .entry)) (machine regs m p c h) 3 kind) ⌝ }
+{
+    let place = regs.place;
+    if kind == 1 {
+        return writes(
+            Into::Nothing,
+            code::forwards(file, place),
+            regs.mtop,
+            regs.ptop,
+            0,
+            0,
+        );
+    }
+    writes(
+        Into::Nothing,
+        code::backwards(file, place),
+        regs.mtop,
+        regs.ptop,
+        0,
+        0,
+    )
 }
 
 // 2 and 5: forwards where the word is false; 5 keeps it then.
@@ -432,22 +473,7 @@ pub fn plan_at(
     let place = regs.place;
     let kind = file[place];
     match kind {
-        1 => writes(
-            Into::Nothing,
-            code::forwards(file, place),
-            regs.mtop,
-            regs.ptop,
-            0,
-            0,
-        ),
-        3 => writes(
-            Into::Nothing,
-            code::backwards(file, place),
-            regs.mtop,
-            regs.ptop,
-            0,
-            0,
-        ),
+        1 | 3 => jumps(file, regs, kind),
         2 | 5 => on_false(file, main, regs, kind),
         4 | 6 => on_true(file, main, regs, kind),
         20 | 22 => main_locals(file, main, ctl, regs, kind),
@@ -456,22 +482,8 @@ pub fn plan_at(
         31 | 33 => ptr_fields(file, ptr, heap, regs, kind),
         36 => forms(file, heap, regs),
         54 | 56 => literals(file, regs, kind),
-        57 => writes(
-            Into::Pointer,
-            place + 1,
-            regs.mtop,
-            regs.ptop + 1,
-            regs.ptop,
-            0,
-        ),
-        58 => writes(
-            Into::Pointer,
-            place + 1,
-            regs.mtop,
-            regs.ptop + 1,
-            regs.ptop,
-            heap[1],
-        ),
+        57 => pushes(regs, 0),
+        58 => pushes(regs, heap[1]),
         59 => set_root(ptr, regs),
         60 | 62 | 64 => retracts(file, main, ptr, regs, kind),
         72 => calls(file, table, main, ptr, ctl, regs),
