@@ -9,7 +9,8 @@ use Rattle.model.specs.File.{bodies, bodyOf, insOf, insAt}
 use Rattle.model.specs.Instructions.{basicPlan, planOf, planAt}
 use Rattle.plan.specs.Arms.{place-in, place-small, main-within, ptr-within, record-in, body-here, body, pops-main, pops-ptr, main-word, ptr-word, drops, points, callee}
 use Rattle.plan.specs.Kinds.{every, ins-other}
-use Rattle.plan.specs.Ready.{planned, plan-is}
+use Rattle.plans.specs.Given.{planned}
+use Rattle.plan.specs.Ready.{plan-is}
 use Rattle.plan.proofs.plan_at.Statement.{statement}
 use Rattle.plan.proofs.plan_at.Tie as tie
 

@@ -1,0 +1,66 @@
+-- `plans::compare`: at each of the five codes the definition computes, and the comparison is the one that `words` ensures.
+use mathlib.Core.Logic.{⊎-elim}
+use mathlib.Core.Path.{_≡_}
+use borrow.Author.Needs.{needs}
+use Rattle.model.specs.File.{insOf}
+use Rattle.model.specs.Instructions.{basicPlan, planOf}
+use Rattle.plans.specs.Given.{Binary}
+use Rattle.plans.proofs.compare.Statement.{statement}
+use Rattle.plans.proofs.compare.Tie as tie
+
+eq-w-requires : tie.Need-eq-w-requires
+eq-w-requires c κs = search needs
+
+lt-requires : tie.Need-lt-requires
+lt-requires c κs = search needs
+
+le-requires : tie.Need-le-requires
+le-requires c κs = search needs
+
+gt-requires : tie.Need-gt-requires
+gt-requires c κs = search needs
+
+ge-requires : tie.Need-ge-requires
+ge-requires c κs = search needs
+
+returns : tie.Need-returns
+unfolding Binary planOf basicPlan insOf
+returns c = λ f p m q ea eb. rw (c .before .match .keys1, ea, eb, ← (c .eq-w .ensures))
+
+returns-2 : tie.Need-returns-2
+unfolding Binary planOf basicPlan insOf
+returns-2 c = λ f p m q ea eb. rw (c .before .match .keys2, ea, eb, ← (c .lt .ensures))
+
+returns-3 : tie.Need-returns-3
+unfolding Binary planOf basicPlan insOf
+returns-3 c = λ f p m q ea eb. rw (c .before .match .keys3, ea, eb, ← (c .le .ensures))
+
+returns-4 : tie.Need-returns-4
+unfolding Binary planOf basicPlan insOf
+returns-4 c = λ f p m q ea eb. rw (c .before .match .keys4, ea, eb, ← (c .gt .ensures))
+
+returns-5 : tie.Need-returns-5
+unfolding Binary planOf basicPlan insOf
+returns-5 c =
+    λ f p m q ea eb.
+    let n = c .before .match .rest in
+    let e : c .before .before .args .kind ≡ 204 =
+    ⊎-elim (λ e. absurd (n .0 .0 .0 .1 e))
+    (⊎-elim (λ e. absurd (n .0 .0 .1 e)) (⊎-elim (λ e. absurd (n .0 .1 e)) (⊎-elim (λ e. absurd (n .1 e)) (λ e. e)))) (c .before .before .pre)
+    in
+    rw (e, ea, eb, ← (c .ge .ensures))
+
+pub compare-spec : {M : Type 1} → statement M
+compare-spec =
+    tie.close
+    (tie.spec
+    eq-w-requires
+    lt-requires
+    le-requires
+    gt-requires
+    ge-requires
+    returns
+    returns-2
+    returns-3
+    returns-4
+    returns-5)
