@@ -6,15 +6,15 @@ use mathlib.Core.Path.{_≡_, refl, ap}
 use native.Mathlib.Omega.{arith}
 use lib.ListN.{length}
 use Rattle.model.specs.Words.{wordAt}
-use Rattle.model.specs.File.{byteAt, bodies, bodyOf, after, operand, operand2, insOf, insAt}
+use Rattle.model.specs.File.{byteAt, bodyOf, after, operand, operand2, insOf, insAt}
 use Rattle.model.specs.Checker.{basicEffect, effectOf}
 use Rattle.model.specs.Control.{Machine, mainBase, ptrBase}
 use Rattle.model.specs.Instructions.{mtop, ptop}
 use Rattle.heap.specs.Stores.{Lies, object-lies}
 use Rattle.code.specs.Bodies.{after-above}
+use Rattle.plans.specs.Given.{Body, Within, Record, Callee}
 use Rattle.plan.specs.Ready.{Ready, placeOf, here}
 use Rattle.plan.specs.Kinds.{OneOf, Every, every}
-use Rattle.plan.specs.Given.{Body, Within, Record, Callee}
 
 -- the code at the place
 abbrev pub codeAt : List ℕ → Machine → ℕ

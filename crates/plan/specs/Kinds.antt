@@ -76,8 +76,7 @@ arms =
     ∷ (20 ∷ 22 ∷ [])
     ∷ (4 ∷ 6 ∷ [])
     ∷ (2 ∷ 5 ∷ [])
-    ∷ (3 ∷ [])
-    ∷ (1 ∷ [])
+    ∷ (1 ∷ 3 ∷ [])
     ∷ []
 
 pub ins-other : (f : List ℕ) (p k : ℕ) → NoneOf arms k → insOf f p k ≡ raise

@@ -1,18 +1,16 @@
 -- What the machine gives when it plans a step, `Ready`: of a file that the checker passed and a sound state of it.
 use Prim.Native.Nat.{ℕ, suc, _+_, _-_, _*_, _<_, _≤_}
 use mathlib.Core.List.{List}
-use mathlib.Core.Logic.{_⊎_}
 use mathlib.Core.Path.{_≡_}
 use native.Mathlib.Omega.{arith}
 use lib.ListN.{length, getD}
-use Rattle.model.specs.Choice.{Mem}
 use Rattle.model.specs.Words.{wordAt}
-use Rattle.model.specs.File.{Ins, Basic, basic, local, assign, onMain, onPtr, call, byteAt, bodyOf, after, procs, headOf, insOf, insAt}
+use Rattle.model.specs.File.{Ins, basic, local, assign, onMain, onPtr, call, byteAt, bodyOf, after, procs, headOf, insAt}
 use Rattle.model.specs.Checker.{effectOf}
 use Rattle.model.specs.Heap.{Heap, Pointer}
 use Rattle.model.specs.Control.{Machine, mainBase, ptrBase}
-use Rattle.model.specs.Instructions.{mtop, ptop, planOf, planAt}
-use Rattle.model.specs.declared.Plan.{Plan}
+use Rattle.model.specs.Instructions.{mtop, ptop, planAt}
+use Rattle.plans.specs.Given.{planned}
 
 -- where the machine is
 abbrev pub placeOf : Machine → ℕ
@@ -60,11 +58,7 @@ pub record Ready (f table : List ℕ) (m : Machine) : Type 0 where
   pub heap : Heap (m .heap) objects
   pub pointers : (i : ℕ) → Pointer objects (wordAt (m .ptr) i)
 
--- the plan of code k at the machine's place, its record being n bytes long
-unfoldable pub planned : List ℕ → Machine → ℕ → ℕ → Plan
-planned f m n k = planOf f m (placeOf m + n) (insOf f (placeOf m) k)
-
--- which the code at the place is
+-- the plan at the place is that of its code
 pub plan-is : (f : List ℕ) (m : Machine) (k n : ℕ) → byteAt f (placeOf m) ≡ k → bodyOf k ≡ n → planned f m (suc n) k ≡ planAt f m
 unfolding planned planAt after insAt
 plan-is f m k n e b = let s : placeOf m + suc n ≡ placeOf m + 1 + bodyOf k = omega arith in rw (e, s)

@@ -2,98 +2,19 @@
 // here. Codes of one family share a function; the match lists no neighbours in one arm, so that it is one jump by table.
 use model::Into;
 use model::Plan;
-use model::Put;
 use model::Regs;
-use model::Value;
 ghost use mathlib.Core.Path.{_≡_};
 ghost use mathlib.Core.List.{List};
 ghost use mathlib.Core.Logic.{_⊎_};
-ghost use Prim.Native.Nat.{ℕ, suc, _+_, _-_, _*_, _<_, _≤_};
-ghost use lib.ListN.{length, getD};
+ghost use Prim.Native.Nat.{ℕ, suc, _+_, _-_, _<_, _≤_};
+ghost use lib.ListN.{length};
 ghost use Rattle.model.specs.Words.{wordAt};
 ghost use Rattle.model.specs.File as model;
 ghost use Rattle.model.specs.Control.{machine, recOf};
-ghost use Rattle.model.specs.Instructions.{write, onValue, planAt};
-ghost use Rattle.plan.specs.Ready.{Ready, planned};
-ghost use Rattle.code.specs.Parts.{Small};
+ghost use Rattle.model.specs.Instructions.{planAt};
 ghost use Rattle.heap.specs.Stores.{Lies};
-ghost use Rattle.plan.specs.Given.{Body, Within, Record, Callee, Binary};
-
-fn writes(into: Into, place: usize, mtop: usize, ptop: usize, at: usize, word: u32) -> Plan
-    ensures { λ r. ⌜ r ≡ write into place mtop ptop at word ⌝ }
-{
-    Plan::Write(Put {
-        into,
-        place,
-        mtop,
-        ptop,
-        at,
-        word,
-    })
-}
-
-// A result on the main stack, or exception 1.
-fn result(value: Value, place: usize, mtop: usize, ptop: usize, at: usize) -> Plan
-    ensures { λ r. ⌜ r ≡ onValue value (λ w. write Into.Main place mtop ptop at w) ⌝ }
-{
-    match value {
-        Value::Word(w) => writes(Into::Main, place, mtop, ptop, at, w),
-        Value::Outside => Plan::Overflow,
-    }
-}
-
-fn wide(w: u32) -> usize
-    ensures { λ r. ⌜ Small 4294967296 w r ⌝ }
-{
-    w as usize
-}
-
-// 2 and 5: forwards where the word is false; 5 keeps it then.
-fn on_false(file: &[u8], main: &[u32], regs: Regs, kind: u8) -> Plan
-    requires { ⌜ Body (now file) (regs .place) 2 × Within (now main) (regs .mtop) × (1 ≤ regs .mtop) × ((kind ≡ 2) ⊎ (kind ≡ 5)) ⌝ }
-    ensures { λ r. ⌜ ((p c h : List ℕ) → r ≡ planned (now (file .entry)) (machine regs (now (main .entry)) p c h) 3 kind) ⌝ }
-{
-    let place = regs.place;
-    let top = regs.mtop - 1;
-    if main[top] != 0 {
-        return writes(Into::Nothing, place + 3, top, regs.ptop, 0, 0);
-    }
-    let target = code::forwards(file, place);
-    if kind == 2 {
-        return writes(Into::Nothing, target, top, regs.ptop, 0, 0);
-    }
-    writes(Into::Nothing, target, regs.mtop, regs.ptop, 0, 0)
-}
-
-// 4 and 6: where the word is true, 4 backwards, 6 forwards and keeps it.
-fn on_true(file: &[u8], main: &[u32], regs: Regs, kind: u8) -> Plan
-    requires { ⌜ Body (now file) (regs .place) 2 × Within (now main) (regs .mtop) × (1 ≤ regs .mtop) × ((kind ≡ 4) ⊎ (kind ≡ 6)) ⌝ }
-    ensures { λ r. ⌜ ((p c h : List ℕ) → r ≡ planned (now (file .entry)) (machine regs (now (main .entry)) p c h) 3 kind) ⌝ }
-{
-    let place = regs.place;
-    let top = regs.mtop - 1;
-    if main[top] == 0 {
-        return writes(Into::Nothing, place + 3, top, regs.ptop, 0, 0);
-    }
-    if kind == 4 {
-        return writes(
-            Into::Nothing,
-            code::backwards(file, place),
-            top,
-            regs.ptop,
-            0,
-            0,
-        );
-    }
-    writes(
-        Into::Nothing,
-        code::forwards(file, place),
-        regs.mtop,
-        regs.ptop,
-        0,
-        0,
-    )
-}
+ghost use Rattle.plans.specs.Given.{planned, Body, Within, Record};
+ghost use Rattle.plan.specs.Ready.{Ready};
 
 // 20 and 22: word s of the frame.
 fn main_locals(file: &[u8], main: &[u32], ctl: &[u32], regs: Regs, kind: u8) -> Plan
@@ -104,12 +25,12 @@ fn main_locals(file: &[u8], main: &[u32], ctl: &[u32], regs: Regs, kind: u8) -> 
     let place = regs.place;
     let top = regs.mtop;
     let frame = 5 * (regs.frame - 1);
-    let at = wide(ctl[frame]) + code::operand(file, place);
+    let at = plans::wide(ctl[frame]) + code::operand(file, place);
     if kind == 20 {
-        return writes(Into::Main, place + 3, top + 1, regs.ptop, top, main[at]);
+        return plans::writes(Into::Main, place + 3, top + 1, regs.ptop, top, main[at]);
     }
     let rest = top - 1;
-    writes(Into::Main, place + 3, rest, regs.ptop, at, main[rest])
+    plans::writes(Into::Main, place + 3, rest, regs.ptop, at, main[rest])
 }
 
 // 21 and 23: the same on the pointer stack.
@@ -121,12 +42,12 @@ fn ptr_locals(file: &[u8], ptr: &[u32], ctl: &[u32], regs: Regs, kind: u8) -> Pl
     let place = regs.place;
     let top = regs.ptop;
     let frame = 5 * (regs.frame - 1) + 1;
-    let at = wide(ctl[frame]) + code::operand(file, place);
+    let at = plans::wide(ctl[frame]) + code::operand(file, place);
     if kind == 21 {
-        return writes(Into::Pointer, place + 3, regs.mtop, top + 1, top, ptr[at]);
+        return plans::writes(Into::Pointer, place + 3, regs.mtop, top + 1, top, ptr[at]);
     }
     let rest = top - 1;
-    writes(Into::Pointer, place + 3, regs.mtop, rest, at, ptr[rest])
+    plans::writes(Into::Pointer, place + 3, regs.mtop, rest, at, ptr[rest])
 }
 
 // 30 and 32: a plain word of an object.
@@ -138,7 +59,7 @@ fn plain_fields(file: &[u8], main: &[u32], ptr: &[u32], heap: &[u32], regs: Regs
 {
     let place = regs.place;
     let top = regs.ptop - 1;
-    let object = wide(ptr[top]);
+    let object = plans::wide(ptr[top]);
     if object == 0 {
         return Plan::NilObject;
     }
@@ -148,7 +69,7 @@ fn plain_fields(file: &[u8], main: &[u32], ptr: &[u32], heap: &[u32], regs: Regs
     }
     let at = object + s;
     if kind == 30 {
-        return writes(
+        return plans::writes(
             Into::Main,
             place + 3,
             regs.mtop + 1,
@@ -158,7 +79,7 @@ fn plain_fields(file: &[u8], main: &[u32], ptr: &[u32], heap: &[u32], regs: Regs
         );
     }
     let value = regs.mtop - 1;
-    writes(Into::Heap, place + 3, value, top, at, main[value])
+    plans::writes(Into::Heap, place + 3, value, top, at, main[value])
 }
 
 // 31 and 33: a pointer word of an object.
@@ -170,7 +91,7 @@ fn ptr_fields(file: &[u8], ptr: &[u32], heap: &[u32], regs: Regs, kind: u8) -> P
 {
     let place = regs.place;
     let top = regs.ptop - 1;
-    let view = wide(ptr[top]);
+    let view = plans::wide(ptr[top]);
     if view == 0 {
         return Plan::NilObject;
     }
@@ -180,7 +101,7 @@ fn ptr_fields(file: &[u8], ptr: &[u32], heap: &[u32], regs: Regs, kind: u8) -> P
     }
     let slot = view + s;
     if kind == 31 {
-        return writes(
+        return plans::writes(
             Into::Pointer,
             place + 3,
             regs.mtop,
@@ -190,7 +111,7 @@ fn ptr_fields(file: &[u8], ptr: &[u32], heap: &[u32], regs: Regs, kind: u8) -> P
         );
     }
     let value = regs.ptop - 2;
-    writes(Into::Heap, place + 3, regs.mtop, value, slot, ptr[value])
+    plans::writes(Into::Heap, place + 3, regs.mtop, value, slot, ptr[value])
 }
 
 // 36: a new view.
@@ -203,11 +124,11 @@ fn forms(file: &[u8], heap: &[u32], regs: Regs) -> Plan
     let plain = code::operand(file, place);
     let ptrs = code::operand2(file, place);
     let mark = heap[0];
-    if heap.len() < wide(mark) + (2 + plain + ptrs) {
+    if heap.len() < plans::wide(mark) + (2 + plain + ptrs) {
         return Plan::HeapFull;
     }
     let at = regs.ptop - ptrs;
-    writes(Into::View, place + 5, regs.mtop - plain, at + 1, at, mark)
+    plans::writes(Into::View, place + 5, regs.mtop - plain, at + 1, at, mark)
 }
 
 // 54 and 56: a literal.
@@ -220,9 +141,9 @@ fn literals(file: &[u8], regs: Regs, kind: u8) -> Plan
     if kind == 54 {
         let at = place + 1;
         let word = code::signed_byte(file[at]);
-        return writes(Into::Main, place + 2, top + 1, regs.ptop, top, word);
+        return plans::writes(Into::Main, place + 2, top + 1, regs.ptop, top, word);
     }
-    writes(
+    plans::writes(
         Into::Main,
         place + 5,
         top + 1,
@@ -238,7 +159,7 @@ fn set_root(ptr: &[u32], regs: Regs) -> Plan
     ensures { λ r. ⌜ ((f m c h : List ℕ) → r ≡ planned f (machine regs m (now (ptr .entry)) c h) 1 59) ⌝ }
 {
     let top = regs.ptop - 1;
-    writes(Into::Heap, regs.place + 1, regs.mtop, top, 1, ptr[top])
+    plans::writes(Into::Heap, regs.place + 1, regs.mtop, top, 1, ptr[top])
 }
 
 // 60, 62 and 64: drops words under the one set aside.
@@ -255,65 +176,14 @@ fn retracts(file: &[u8], main: &[u32], ptr: &[u32], regs: Regs, kind: u8) -> Pla
     match kind {
         60 => {
             let top = regs.mtop - 1;
-            writes(Into::Main, place + 5, m, q, m - 1, main[top])
+            plans::writes(Into::Main, place + 5, m, q, m - 1, main[top])
         }
         62 => {
             let top = regs.ptop - 1;
-            writes(Into::Pointer, place + 5, m, q, q - 1, ptr[top])
+            plans::writes(Into::Pointer, place + 5, m, q, q - 1, ptr[top])
         }
-        _ => writes(Into::Nothing, place + 5, m, q, 0, 0),
+        _ => plans::writes(Into::Nothing, place + 5, m, q, 0, 0),
     }
-}
-
-// 72: the callee's frame begins with its parameters.
-fn calls(
-    file: &[u8],
-    table: &[usize; 64],
-    main: &[u32],
-    ptr: &[u32],
-    ctl: &[u32],
-    regs: Regs,
-) -> Plan
-    requires { ⌜ Body (now file) (regs .place) 2 × Within (now main) (regs .mtop) × Within (now ptr) (regs .ptop)
-        × (regs .ctop ≤ 1280) × Callee (now file) (now table) regs ⌝ }
-    ensures { λ r. ⌜ ((h : List ℕ) → r ≡ planned (now (file .entry)) (machine regs (now (main .entry)) (now (ptr .entry)) (now (ctl .entry)) h) 3 72) ⌝ }
-{
-    let s = code::operand(file, regs.place);
-    let h = table[s];
-    let head = code::head_at(file, h);
-    let m = regs.mtop - head.a;
-    let q = regs.ptop - head.b;
-    if main.len() < m + head.x {
-        return Plan::NoRoom;
-    }
-    if ptr.len() < q + head.y {
-        return Plan::NoRoom;
-    }
-    if ctl.len() < regs.ctop + 5 {
-        return Plan::NoRoom;
-    }
-    writes(Into::Frame, h + 7, regs.mtop, regs.ptop, m, q as u32)
-}
-
-// 73: back to the return place.
-fn leaves(ctl: &[u32], regs: Regs) -> Plan
-    requires { ⌜ Record (now ctl) (regs .frame) ⌝ }
-    ensures { λ r. ⌜ ((f m p h : List ℕ) → r ≡ planned f (machine regs m p (now (ctl .entry)) h) 1 73) ⌝ }
-{
-    let at = 5 * (regs.frame - 1) + 3;
-    let place = wide(ctl[at]);
-    writes(Into::Return, place, regs.mtop, regs.ptop, 0, 0)
-}
-
-// 160: a handler's record.
-fn opens(ctl: &[u32], regs: Regs) -> Plan
-    requires { ⌜ (regs .place < 4096) × (regs .ctop ≤ 1280) ⌝ }
-    ensures { λ r. ⌜ ((f m p h : List ℕ) → r ≡ planned f (machine regs m p (now (ctl .entry)) h) 3 160) ⌝ }
-{
-    if ctl.len() < regs.ctop + 5 {
-        return Plan::NoRoom;
-    }
-    writes(Into::Handler, regs.place + 3, regs.mtop, regs.ptop, 0, 0)
 }
 
 // 131: two pointers are the same.
@@ -324,7 +194,7 @@ fn same_ptr(ptr: &[u32], regs: Regs) -> Plan
     let second = regs.ptop - 1;
     let first = regs.ptop - 2;
     let word = words::eq_w(ptr[first], ptr[second]);
-    writes(
+    plans::writes(
         Into::Main,
         regs.place + 1,
         regs.mtop + 1,
@@ -332,88 +202,6 @@ fn same_ptr(ptr: &[u32], regs: Regs) -> Plan
         regs.mtop,
         word,
     )
-}
-
-fn compare(kind: u8, a: u32, b: u32) -> u32
-    requires { ⌜ (kind ≡ 130) ⊎ ((kind ≡ 195) ⊎ ((kind ≡ 198) ⊎ ((kind ≡ 201) ⊎ (kind ≡ 204)))) ⌝ }
-    ensures { λ r. ⌜ Binary kind a b (Value.Word r) ⌝ }
-{
-    match kind {
-        130 => words::eq_w(a, b),
-        195 => words::lt(a, b),
-        198 => words::le(a, b),
-        201 => words::gt(a, b),
-        _ => words::ge(a, b),
-    }
-}
-
-// 130, 195, 198, 201 and 204.
-fn compares(main: &[u32], regs: Regs, kind: u8) -> Plan
-    requires { ⌜ (regs .place < 4096) × Within (now main) (regs .mtop) × (2 ≤ regs .mtop)
-        × ((kind ≡ 130) ⊎ ((kind ≡ 195) ⊎ ((kind ≡ 198) ⊎ ((kind ≡ 201) ⊎ (kind ≡ 204))))) ⌝ }
-    ensures { λ r. ⌜ ((f p c h : List ℕ) → r ≡ planned f (machine regs (now (main .entry)) p c h) 1 kind) ⌝ }
-{
-    let top = regs.mtop - 1;
-    let at = regs.mtop - 2;
-    let word = compare(kind, main[at], main[top]);
-    writes(Into::Main, regs.place + 1, top, regs.ptop, at, word)
-}
-
-fn sum(kind: u8, a: u32, b: u32) -> Value
-    requires { ⌜ (kind ≡ 140) ⊎ (kind ≡ 142) ⌝ }
-    ensures { λ r. ⌜ Binary kind a b r ⌝ }
-{
-    if kind == 140 {
-        return words::plus(a, b);
-    }
-    words::minus(a, b)
-}
-
-// 140 and 142.
-fn sums(main: &[u32], regs: Regs, kind: u8) -> Plan
-    requires { ⌜ (regs .place < 4096) × Within (now main) (regs .mtop) × (2 ≤ regs .mtop) × ((kind ≡ 140) ⊎ (kind ≡ 142)) ⌝ }
-    ensures { λ r. ⌜ ((f p c h : List ℕ) → r ≡ planned f (machine regs (now (main .entry)) p c h) 1 kind) ⌝ }
-{
-    let top = regs.mtop - 1;
-    let at = regs.mtop - 2;
-    let value = sum(kind, main[at], main[top]);
-    result(value, regs.place + 1, top, regs.ptop, at)
-}
-
-fn product(kind: u8, a: u32, b: u32) -> Value
-    requires { ⌜ (kind ≡ 141) ⊎ ((kind ≡ 143) ⊎ (kind ≡ 145)) ⌝ }
-    ensures { λ r. ⌜ Binary kind a b r ⌝ }
-{
-    match kind {
-        141 => words::times(a, b),
-        143 => words::div(a, b),
-        _ => words::rem(a, b),
-    }
-}
-
-// 141, 143 and 145.
-fn products(main: &[u32], regs: Regs, kind: u8) -> Plan
-    requires { ⌜ (regs .place < 4096) × Within (now main) (regs .mtop) × (2 ≤ regs .mtop) × ((kind ≡ 141) ⊎ ((kind ≡ 143) ⊎ (kind ≡ 145))) ⌝ }
-    ensures { λ r. ⌜ ((f p c h : List ℕ) → r ≡ planned f (machine regs (now (main .entry)) p c h) 1 kind) ⌝ }
-{
-    let top = regs.mtop - 1;
-    let at = regs.mtop - 2;
-    let value = product(kind, main[at], main[top]);
-    result(value, regs.place + 1, top, regs.ptop, at)
-}
-
-// 144 and 146.
-fn unaries(main: &[u32], regs: Regs, kind: u8) -> Plan
-    requires { ⌜ (regs .place < 4096) × Within (now main) (regs .mtop) × (1 ≤ regs .mtop) × ((kind ≡ 144) ⊎ (kind ≡ 146)) ⌝ }
-    ensures { λ r. ⌜ ((f p c h : List ℕ) → r ≡ planned f (machine regs (now (main .entry)) p c h) 1 kind) ⌝ }
-{
-    let place = regs.place + 1;
-    let at = regs.mtop - 1;
-    let a = main[at];
-    if kind == 144 {
-        return result(words::neg(a), place, regs.mtop, regs.ptop, at);
-    }
-    writes(Into::Main, place, regs.mtop, regs.ptop, at, words::not(a))
 }
 
 // The plan of the instruction at the machine's place; table holds the procedures' heads.
@@ -432,57 +220,28 @@ pub fn plan_at(
     let place = regs.place;
     let kind = file[place];
     match kind {
-        1 => writes(
-            Into::Nothing,
-            code::forwards(file, place),
-            regs.mtop,
-            regs.ptop,
-            0,
-            0,
-        ),
-        3 => writes(
-            Into::Nothing,
-            code::backwards(file, place),
-            regs.mtop,
-            regs.ptop,
-            0,
-            0,
-        ),
-        2 | 5 => on_false(file, main, regs, kind),
-        4 | 6 => on_true(file, main, regs, kind),
+        1 | 3 => plans::jumps(file, regs, kind),
+        2 | 5 => plans::on_false(file, main, regs, kind),
+        4 | 6 => plans::on_true(file, main, regs, kind),
         20 | 22 => main_locals(file, main, ctl, regs, kind),
         21 | 23 => ptr_locals(file, ptr, ctl, regs, kind),
         30 | 32 => plain_fields(file, main, ptr, heap, regs, kind),
         31 | 33 => ptr_fields(file, ptr, heap, regs, kind),
         36 => forms(file, heap, regs),
         54 | 56 => literals(file, regs, kind),
-        57 => writes(
-            Into::Pointer,
-            place + 1,
-            regs.mtop,
-            regs.ptop + 1,
-            regs.ptop,
-            0,
-        ),
-        58 => writes(
-            Into::Pointer,
-            place + 1,
-            regs.mtop,
-            regs.ptop + 1,
-            regs.ptop,
-            heap[1],
-        ),
+        57 => plans::pushes(regs, 0),
+        58 => plans::pushes(regs, heap[1]),
         59 => set_root(ptr, regs),
         60 | 62 | 64 => retracts(file, main, ptr, regs, kind),
-        72 => calls(file, table, main, ptr, ctl, regs),
-        73 => leaves(ctl, regs),
-        130 | 195 | 198 | 201 | 204 => compares(main, regs, kind),
+        72 => plans::calls(file, table, main, ptr, ctl, regs),
+        73 => plans::leaves(ctl, regs),
+        130 | 195 | 198 | 201 | 204 => plans::compares(main, regs, kind),
         131 => same_ptr(ptr, regs),
-        140 | 142 => sums(main, regs, kind),
-        141 | 143 | 145 => products(main, regs, kind),
-        144 | 146 => unaries(main, regs, kind),
-        160 => opens(ctl, regs),
-        161 => writes(Into::Close, place + 1, regs.mtop, regs.ptop, 0, 0),
+        140 | 142 => plans::sums(main, regs, kind),
+        141 | 143 | 145 => plans::products(main, regs, kind),
+        144 | 146 => plans::unaries(main, regs, kind),
+        160 => plans::opens(ctl, regs),
+        161 => plans::writes(Into::Close, place + 1, regs.mtop, regs.ptop, 0, 0),
         _ => Plan::Thrown,
     }
 }

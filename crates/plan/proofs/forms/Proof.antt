@@ -7,7 +7,7 @@ use borrow.Author.Tests.{le-leb, lt-leb}
 use Rattle.model.specs.File.{operand, operand2, insOf}
 use Rattle.model.specs.Heap.{markOf}
 use Rattle.model.specs.Instructions.{basicPlan, planOf}
-use Rattle.plan.specs.Ready.{planned}
+use Rattle.plans.specs.Given.{planned}
 use Rattle.plan.proofs.forms.Statement.{statement}
 use Rattle.plan.proofs.forms.Tie as tie
 

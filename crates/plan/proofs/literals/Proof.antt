@@ -5,7 +5,7 @@ use native.Mathlib.Omega.{arith}
 use borrow.Author.Needs.{needs}
 use Rattle.model.specs.File.{bodies, bodyOf, insOf}
 use Rattle.model.specs.Instructions.{basicPlan, planOf}
-use Rattle.plan.specs.Ready.{planned}
+use Rattle.plans.specs.Given.{planned}
 use Rattle.plan.proofs.literals.Statement.{statement}
 use Rattle.plan.proofs.literals.Tie as tie
 

@@ -9,66 +9,54 @@ use Rattle.model.specs.File.{bodies, bodyOf, insOf, insAt}
 use Rattle.model.specs.Instructions.{basicPlan, planOf, planAt}
 use Rattle.plan.specs.Arms.{place-in, place-small, main-within, ptr-within, record-in, body-here, body, pops-main, pops-ptr, main-word, ptr-word, drops, points, callee}
 use Rattle.plan.specs.Kinds.{every, ins-other}
-use Rattle.plan.specs.Ready.{planned, plan-is}
+use Rattle.plans.specs.Given.{planned}
+use Rattle.plan.specs.Ready.{plan-is}
 use Rattle.plan.proofs.plan_at.Statement.{statement}
 use Rattle.plan.proofs.plan_at.Tie as tie
 
 shared-slice-read-kind : tie.Need-shared-slice-read-kind
 shared-slice-read-kind c = place-in (c .before .before .before .before .before .before .pre)
 
-forwards-requires : tie.Need-forwards-requires
+jumps-requires : tie.Need-jumps-requires
 unfolding bodyOf bodies
-forwards-requires c κs =
+jumps-requires c κs =
     let R = c .before .before .before .before .before .before .before .pre in
     let e = c .match .keys1 in
-    body R (1 ∷ []) 2 (refl, tt) e .inside
-
-writes-requires : tie.Need-writes-requires
-writes-requires c κs = search needs
-
-backwards-requires : tie.Need-backwards-requires
-unfolding bodyOf bodies
-backwards-requires c κs =
-    let R = c .before .before .before .before .before .before .before .pre in
-    let e = c .match .keys2 in
-    body R (3 ∷ []) 2 (refl, tt) e .inside
-
-writes-requires-2 : tie.Need-writes-requires-2
-writes-requires-2 c κs = search needs
+    (body R (1 ∷ 3 ∷ []) 2 (refl, (refl, tt)) e, e)
 
 on-false-requires : tie.Need-on-false-requires
 unfolding bodyOf bodies insOf effectOf basicEffect
 on-false-requires c κs =
     let R = c .before .before .before .before .before .before .before .pre in
-    let e = c .match .keys3 in
+    let e = c .match .keys2 in
     (body R (2 ∷ 5 ∷ []) 2 (refl, (refl, tt)) e, main-within R, pops-main R (2 ∷ 5 ∷ []) 1 (refl, (refl, tt)) e, e)
 
 on-true-requires : tie.Need-on-true-requires
 unfolding bodyOf bodies insOf effectOf basicEffect
 on-true-requires c κs =
     let R = c .before .before .before .before .before .before .before .pre in
-    let e = c .match .keys4 in
+    let e = c .match .keys3 in
     (body R (4 ∷ 6 ∷ []) 2 (refl, (refl, tt)) e, main-within R, pops-main R (4 ∷ 6 ∷ []) 1 (refl, (refl, tt)) e, e)
 
 main-locals-requires : tie.Need-main-locals-requires
 unfolding bodyOf bodies
 main-locals-requires c κs =
     let R = c .before .before .before .before .before .before .before .pre in
-    let e = c .match .keys5 in
+    let e = c .match .keys4 in
     (body R (20 ∷ 22 ∷ []) 2 (refl, (refl, tt)) e, main-within R, record-in R, main-word R e, e)
 
 ptr-locals-requires : tie.Need-ptr-locals-requires
 unfolding bodyOf bodies
 ptr-locals-requires c κs =
     let R = c .before .before .before .before .before .before .before .pre in
-    let e = c .match .keys6 in
+    let e = c .match .keys5 in
     (body R (21 ∷ 23 ∷ []) 2 (refl, (refl, tt)) e, ptr-within R, record-in R, ptr-word R e, e)
 
 plain-fields-requires : tie.Need-plain-fields-requires
 unfolding bodyOf bodies insOf effectOf basicEffect
 plain-fields-requires c κs =
     let R = c .before .before .before .before .before .before .before .pre in
-    let e = c .match .keys7 in (
+    let e = c .match .keys6 in (
       body R (30 ∷ 32 ∷ []) 2 (refl, (refl, tt)) e,
       main-within R,
       ptr-within R,
@@ -82,7 +70,7 @@ ptr-fields-requires : tie.Need-ptr-fields-requires
 unfolding bodyOf bodies insOf effectOf basicEffect
 ptr-fields-requires c κs =
     let R = c .before .before .before .before .before .before .before .pre in
-    let e = c .match .keys8 in (
+    let e = c .match .keys7 in (
       body R (31 ∷ 33 ∷ []) 2 (refl, (refl, tt)) e,
       ptr-within R,
       ⊎-elim (λ e. pops-ptr R (31 ∷ []) 1 (refl, tt) e) (λ e. let k = pops-ptr R (33 ∷ []) 2 (refl, tt) e in omega arith) e,
@@ -95,7 +83,7 @@ forms-requires : tie.Need-forms-requires
 unfolding bodyOf bodies insOf effectOf basicEffect
 forms-requires c κs =
     let R = c .before .before .before .before .before .before .before .pre in
-    let e = c .match .keys9 in (
+    let e = c .match .keys8 in (
       body R (36 ∷ []) 4 (refl, tt) e,
       pops-main R (36 ∷ []) _ (refl, tt) e,
       pops-ptr R (36 ∷ []) _ (refl, tt) e,
@@ -108,42 +96,35 @@ literals-requires : tie.Need-literals-requires
 unfolding bodyOf bodies
 literals-requires c κs =
     let R = c .before .before .before .before .before .before .before .pre in
-    let e = c .match .keys10 in
+    let e = c .match .keys9 in
     (body-here R, omega (arith, R .main-top), e)
 
-add-writes : tie.Need-add-writes
-add-writes c = omega (arith, place-small (c .before .before .before .before .before .before .before .pre))
+pushes-requires : tie.Need-pushes-requires
+pushes-requires c κs =
+    let R = c .before .before .before .before .before .before .before .pre in
+    (place-small R, omega (arith, R .ptr-top))
 
-add-writes-2 : tie.Need-add-writes-2
-add-writes-2 c = search needs
+shared-slice-read-pushes : tie.Need-shared-slice-read-pushes
+shared-slice-read-pushes c = search needs
 
-writes-requires-3 : tie.Need-writes-requires-3
-writes-requires-3 c κs = search needs
-
-add-writes-3 : tie.Need-add-writes-3
-add-writes-3 c = omega (arith, place-small (c .before .before .before .before .before .before .before .pre))
-
-add-writes-4 : tie.Need-add-writes-4
-add-writes-4 c = search needs
-
-shared-slice-read-writes : tie.Need-shared-slice-read-writes
-shared-slice-read-writes c = search needs
-
-writes-requires-4 : tie.Need-writes-requires-4
-writes-requires-4 c κs = search needs
+pushes-requires-2 : tie.Need-pushes-requires-2
+pushes-requires-2 c κs = (
+  place-small (c .before .before .before .before .before .before .before .before .pre),
+  omega (arith, c .before .before .before .before .before .before .before .before .pre .ptr-top),
+)
 
 set-root-requires : tie.Need-set-root-requires
 unfolding insOf effectOf basicEffect
 set-root-requires c κs =
     let R = c .before .before .before .before .before .before .before .pre in
-    let e = c .match .keys13 in
+    let e = c .match .keys12 in
     (place-small R, ptr-within R, pops-ptr R (59 ∷ []) 1 (refl, tt) e)
 
 retracts-requires : tie.Need-retracts-requires
 unfolding bodyOf bodies insOf effectOf basicEffect
 retracts-requires c κs =
     let R = c .before .before .before .before .before .before .before .pre in
-    let e = c .match .keys14 in (
+    let e = c .match .keys13 in (
       body R (60 ∷ 62 ∷ 64 ∷ []) 4 (refl, (refl, (refl, tt))) e,
       main-within R,
       ptr-within R,
@@ -158,7 +139,7 @@ calls-requires : tie.Need-calls-requires
 unfolding bodyOf bodies
 calls-requires c κs =
     let R = c .before .before .before .before .before .before .before .pre in
-    let e = c .match .keys15 in
+    let e = c .match .keys14 in
     (body R (72 ∷ []) 2 (refl, tt) e, main-within R, ptr-within R, omega (arith, R .ctl-top, R .ctl-most), callee R e)
 
 leaves-requires : tie.Need-leaves-requires
@@ -168,7 +149,7 @@ compares-requires : tie.Need-compares-requires
 unfolding insOf effectOf basicEffect
 compares-requires c κs =
     let R = c .before .before .before .before .before .before .before .pre in
-    let e = c .match .keys17 in (
+    let e = c .match .keys16 in (
       place-small R,
       main-within R,
       pops-main R (130 ∷ 195 ∷ 198 ∷ 201 ∷ 204 ∷ []) 2 (refl, (refl, (refl, (refl, (refl, tt))))) e,
@@ -179,28 +160,28 @@ same-ptr-requires : tie.Need-same-ptr-requires
 unfolding insOf effectOf basicEffect
 same-ptr-requires c κs =
     let R = c .before .before .before .before .before .before .before .pre in
-    let e = c .match .keys18 in
+    let e = c .match .keys17 in
     (place-small R, omega (arith, R .main-top), ptr-within R, pops-ptr R (131 ∷ []) 2 (refl, tt) e)
 
 sums-requires : tie.Need-sums-requires
 unfolding insOf effectOf basicEffect
 sums-requires c κs =
     let R = c .before .before .before .before .before .before .before .pre in
-    let e = c .match .keys19 in
+    let e = c .match .keys18 in
     (place-small R, main-within R, pops-main R (140 ∷ 142 ∷ []) 2 (refl, (refl, tt)) e, e)
 
 products-requires : tie.Need-products-requires
 unfolding insOf effectOf basicEffect
 products-requires c κs =
     let R = c .before .before .before .before .before .before .before .pre in
-    let e = c .match .keys20 in
+    let e = c .match .keys19 in
     (place-small R, main-within R, pops-main R (141 ∷ 143 ∷ 145 ∷ []) 2 (refl, (refl, (refl, tt))) e, e)
 
 unaries-requires : tie.Need-unaries-requires
 unfolding insOf effectOf basicEffect
 unaries-requires c κs =
     let R = c .before .before .before .before .before .before .before .pre in
-    let e = c .match .keys21 in
+    let e = c .match .keys20 in
     (place-small R, main-within R, pops-main R (144 ∷ 146 ∷ []) 1 (refl, (refl, tt)) e, e)
 
 opens-requires : tie.Need-opens-requires
@@ -208,140 +189,135 @@ opens-requires c κs =
     let R = c .before .before .before .before .before .before .before .pre in
     (place-small R, omega (arith, R .ctl-top, R .ctl-most))
 
-add-writes-5 : tie.Need-add-writes-5
-add-writes-5 c = omega (arith, place-small (c .before .before .before .before .before .before .before .pre))
+add-writes : tie.Need-add-writes
+add-writes c = omega (arith, place-small (c .before .before .before .before .before .before .before .pre))
 
-writes-requires-5 : tie.Need-writes-requires-5
-writes-requires-5 c κs = search needs
+writes-requires : tie.Need-writes-requires
+writes-requires c κs = search needs
 
 returns : tie.Need-returns
-unfolding planned planOf basicPlan insOf bodyOf bodies
-returns c = rw (c .writes .ensures, c .before .forwards .ensures .is) (plan-is _ _ 1 2 (c .before .before .match .keys1) refl)
+unfolding bodyOf bodies
+returns c =
+    c .jumps .ensures _ _ _ _
+    ∙ plan-is _ _ _ 2 refl (every (λ k. bodyOf k ≡ 2) (1 ∷ 3 ∷ []) _ (refl, (refl, tt)) (c .before .match .keys1))
 
 returns-2 : tie.Need-returns-2
-unfolding planned planOf basicPlan insOf bodyOf bodies
-returns-2 c = rw (c .writes2 .ensures, c .before .backwards .ensures .is) (plan-is _ _ 3 2 (c .before .before .match .keys2) refl)
+unfolding bodyOf bodies
+returns-2 c =
+    c .on-false .ensures _ _ _
+    ∙ plan-is _ _ _ 2 refl (every (λ k. bodyOf k ≡ 2) (2 ∷ 5 ∷ []) _ (refl, (refl, tt)) (c .before .match .keys2))
 
 returns-3 : tie.Need-returns-3
 unfolding bodyOf bodies
 returns-3 c =
-    c .on-false .ensures _ _ _
-    ∙ plan-is _ _ _ 2 refl (every (λ k. bodyOf k ≡ 2) (2 ∷ 5 ∷ []) _ (refl, (refl, tt)) (c .before .match .keys3))
+    c .on-true .ensures _ _ _
+    ∙ plan-is _ _ _ 2 refl (every (λ k. bodyOf k ≡ 2) (4 ∷ 6 ∷ []) _ (refl, (refl, tt)) (c .before .match .keys3))
 
 returns-4 : tie.Need-returns-4
 unfolding bodyOf bodies
 returns-4 c =
-    c .on-true .ensures _ _ _
-    ∙ plan-is _ _ _ 2 refl (every (λ k. bodyOf k ≡ 2) (4 ∷ 6 ∷ []) _ (refl, (refl, tt)) (c .before .match .keys4))
+    c .main-locals .ensures _ _
+    ∙ plan-is _ _ _ 2 refl (every (λ k. bodyOf k ≡ 2) (20 ∷ 22 ∷ []) _ (refl, (refl, tt)) (c .before .match .keys4))
 
 returns-5 : tie.Need-returns-5
 unfolding bodyOf bodies
 returns-5 c =
-    c .main-locals .ensures _ _
-    ∙ plan-is _ _ _ 2 refl (every (λ k. bodyOf k ≡ 2) (20 ∷ 22 ∷ []) _ (refl, (refl, tt)) (c .before .match .keys5))
+    c .ptr-locals .ensures _ _
+    ∙ plan-is _ _ _ 2 refl (every (λ k. bodyOf k ≡ 2) (21 ∷ 23 ∷ []) _ (refl, (refl, tt)) (c .before .match .keys5))
 
 returns-6 : tie.Need-returns-6
 unfolding bodyOf bodies
 returns-6 c =
-    c .ptr-locals .ensures _ _
-    ∙ plan-is _ _ _ 2 refl (every (λ k. bodyOf k ≡ 2) (21 ∷ 23 ∷ []) _ (refl, (refl, tt)) (c .before .match .keys6))
+    c .plain-fields .ensures _
+    ∙ plan-is _ _ _ 2 refl (every (λ k. bodyOf k ≡ 2) (30 ∷ 32 ∷ []) _ (refl, (refl, tt)) (c .before .match .keys6))
 
 returns-7 : tie.Need-returns-7
 unfolding bodyOf bodies
 returns-7 c =
-    c .plain-fields .ensures _
-    ∙ plan-is _ _ _ 2 refl (every (λ k. bodyOf k ≡ 2) (30 ∷ 32 ∷ []) _ (refl, (refl, tt)) (c .before .match .keys7))
+    c .ptr-fields .ensures _ _
+    ∙ plan-is _ _ _ 2 refl (every (λ k. bodyOf k ≡ 2) (31 ∷ 33 ∷ []) _ (refl, (refl, tt)) (c .before .match .keys7))
 
 returns-8 : tie.Need-returns-8
 unfolding bodyOf bodies
-returns-8 c =
-    c .ptr-fields .ensures _ _
-    ∙ plan-is _ _ _ 2 refl (every (λ k. bodyOf k ≡ 2) (31 ∷ 33 ∷ []) _ (refl, (refl, tt)) (c .before .match .keys8))
+returns-8 c = c .forms .ensures _ _ _ ∙ plan-is _ _ 36 4 (c .before .match .keys8) refl
 
 returns-9 : tie.Need-returns-9
 unfolding bodyOf bodies
-returns-9 c = c .forms .ensures _ _ _ ∙ plan-is _ _ 36 4 (c .before .match .keys9) refl
+returns-9 c = c .literals .ensures _ _ _ _ ∙ plan-is _ _ _ _ refl refl
 
 returns-10 : tie.Need-returns-10
-unfolding bodyOf bodies
-returns-10 c = c .literals .ensures _ _ _ _ ∙ plan-is _ _ _ _ refl refl
+unfolding planned planOf basicPlan insOf bodyOf bodies
+returns-10 c = c .pushes .ensures ∙ plan-is _ _ 57 0 (c .before .match .keys10) refl
 
 returns-11 : tie.Need-returns-11
 unfolding planned planOf basicPlan insOf bodyOf bodies
-returns-11 c = c .writes3 .ensures ∙ plan-is _ _ 57 0 (c .before .before .match .keys11) refl
+returns-11 c = c .pushes2 .ensures ∙ plan-is _ _ 58 0 (c .before .before .match .keys11) refl
 
 returns-12 : tie.Need-returns-12
-unfolding planned planOf basicPlan insOf bodyOf bodies
-returns-12 c = c .writes4 .ensures ∙ plan-is _ _ 58 0 (c .before .before .before .match .keys12) refl
+unfolding bodyOf bodies
+returns-12 c = c .set-root .ensures _ _ _ _ ∙ plan-is _ _ 59 0 (c .before .match .keys12) refl
 
 returns-13 : tie.Need-returns-13
 unfolding bodyOf bodies
-returns-13 c = c .set-root .ensures _ _ _ _ ∙ plan-is _ _ 59 0 (c .before .match .keys13) refl
+returns-13 c =
+    c .retracts .ensures _ _
+    ∙ plan-is _ _ _ 4 refl (every (λ k. bodyOf k ≡ 4) (60 ∷ 62 ∷ 64 ∷ []) _ (refl, (refl, (refl, tt))) (c .before .match .keys13))
 
 returns-14 : tie.Need-returns-14
 unfolding bodyOf bodies
-returns-14 c =
-    c .retracts .ensures _ _
-    ∙ plan-is _ _ _ 4 refl (every (λ k. bodyOf k ≡ 4) (60 ∷ 62 ∷ 64 ∷ []) _ (refl, (refl, (refl, tt))) (c .before .match .keys14))
+returns-14 c = c .calls .ensures _ ∙ plan-is _ _ 72 2 (c .before .match .keys14) refl
 
 returns-15 : tie.Need-returns-15
 unfolding bodyOf bodies
-returns-15 c = c .calls .ensures _ ∙ plan-is _ _ 72 2 (c .before .match .keys15) refl
+returns-15 c = c .leaves .ensures _ _ _ _ ∙ plan-is _ _ 73 0 (c .before .match .keys15) refl
 
 returns-16 : tie.Need-returns-16
 unfolding bodyOf bodies
-returns-16 c = c .leaves .ensures _ _ _ _ ∙ plan-is _ _ 73 0 (c .before .match .keys16) refl
+returns-16 c =
+    c .compares .ensures _ _ _ _
+    ∙ plan-is _ _ _ 0 refl
+    (every (λ k. bodyOf k ≡ 0) (130 ∷ 195 ∷ 198 ∷ 201 ∷ 204 ∷ []) _ (refl, (refl, (refl, (refl, (refl, tt))))) (c .before .match .keys16))
 
 returns-17 : tie.Need-returns-17
 unfolding bodyOf bodies
-returns-17 c =
-    c .compares .ensures _ _ _ _
-    ∙ plan-is _ _ _ 0 refl
-    (every (λ k. bodyOf k ≡ 0) (130 ∷ 195 ∷ 198 ∷ 201 ∷ 204 ∷ []) _ (refl, (refl, (refl, (refl, (refl, tt))))) (c .before .match .keys17))
+returns-17 c = c .same-ptr .ensures _ _ _ _ ∙ plan-is _ _ 131 0 (c .before .match .keys17) refl
 
 returns-18 : tie.Need-returns-18
 unfolding bodyOf bodies
-returns-18 c = c .same-ptr .ensures _ _ _ _ ∙ plan-is _ _ 131 0 (c .before .match .keys18) refl
+returns-18 c =
+    c .sums .ensures _ _ _ _
+    ∙ plan-is _ _ _ 0 refl (every (λ k. bodyOf k ≡ 0) (140 ∷ 142 ∷ []) _ (refl, (refl, tt)) (c .before .match .keys18))
 
 returns-19 : tie.Need-returns-19
 unfolding bodyOf bodies
 returns-19 c =
-    c .sums .ensures _ _ _ _
-    ∙ plan-is _ _ _ 0 refl (every (λ k. bodyOf k ≡ 0) (140 ∷ 142 ∷ []) _ (refl, (refl, tt)) (c .before .match .keys19))
+    c .products .ensures _ _ _ _
+    ∙ plan-is _ _ _ 0 refl (every (λ k. bodyOf k ≡ 0) (141 ∷ 143 ∷ 145 ∷ []) _ (refl, (refl, (refl, tt))) (c .before .match .keys19))
 
 returns-20 : tie.Need-returns-20
 unfolding bodyOf bodies
 returns-20 c =
-    c .products .ensures _ _ _ _
-    ∙ plan-is _ _ _ 0 refl (every (λ k. bodyOf k ≡ 0) (141 ∷ 143 ∷ 145 ∷ []) _ (refl, (refl, (refl, tt))) (c .before .match .keys20))
+    c .unaries .ensures _ _ _ _
+    ∙ plan-is _ _ _ 0 refl (every (λ k. bodyOf k ≡ 0) (144 ∷ 146 ∷ []) _ (refl, (refl, tt)) (c .before .match .keys20))
 
 returns-21 : tie.Need-returns-21
 unfolding bodyOf bodies
-returns-21 c =
-    c .unaries .ensures _ _ _ _
-    ∙ plan-is _ _ _ 0 refl (every (λ k. bodyOf k ≡ 0) (144 ∷ 146 ∷ []) _ (refl, (refl, tt)) (c .before .match .keys21))
+returns-21 c = c .opens .ensures _ _ _ _ ∙ plan-is _ _ 160 2 (c .before .match .keys21) refl
 
 returns-22 : tie.Need-returns-22
-unfolding bodyOf bodies
-returns-22 c = c .opens .ensures _ _ _ _ ∙ plan-is _ _ 160 2 (c .before .match .keys22) refl
+unfolding planned planOf basicPlan insOf bodyOf bodies
+returns-22 c = c .writes .ensures ∙ plan-is _ _ 161 0 (c .before .match .keys22) refl
 
 returns-23 : tie.Need-returns-23
-unfolding planned planOf basicPlan insOf bodyOf bodies
-returns-23 c = c .writes5 .ensures ∙ plan-is _ _ 161 0 (c .before .match .keys23) refl
-
-returns-24 : tie.Need-returns-24
 unfolding planAt insAt planOf
-returns-24 c = rw (ins-other _ _ _ (c .match .rest))
+returns-23 c = rw (ins-other _ _ _ (c .match .rest))
 
 pub plan-at-spec : {M : Type 1} → statement M
 plan-at-spec =
     tie.close
     (tie.spec
     shared-slice-read-kind
-    forwards-requires
-    writes-requires
-    backwards-requires
-    writes-requires-2
+    jumps-requires
     on-false-requires
     on-true-requires
     main-locals-requires
@@ -350,13 +326,9 @@ plan-at-spec =
     ptr-fields-requires
     forms-requires
     literals-requires
-    add-writes
-    add-writes-2
-    writes-requires-3
-    add-writes-3
-    add-writes-4
-    shared-slice-read-writes
-    writes-requires-4
+    pushes-requires
+    shared-slice-read-pushes
+    pushes-requires-2
     set-root-requires
     retracts-requires
     calls-requires
@@ -367,8 +339,8 @@ plan-at-spec =
     products-requires
     unaries-requires
     opens-requires
-    add-writes-5
-    writes-requires-5
+    add-writes
+    writes-requires
     returns
     returns-2
     returns-3
@@ -391,5 +363,4 @@ plan-at-spec =
     returns-20
     returns-21
     returns-22
-    returns-23
-    returns-24)
+    returns-23)

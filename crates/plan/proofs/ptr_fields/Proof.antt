@@ -8,7 +8,7 @@ use Rattle.model.specs.File.{insOf}
 use Rattle.model.specs.Instructions.{basicPlan, planOf}
 use Rattle.heap.specs.Stores.{in-ptrs}
 use Rattle.plan.specs.Given.{not-nil, lies}
-use Rattle.plan.specs.Ready.{planned}
+use Rattle.plans.specs.Given.{planned}
 use Rattle.plan.proofs.ptr_fields.Statement.{statement}
 use Rattle.plan.proofs.ptr_fields.Tie as tie
 

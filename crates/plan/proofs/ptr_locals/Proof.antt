@@ -6,7 +6,7 @@ use borrow.Author.Needs.{needs}
 use Rattle.model.specs.Control.{recAt}
 use Rattle.model.specs.File.{insOf}
 use Rattle.model.specs.Instructions.{basicPlan, planOf}
-use Rattle.plan.specs.Ready.{planned}
+use Rattle.plans.specs.Given.{planned}
 use Rattle.plan.proofs.ptr_locals.Statement.{statement}
 use Rattle.plan.proofs.ptr_locals.Tie as tie
 

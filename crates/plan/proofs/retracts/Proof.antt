@@ -5,7 +5,7 @@ use native.Mathlib.Omega.{arith}
 use borrow.Author.Needs.{needs}
 use Rattle.model.specs.File.{insOf}
 use Rattle.model.specs.Instructions.{basicPlan, planOf}
-use Rattle.plan.specs.Ready.{planned}
+use Rattle.plans.specs.Given.{planned}
 use Rattle.plan.proofs.retracts.Statement.{statement}
 use Rattle.plan.proofs.retracts.Tie as tie
 

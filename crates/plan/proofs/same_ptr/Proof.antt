@@ -3,7 +3,7 @@ use borrow.Author.Needs.{needs}
 use Rattle.model.specs.File.{insOf}
 use Rattle.model.specs.Instructions.{basicPlan, planOf}
 use Rattle.plan.specs.Given.{same-word}
-use Rattle.plan.specs.Ready.{planned}
+use Rattle.plans.specs.Given.{planned}
 use Rattle.plan.proofs.same_ptr.Statement.{statement}
 use Rattle.plan.proofs.same_ptr.Tie as tie
 

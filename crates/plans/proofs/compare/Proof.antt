@@ -1,12 +1,12 @@
--- `plan::compare`: at each of the five codes the definition computes, and the comparison is the one that `words` ensures.
+-- `plans::compare`: at each of the five codes the definition computes, and the comparison is the one that `words` ensures.
 use mathlib.Core.Logic.{⊎-elim}
 use mathlib.Core.Path.{_≡_}
 use borrow.Author.Needs.{needs}
 use Rattle.model.specs.File.{insOf}
 use Rattle.model.specs.Instructions.{basicPlan, planOf}
-use Rattle.plan.specs.Given.{Binary}
-use Rattle.plan.proofs.compare.Statement.{statement}
-use Rattle.plan.proofs.compare.Tie as tie
+use Rattle.plans.specs.Given.{Binary}
+use Rattle.plans.proofs.compare.Statement.{statement}
+use Rattle.plans.proofs.compare.Tie as tie
 
 eq-w-requires : tie.Need-eq-w-requires
 eq-w-requires c κs = search needs

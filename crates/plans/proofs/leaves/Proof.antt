@@ -1,11 +1,11 @@
--- `plan::leaves`: the return place is word 3 of the frame's record.
+-- `plans::leaves`: the return place is word 3 of the frame's record.
 use borrow.Author.Needs.{needs}
 use Rattle.model.specs.Control.{recAt}
 use Rattle.model.specs.File.{insOf}
 use Rattle.model.specs.Instructions.{planOf}
-use Rattle.plan.specs.Ready.{planned}
-use Rattle.plan.proofs.leaves.Statement.{statement}
-use Rattle.plan.proofs.leaves.Tie as tie
+use Rattle.plans.specs.Given.{planned}
+use Rattle.plans.proofs.leaves.Statement.{statement}
+use Rattle.plans.proofs.leaves.Tie as tie
 
 sub-at : tie.Need-sub-at
 sub-at c = search needs

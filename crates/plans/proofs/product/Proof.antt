@@ -1,12 +1,12 @@
--- `plan::product`: at each of the three codes the definition computes, and the operation is the one that `words` ensures.
+-- `plans::product`: at each of the three codes the definition computes, and the operation is the one that `words` ensures.
 use mathlib.Core.Logic.{⊎-elim}
 use mathlib.Core.Path.{_≡_}
 use borrow.Author.Needs.{needs}
 use Rattle.model.specs.File.{insOf}
 use Rattle.model.specs.Instructions.{basicPlan, planOf}
-use Rattle.plan.specs.Given.{Binary}
-use Rattle.plan.proofs.product.Statement.{statement}
-use Rattle.plan.proofs.product.Tie as tie
+use Rattle.plans.specs.Given.{Binary}
+use Rattle.plans.proofs.product.Statement.{statement}
+use Rattle.plans.proofs.product.Tie as tie
 
 times-requires : tie.Need-times-requires
 times-requires c κs = search needs

@@ -1,11 +1,10 @@
--- `plan::sums`: by what `sum` ensures of the two topmost words.
+-- `plans::sums`: by what `sum` ensures of the two topmost words.
 use mathlib.Core.Path.{_∙_, refl}
 use borrow.Author.Needs.{needs}
 use Rattle.model.specs.Control.{machine}
-use Rattle.plan.specs.Given.{Binary}
-use Rattle.plan.specs.Ready.{planned}
-use Rattle.plan.proofs.sums.Statement.{statement}
-use Rattle.plan.proofs.sums.Tie as tie
+use Rattle.plans.specs.Given.{Binary, planned}
+use Rattle.plans.proofs.sums.Statement.{statement}
+use Rattle.plans.proofs.sums.Tie as tie
 
 sub-top : tie.Need-sub-top
 sub-top c = search needs

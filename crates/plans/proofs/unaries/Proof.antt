@@ -1,12 +1,12 @@
--- `plan::unaries`: at each of the two codes the definition computes, and the operation is the one that `words` ensures.
+-- `plans::unaries`: at each of the two codes the definition computes, and the operation is the one that `words` ensures.
 use mathlib.Core.Logic.{⊎-elim}
 use mathlib.Core.Path.{_≡_}
 use borrow.Author.Needs.{needs}
 use Rattle.model.specs.File.{insOf}
 use Rattle.model.specs.Instructions.{basicPlan, planOf}
-use Rattle.plan.specs.Ready.{planned}
-use Rattle.plan.proofs.unaries.Statement.{statement}
-use Rattle.plan.proofs.unaries.Tie as tie
+use Rattle.plans.specs.Given.{planned}
+use Rattle.plans.proofs.unaries.Statement.{statement}
+use Rattle.plans.proofs.unaries.Tie as tie
 
 add-place : tie.Need-add-place
 add-place c = search needs

@@ -1,12 +1,12 @@
--- `plan::sum`: at each of the two codes the definition computes, and the operation is the one that `words` ensures.
+-- `plans::sum`: at each of the two codes the definition computes, and the operation is the one that `words` ensures.
 use mathlib.Core.Logic.{⊎-elim}
 use mathlib.Core.Path.{_≡_}
 use borrow.Author.Needs.{needs}
 use Rattle.model.specs.File.{insOf}
 use Rattle.model.specs.Instructions.{basicPlan, planOf}
-use Rattle.plan.specs.Given.{Binary}
-use Rattle.plan.proofs.sum.Statement.{statement}
-use Rattle.plan.proofs.sum.Tie as tie
+use Rattle.plans.specs.Given.{Binary}
+use Rattle.plans.proofs.sum.Statement.{statement}
+use Rattle.plans.proofs.sum.Tie as tie
 
 plus-requires : tie.Need-plus-requires
 plus-requires c κs = search needs

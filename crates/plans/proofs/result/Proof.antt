@@ -1,7 +1,7 @@
--- `plan::result`: by the value.
+-- `plans::result`: by the value.
 use borrow.Author.Needs.{needs}
-use Rattle.plan.proofs.result.Statement.{statement}
-use Rattle.plan.proofs.result.Tie as tie
+use Rattle.plans.proofs.result.Statement.{statement}
+use Rattle.plans.proofs.result.Tie as tie
 
 enum-known-value : tie.Need-enum-known-value
 enum-known-value c = search needs

@@ -1,13 +1,12 @@
--- `plan::on_true`: at each of the two codes the definition computes, but for its test of the word, which the code makes too.
+-- `plans::on_true`: at each of the two codes the definition computes, but for its test of the word, which the code makes too.
 use mathlib.Core.Logic.{⊎-elim}
 use mathlib.Core.Path.{_≡_}
 use borrow.Author.Needs.{needs}
 use Rattle.model.specs.File.{insOf}
 use Rattle.model.specs.Instructions.{planOf}
-use Rattle.plan.specs.Given.{is-true, is-false}
-use Rattle.plan.specs.Ready.{planned}
-use Rattle.plan.proofs.on_true.Statement.{statement}
-use Rattle.plan.proofs.on_true.Tie as tie
+use Rattle.plans.specs.Given.{is-true, is-false, planned}
+use Rattle.plans.proofs.on_true.Statement.{statement}
+use Rattle.plans.proofs.on_true.Tie as tie
 
 sub-top : tie.Need-sub-top
 sub-top c = search needs

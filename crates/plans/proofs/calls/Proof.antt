@@ -1,13 +1,12 @@
--- `plan::calls`: the table has the callee's head, where its numbers stand (`numbers`); the definition's tests of the room are the code's.
+-- `plans::calls`: the table has the callee's head, where its numbers stand (`numbers`); the definition's tests of the room are the code's.
 use mathlib.Core.Path.{_∙_}
 use native.Mathlib.Omega.{arith}
 use borrow.Author.Needs.{needs}
 use Rattle.model.specs.Control.{machine}
 use Rattle.model.specs.File.{insOf}
-use Rattle.plan.specs.Given.{numbers, no-main, no-ptr, no-ctl, room}
-use Rattle.plan.specs.Ready.{planned}
-use Rattle.plan.proofs.calls.Statement.{statement}
-use Rattle.plan.proofs.calls.Tie as tie
+use Rattle.plans.specs.Given.{numbers, no-main, no-ptr, no-ctl, room, planned}
+use Rattle.plans.proofs.calls.Statement.{statement}
+use Rattle.plans.proofs.calls.Tie as tie
 
 operand-requires : tie.Need-operand-requires
 operand-requires c κs = search needs

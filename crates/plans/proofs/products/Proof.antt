@@ -1,11 +1,10 @@
--- `plan::products`: by what `product` ensures of the two topmost words.
+-- `plans::products`: by what `product` ensures of the two topmost words.
 use mathlib.Core.Path.{_∙_, refl}
 use borrow.Author.Needs.{needs}
 use Rattle.model.specs.Control.{machine}
-use Rattle.plan.specs.Given.{Binary}
-use Rattle.plan.specs.Ready.{planned}
-use Rattle.plan.proofs.products.Statement.{statement}
-use Rattle.plan.proofs.products.Tie as tie
+use Rattle.plans.specs.Given.{Binary, planned}
+use Rattle.plans.proofs.products.Statement.{statement}
+use Rattle.plans.proofs.products.Tie as tie
 
 sub-top : tie.Need-sub-top
 sub-top c = search needs

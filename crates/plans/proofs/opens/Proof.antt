@@ -1,11 +1,11 @@
--- `plan::opens`: the definition's test of the room is the code's.
+-- `plans::opens`: the definition's test of the room is the code's.
 use borrow.Author.Needs.{needs}
 use borrow.Author.Tests.{le-leb, lt-leb}
 use Rattle.model.specs.File.{insOf}
 use Rattle.model.specs.Instructions.{planOf}
-use Rattle.plan.specs.Ready.{planned}
-use Rattle.plan.proofs.opens.Statement.{statement}
-use Rattle.plan.proofs.opens.Tie as tie
+use Rattle.plans.specs.Given.{planned}
+use Rattle.plans.proofs.opens.Statement.{statement}
+use Rattle.plans.proofs.opens.Tie as tie
 
 add-if1 : tie.Need-add-if1
 add-if1 c = search needs

@@ -1,0 +1,265 @@
+// Document 01, the table of codes with their effects: what the instructions are about to do that go elsewhere, compute or open a record.
+// Nothing is written here. Codes of one family share a function.
+use model::Into;
+use model::Plan;
+use model::Put;
+use model::Regs;
+use model::Value;
+ghost use mathlib.Core.Path.{_≡_};
+ghost use mathlib.Core.List.{List};
+ghost use mathlib.Core.Logic.{_⊎_};
+ghost use Prim.Native.Nat.{ℕ, _+_, _<_, _≤_};
+ghost use Rattle.model.specs.Control.{machine};
+ghost use Rattle.model.specs.Instructions.{write, onValue};
+ghost use Rattle.code.specs.Parts.{Small};
+ghost use Rattle.plans.specs.Given.{planned, Body, Within, Record, Callee, Binary};
+
+pub fn writes(into: Into, place: usize, mtop: usize, ptop: usize, at: usize, word: u32) -> Plan
+    ensures { λ r. ⌜ r ≡ write into place mtop ptop at word ⌝ }
+{
+    Plan::Write(Put {
+        into,
+        place,
+        mtop,
+        ptop,
+        at,
+        word,
+    })
+}
+
+// A result on the main stack, or exception 1.
+fn result(value: Value, place: usize, mtop: usize, ptop: usize, at: usize) -> Plan
+    ensures { λ r. ⌜ r ≡ onValue value (λ w. write Into.Main place mtop ptop at w) ⌝ }
+{
+    match value {
+        Value::Word(w) => writes(Into::Main, place, mtop, ptop, at, w),
+        Value::Outside => Plan::Overflow,
+    }
+}
+
+pub fn wide(w: u32) -> usize
+    ensures { λ r. ⌜ Small 4294967296 w r ⌝ }
+{
+    w as usize
+}
+
+// A pointer pushed by an instruction of one byte.
+pub fn pushes(regs: Regs, word: u32) -> Plan
+    requires { ⌜ (regs .place < 4096) × (regs .ptop ≤ 4096) ⌝ }
+    ensures { λ r. ⌜ r ≡ write Into.Pointer (regs .place + 1) (regs .mtop) (regs .ptop + 1) (regs .ptop) word ⌝ }
+{
+    writes(
+        Into::Pointer,
+        regs.place + 1,
+        regs.mtop,
+        regs.ptop + 1,
+        regs.ptop,
+        word,
+    )
+}
+
+// 1 and 3: forwards, backwards.
+pub fn jumps(file: &[u8], regs: Regs, kind: u8) -> Plan
+    requires { ⌜ Body (now file) (regs .place) 2 × ((kind ≡ 1) ⊎ (kind ≡ 3)) ⌝ }
+    ensures { λ r. ⌜ ((m p c h : List ℕ) → r ≡ planned (now (file .entry)) (machine regs m p c h) 3 kind) ⌝ }
+{
+    let place = regs.place;
+    if kind == 1 {
+        return writes(
+            Into::Nothing,
+            code::forwards(file, place),
+            regs.mtop,
+            regs.ptop,
+            0,
+            0,
+        );
+    }
+    writes(
+        Into::Nothing,
+        code::backwards(file, place),
+        regs.mtop,
+        regs.ptop,
+        0,
+        0,
+    )
+}
+
+// 2 and 5: forwards where the word is false; 5 keeps it then.
+pub fn on_false(file: &[u8], main: &[u32], regs: Regs, kind: u8) -> Plan
+    requires { ⌜ Body (now file) (regs .place) 2 × Within (now main) (regs .mtop) × (1 ≤ regs .mtop) × ((kind ≡ 2) ⊎ (kind ≡ 5)) ⌝ }
+    ensures { λ r. ⌜ ((p c h : List ℕ) → r ≡ planned (now (file .entry)) (machine regs (now (main .entry)) p c h) 3 kind) ⌝ }
+{
+    let place = regs.place;
+    let top = regs.mtop - 1;
+    if main[top] != 0 {
+        return writes(Into::Nothing, place + 3, top, regs.ptop, 0, 0);
+    }
+    let target = code::forwards(file, place);
+    if kind == 2 {
+        return writes(Into::Nothing, target, top, regs.ptop, 0, 0);
+    }
+    writes(Into::Nothing, target, regs.mtop, regs.ptop, 0, 0)
+}
+
+// 4 and 6: where the word is true, 4 backwards, 6 forwards and keeps it.
+pub fn on_true(file: &[u8], main: &[u32], regs: Regs, kind: u8) -> Plan
+    requires { ⌜ Body (now file) (regs .place) 2 × Within (now main) (regs .mtop) × (1 ≤ regs .mtop) × ((kind ≡ 4) ⊎ (kind ≡ 6)) ⌝ }
+    ensures { λ r. ⌜ ((p c h : List ℕ) → r ≡ planned (now (file .entry)) (machine regs (now (main .entry)) p c h) 3 kind) ⌝ }
+{
+    let place = regs.place;
+    let top = regs.mtop - 1;
+    if main[top] == 0 {
+        return writes(Into::Nothing, place + 3, top, regs.ptop, 0, 0);
+    }
+    if kind == 4 {
+        return writes(
+            Into::Nothing,
+            code::backwards(file, place),
+            top,
+            regs.ptop,
+            0,
+            0,
+        );
+    }
+    writes(
+        Into::Nothing,
+        code::forwards(file, place),
+        regs.mtop,
+        regs.ptop,
+        0,
+        0,
+    )
+}
+
+// 72: the callee's frame begins with its parameters.
+pub fn calls(
+    file: &[u8],
+    table: &[usize; 64],
+    main: &[u32],
+    ptr: &[u32],
+    ctl: &[u32],
+    regs: Regs,
+) -> Plan
+    requires { ⌜ Body (now file) (regs .place) 2 × Within (now main) (regs .mtop) × Within (now ptr) (regs .ptop)
+        × (regs .ctop ≤ 1280) × Callee (now file) (now table) regs ⌝ }
+    ensures { λ r. ⌜ ((h : List ℕ) → r ≡ planned (now (file .entry)) (machine regs (now (main .entry)) (now (ptr .entry)) (now (ctl .entry)) h) 3 72) ⌝ }
+{
+    let s = code::operand(file, regs.place);
+    let h = table[s];
+    let head = code::head_at(file, h);
+    let m = regs.mtop - head.a;
+    let q = regs.ptop - head.b;
+    if main.len() < m + head.x {
+        return Plan::NoRoom;
+    }
+    if ptr.len() < q + head.y {
+        return Plan::NoRoom;
+    }
+    if ctl.len() < regs.ctop + 5 {
+        return Plan::NoRoom;
+    }
+    writes(Into::Frame, h + 7, regs.mtop, regs.ptop, m, q as u32)
+}
+
+// 73: back to the return place.
+pub fn leaves(ctl: &[u32], regs: Regs) -> Plan
+    requires { ⌜ Record (now ctl) (regs .frame) ⌝ }
+    ensures { λ r. ⌜ ((f m p h : List ℕ) → r ≡ planned f (machine regs m p (now (ctl .entry)) h) 1 73) ⌝ }
+{
+    let at = 5 * (regs.frame - 1) + 3;
+    let place = wide(ctl[at]);
+    writes(Into::Return, place, regs.mtop, regs.ptop, 0, 0)
+}
+
+// 160: a handler's record.
+pub fn opens(ctl: &[u32], regs: Regs) -> Plan
+    requires { ⌜ (regs .place < 4096) × (regs .ctop ≤ 1280) ⌝ }
+    ensures { λ r. ⌜ ((f m p h : List ℕ) → r ≡ planned f (machine regs m p (now (ctl .entry)) h) 3 160) ⌝ }
+{
+    if ctl.len() < regs.ctop + 5 {
+        return Plan::NoRoom;
+    }
+    writes(Into::Handler, regs.place + 3, regs.mtop, regs.ptop, 0, 0)
+}
+
+fn compare(kind: u8, a: u32, b: u32) -> u32
+    requires { ⌜ (kind ≡ 130) ⊎ ((kind ≡ 195) ⊎ ((kind ≡ 198) ⊎ ((kind ≡ 201) ⊎ (kind ≡ 204)))) ⌝ }
+    ensures { λ r. ⌜ Binary kind a b (Value.Word r) ⌝ }
+{
+    match kind {
+        130 => words::eq_w(a, b),
+        195 => words::lt(a, b),
+        198 => words::le(a, b),
+        201 => words::gt(a, b),
+        _ => words::ge(a, b),
+    }
+}
+
+// 130, 195, 198, 201 and 204.
+pub fn compares(main: &[u32], regs: Regs, kind: u8) -> Plan
+    requires { ⌜ (regs .place < 4096) × Within (now main) (regs .mtop) × (2 ≤ regs .mtop)
+        × ((kind ≡ 130) ⊎ ((kind ≡ 195) ⊎ ((kind ≡ 198) ⊎ ((kind ≡ 201) ⊎ (kind ≡ 204))))) ⌝ }
+    ensures { λ r. ⌜ ((f p c h : List ℕ) → r ≡ planned f (machine regs (now (main .entry)) p c h) 1 kind) ⌝ }
+{
+    let top = regs.mtop - 1;
+    let at = regs.mtop - 2;
+    let word = compare(kind, main[at], main[top]);
+    writes(Into::Main, regs.place + 1, top, regs.ptop, at, word)
+}
+
+fn sum(kind: u8, a: u32, b: u32) -> Value
+    requires { ⌜ (kind ≡ 140) ⊎ (kind ≡ 142) ⌝ }
+    ensures { λ r. ⌜ Binary kind a b r ⌝ }
+{
+    if kind == 140 {
+        return words::plus(a, b);
+    }
+    words::minus(a, b)
+}
+
+// 140 and 142.
+pub fn sums(main: &[u32], regs: Regs, kind: u8) -> Plan
+    requires { ⌜ (regs .place < 4096) × Within (now main) (regs .mtop) × (2 ≤ regs .mtop) × ((kind ≡ 140) ⊎ (kind ≡ 142)) ⌝ }
+    ensures { λ r. ⌜ ((f p c h : List ℕ) → r ≡ planned f (machine regs (now (main .entry)) p c h) 1 kind) ⌝ }
+{
+    let top = regs.mtop - 1;
+    let at = regs.mtop - 2;
+    let value = sum(kind, main[at], main[top]);
+    result(value, regs.place + 1, top, regs.ptop, at)
+}
+
+fn product(kind: u8, a: u32, b: u32) -> Value
+    requires { ⌜ (kind ≡ 141) ⊎ ((kind ≡ 143) ⊎ (kind ≡ 145)) ⌝ }
+    ensures { λ r. ⌜ Binary kind a b r ⌝ }
+{
+    match kind {
+        141 => words::times(a, b),
+        143 => words::div(a, b),
+        _ => words::rem(a, b),
+    }
+}
+
+// 141, 143 and 145.
+pub fn products(main: &[u32], regs: Regs, kind: u8) -> Plan
+    requires { ⌜ (regs .place < 4096) × Within (now main) (regs .mtop) × (2 ≤ regs .mtop) × ((kind ≡ 141) ⊎ ((kind ≡ 143) ⊎ (kind ≡ 145))) ⌝ }
+    ensures { λ r. ⌜ ((f p c h : List ℕ) → r ≡ planned f (machine regs (now (main .entry)) p c h) 1 kind) ⌝ }
+{
+    let top = regs.mtop - 1;
+    let at = regs.mtop - 2;
+    let value = product(kind, main[at], main[top]);
+    result(value, regs.place + 1, top, regs.ptop, at)
+}
+
+// 144 and 146.
+pub fn unaries(main: &[u32], regs: Regs, kind: u8) -> Plan
+    requires { ⌜ (regs .place < 4096) × Within (now main) (regs .mtop) × (1 ≤ regs .mtop) × ((kind ≡ 144) ⊎ (kind ≡ 146)) ⌝ }
+    ensures { λ r. ⌜ ((f p c h : List ℕ) → r ≡ planned f (machine regs (now (main .entry)) p c h) 1 kind) ⌝ }
+{
+    let place = regs.place + 1;
+    let at = regs.mtop - 1;
+    let a = main[at];
+    if kind == 144 {
+        return result(words::neg(a), place, regs.mtop, regs.ptop, at);
+    }
+    writes(Into::Main, place, regs.mtop, regs.ptop, at, words::not(a))
+}
