@@ -1,0 +1,43 @@
+-- `exports::yalgovim_start` meets its contract: start's, told in numbers.
+use Rattle.model.specs.Calls.{lent}
+use Rattle.exports.specs.Replies.{call-replies}
+use borrow.Author.Needs.{needs}
+use Rattle.exports.proofs.yalgovim_start.Statement.{statement}
+use Rattle.exports.proofs.yalgovim_start.Tie as tie
+
+start-requires : tie.Need-start-requires
+start-requires c κs = search needs
+
+told-requires : tie.Need-told-requires
+told-requires c κs = search needs
+
+same-length : tie.Need-same-length
+same-length c = search needs
+
+same-length-2 : tie.Need-same-length-2
+same-length-2 c = search needs
+
+same-length-3 : tie.Need-same-length-3
+same-length-3 c = search needs
+
+same-length-4 : tie.Need-same-length-4
+same-length-4 c = search needs
+
+same-length-5 : tie.Need-same-length-5
+same-length-5 c = search needs
+
+returns : tie.Need-returns
+returns c = call-replies (c .told .result) (c .before .before .before .before .before .before .before .before .before .before .before .start .result) (lent (c .before .before .before .before .before .before .before .before .before .before .before .before .before .before .before .before .before .before .before .before .before .before .before .before .args .file .now) (c .before .before .before .before .before .before .before .before .before .before .before .start .last .1 .0) (c .before .before .before .before .before .before .before .before .before .before .before .start .last .1 .1 .0) (c .before .before .before .before .before .before .before .before .before .before .before .start .last .1 .1 .1 .0) (c .before .before .before .before .before .before .before .before .before .before .before .start .last .1 .1 .1 .1 .0) (c .before .before .before .before .before .before .before .before .before .before .before .before .before .before .before .before .before .before .before .before .before .before .before .before .args .heap .now) (c .before .before .before .before .before .before .before .before .before .before .before .start .last .1 .1 .1 .1 .1 .1 .0)) _ (c .told .ensures) (c .before .before .before .before .before .before .before .before .before .before .before .start .ensures)
+
+pub yalgovim-start-spec : {M : Type 1} → statement M
+yalgovim-start-spec =
+    tie.close
+    (tie.spec
+    start-requires
+    told-requires
+    same-length
+    same-length-2
+    same-length-3
+    same-length-4
+    same-length-5
+    returns)

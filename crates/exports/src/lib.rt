@@ -1,0 +1,94 @@
+// The calls that firmware reaches: check, start and run on numbers and lists. An answer travels as four numbers.
+ghost use mathlib.Core.Path.{_≡_};
+ghost use Rattle.model.specs.Calls.{toldOf, checkOf, lent, startOf, runOf};
+ghost use Rattle.exports.specs.Replies.{asTold, replies, repliesTo, checks, checksTo};
+use model::Answer;
+
+#[repr(C)]
+pub struct Reply {
+    pub kind: u32, // 0 passed, 1 ready, 2 finished, 3 spent, 4 uncaught, 5 refused
+    pub number: u32, // the number of a refusal, the code of an uncaught exception, else 0
+    pub place: usize, // the place of either, else 0
+    pub steps: u32, // the steps done, of an answer to run that is no refusal, else 0
+}
+
+fn told(answer: Answer) -> Reply
+    ensures { λ r. ⌜ asTold r ≡ toldOf answer ⌝ }
+{
+    match answer {
+        Answer::Passed => Reply {
+            kind: 0,
+            number: 0,
+            place: 0,
+            steps: 0,
+        },
+        Answer::Ready => Reply {
+            kind: 1,
+            number: 0,
+            place: 0,
+            steps: 0,
+        },
+        Answer::Finished(steps) => Reply {
+            kind: 2,
+            number: 0,
+            place: 0,
+            steps,
+        },
+        Answer::Spent(steps) => Reply {
+            kind: 3,
+            number: 0,
+            place: 0,
+            steps,
+        },
+        Answer::Uncaught(code, place, steps) => Reply {
+            kind: 4,
+            number: code,
+            place,
+            steps,
+        },
+        Answer::Refused(number, place) => Reply {
+            kind: 5,
+            number,
+            place,
+            steps: 0,
+        },
+    }
+}
+
+#[no_mangle]
+pub extern "C" fn yalgovim_check(file: &[u8], map: &mut [u16]) -> Reply
+    ensures { λ r. ⌜ checks r (now (map .exit)) ≡ checksTo (checkOf (now (file .entry)) (now (map .entry))) ⌝ }
+{
+    told(checker::check(file, map))
+}
+
+#[no_mangle]
+pub extern "C" fn yalgovim_start(
+    file: &[u8],
+    map: &mut [u16],
+    main: &mut [u32],
+    ptr: &mut [u32],
+    ctl: &mut [u32],
+    heap: &[u32],
+    registers: &mut [u8],
+) -> Reply
+    ensures { λ r. ⌜ replies r (lent (now (file .entry)) (now (map .exit)) (now (main .exit)) (now (ptr .exit)) (now (ctl .exit)) (now (heap .entry)) (now (registers .exit))) ≡ repliesTo (startOf (lent (now (file .entry)) (now (map .entry)) (now (main .entry)) (now (ptr .entry)) (now (ctl .entry)) (now (heap .entry)) (now (registers .entry)))) ⌝ }
+{
+    told(machine::start(file, map, main, ptr, ctl, heap, registers))
+}
+
+#[no_mangle]
+pub extern "C" fn yalgovim_run(
+    file: &[u8],
+    map: &mut [u16],
+    main: &mut [u32],
+    ptr: &mut [u32],
+    ctl: &mut [u32],
+    heap: &mut [u32],
+    registers: &mut [u8],
+    budget: u32,
+) -> Reply
+    ensures { λ r. ⌜ replies r (lent (now (file .entry)) (now (map .exit)) (now (main .exit)) (now (ptr .exit)) (now (ctl .exit)) (now (heap .exit)) (now (registers .exit))) ≡ repliesTo (runOf budget (lent (now (file .entry)) (now (map .entry)) (now (main .entry)) (now (ptr .entry)) (now (ctl .entry)) (now (heap .entry)) (now (registers .entry)))) ⌝ }
+{
+    told(machine::run(file, map, main, ptr, ctl, heap, registers, budget))
+}
