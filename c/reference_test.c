@@ -197,12 +197,24 @@ static int32_t signed_of(uint32_t w)
     return w < 0x80000000u ? (int32_t)w : -(int32_t)(0xffffffffu - w) - 1;
 }
 
+/* What run leaves is sound, and a run of no step leaves it alone. */
+static void expect_sound(int line, const rig *g)
+{
+    rig again = rig_copy(g);
+    uint32_t kind = reg_of(g, STATE) == 1 ? REF_FINISHED : REF_SPENT;
+    expect(is(do_run(&again, 0), kind, 0, 0, 0), line, "run leaves a sound state");
+    expect(same_rig(&again, g), line, "no step changes nothing");
+    rig_free(&again);
+}
+
 static void bench_line(const uint8_t *file, size_t file_len, char *out)
 {
     rig g = bench_rig(file, file_len);
     ref_reply r = do_start(&g);
-    if (r.kind == REF_READY)
+    if (r.kind == REF_READY) {
         r = do_run(&g, 1000);
+        expect_sound(__LINE__, &g);
+    }
     if (r.kind == REF_REFUSED) {
         sprintf(out, "refused %" PRIu32 " at %" PRIu32, r.number, r.place);
     } else {
@@ -462,6 +474,11 @@ static void test_file(void)
         EXPECT(reg_of(&g, PLACE) == 4093);
         rig_free(&g);
     }
+    big[4093] = 1;
+    big[4095] = 0; /* fjump 0 to 4,096 */
+    expect_refusal(__LINE__, 5, 4093, big, 4096);
+    big[4093] = 20; /* passes its state on to 4,096 */
+    expect_refusal(__LINE__, 6, 4093, big, 4096);
 
     /* 2 */
     for (size_t map_len = 0; map_len <= 39; map_len++) {
@@ -1049,6 +1066,7 @@ static rig run_out(int line, ref_reply want, const uint8_t *file, size_t file_le
     expect(is(do_start(&g), REF_READY, 0, 0, 0), line, "ready");
     ref_reply r = do_run(&g, 1000);
     expect(is(r, want.kind, want.number, want.place, want.steps), line, "the ending");
+    expect_sound(line, &g);
     return g;
 }
 
@@ -1077,6 +1095,13 @@ static void test_objects_and_stacks(void)
     /* 7 54 5; 9 54 6; 11 20 0; 14 22 1; 17 73 */
     BENCH("finished steps=5 main=5,5",
           240, 0, 0, 2, 0, 3, 0, 54, 5, 54, 6, 20, 0, 0, 22, 0, 1, 73);
+
+    /* 7 form -> 2; 12 form -> 4; 17 57; 18 21 1 pushes 4; 21 23 2; 24 73 */
+    g = run_out(__LINE__, reply(REF_FINISHED, 0, 0, 6),
+                BYTES(240, 0, 0, 0, 3, 0, 4, 36, 0, 0, 0, 0, 36, 0, 0, 0, 0, 57, 21, 0, 1,
+                      23, 0, 2, 73));
+    LIST_IS(g, PTR, 2, 4, 4);
+    rig_free(&g);
 
     /* 7 54 11; 9 54 12; 11 form 2 0 -> 2; 16 57; 17 form 0 2 -> 6;
        22 31 2 gives 2; 25 30 3 gives 12; 28 73 */
@@ -1136,6 +1161,13 @@ static void test_objects_and_stacks(void)
     /* 60: 1 2 3 and nil; drop 1 main, 1 pointer under the 3 */
     BENCH("finished steps=6 main=1,3",
           240, 0, 0, 2, 0, 3, 1, 54, 1, 54, 2, 54, 3, 57, 60, 0, 1, 0, 1, 73);
+    g = run_out(__LINE__, reply(REF_FINISHED, 0, 0, 6),
+                BYTES(240, 0, 0, 2, 0, 3, 1, 54, 1, 54, 2, 54, 3, 36, 0, 0, 0, 0,
+                      60, 0, 1, 0, 1, 73));
+    LIST_IS(g, MAIN, 1, 3);
+    LIST_IS(g, PTR, 0);
+    EXPECT(reg_of(&g, MTOP) == 2 && reg_of(&g, PTOP) == 0);
+    rig_free(&g);
     BENCH("finished steps=5 main=3",
           240, 0, 0, 1, 0, 3, 0, 54, 1, 54, 2, 54, 3, 60, 0, 2, 0, 0, 73);
     BENCH("finished steps=4 main=1,2",
@@ -1176,6 +1208,26 @@ static void test_calls(void)
     BENCH("finished steps=8 main=1",
           240, 0, 0, 1, 0, 1, 3, 36, 0, 0, 0, 0, 36, 0, 0, 0, 0, 72, 0, 1, 131,
           64, 0, 0, 0, 1, 73, 240, 0, 1, 0, 2, 0, 2, 21, 0, 0, 73);
+
+    /* a return brings back the caller's bases: 7 54 50; 9 form -> 2; 14 form -> 4;
+       19 54 9; 21 72 1; 24 20 0; 27 21 0; 30 73. 31 head: 38 64 1 1; 43 73 */
+    rig g = run_out(__LINE__, reply(REF_FINISHED, 0, 0, 10),
+                    BYTES(240, 0, 0, 2, 2, 2, 2, 54, 50, 36, 0, 0, 0, 0, 36, 0, 0, 0, 0, 54, 9,
+                          72, 0, 1, 20, 0, 0, 21, 0, 0, 73,
+                          240, 1, 1, 0, 0, 1, 1, 64, 0, 1, 0, 1, 73));
+    LIST_IS(g, MAIN, 50, 50);
+    LIST_IS(g, PTR, 2, 2);
+    rig_free(&g);
+
+    /* also bases that are not 0: 7 54 50; 9 form -> 2; 14 54 60; 16 form -> 4;
+       21 72 1; 24 73. 25 head: 32 72 2; 35 20 0; 38 21 0; 41 73. 42 head: 49 73 */
+    g = run_out(__LINE__, reply(REF_FINISHED, 0, 0, 11),
+                BYTES(240, 0, 0, 3, 3, 3, 3, 54, 50, 36, 0, 0, 0, 0, 54, 60, 36, 0, 0, 0, 0,
+                      72, 0, 1, 73,
+                      240, 1, 1, 2, 2, 2, 2, 72, 0, 2, 20, 0, 0, 21, 0, 0, 73, HEAD0, 73));
+    LIST_IS(g, MAIN, 50, 60, 60);
+    LIST_IS(g, PTR, 2, 4, 4);
+    rig_free(&g);
 
 #define FACTORIAL(n) 240, 0, 0, 1, 0, 1, 0, 54, n, 72, 0, 1, 73, \
         240, 1, 0, 1, 0, 3, 0, 20, 0, 0, 2, 0, 11, 20, 0, 0, 54, 1, 142, \
@@ -1479,6 +1531,29 @@ static void test_handlers(void)
     LIST_IS(g, CTL, 0);
     EXPECT(reg_of(&g, PLACE) == 20 && reg_of(&g, FRAME) == 1 && reg_of(&g, HANDLER) == 0);
     EXPECT(reg_of(&g, MTOP) == 2 && reg_of(&g, PTOP) == 0 && reg_of(&g, CTOP) == 5);
+    rig_free(&g);
+
+    /* a raise brings back the handler's frame: 7 54 50; 9 form -> 2; 14 160 -> 26;
+       17 57; 18 54 9; 20 72 1; 23 3 0 3; 26 20 0; 29 21 0; 32 73.
+       33 head: 40 162 of 9 */
+    g = run_out(__LINE__, reply(REF_FINISHED, 0, 0, 10),
+                BYTES(240, 0, 0, 3, 2, 3, 2, 54, 50, 36, 0, 0, 0, 0, 160, 0, 26, 57, 54, 9,
+                      72, 0, 1, 3, 0, 3, 20, 0, 0, 21, 0, 0, 73,
+                      240, 1, 1, 0, 0, 1, 1, 162));
+    LIST_IS(g, MAIN, 50, 9, 50);
+    LIST_IS(g, PTR, 2, 2);
+    rig_free(&g);
+
+    /* also bases that are not 0: 7 54 50; 9 form -> 2; 14 54 60; 16 form -> 4;
+       21 72 1; 24 73. 25 head: 32 160 + 16 -> 41; 35 72 2; 38 3 0 3; 41 20 0;
+       44 21 0; 47 73. 48 head: 55 54 8; 57 162 */
+    g = run_out(__LINE__, reply(REF_FINISHED, 0, 0, 13),
+                BYTES(240, 0, 0, 4, 3, 4, 3, 54, 50, 36, 0, 0, 0, 0, 54, 60, 36, 0, 0, 0, 0,
+                      72, 0, 1, 73,
+                      240, 1, 1, 3, 2, 3, 2, 160, 0, 16, 72, 0, 2, 3, 0, 3, 20, 0, 0,
+                      21, 0, 0, 73, 240, 0, 0, 0, 0, 1, 0, 54, 8, 162));
+    LIST_IS(g, MAIN, 50, 60, 8, 60);
+    LIST_IS(g, PTR, 2, 4, 4);
     rig_free(&g);
 
     /* 7 54 100; 9 54 20; 11 72 1; 14 73.
