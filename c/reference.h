@@ -1,0 +1,52 @@
+/*
+ * The two-stack routine machine in plain C, written from document 01 alone.
+ * An independent reference for the proved implementation, and its benchmark
+ * baseline. Any lengths and contents are accepted; an empty list may be NULL.
+ * The lists of one call must not overlap.
+ */
+#ifndef REFERENCE_H
+#define REFERENCE_H
+
+#include <stddef.h>
+#include <stdint.h>
+
+enum {
+    REF_PASSED = 0,
+    REF_READY = 1,
+    REF_FINISHED = 2,
+    REF_SPENT = 3,
+    REF_UNCAUGHT = 4,
+    REF_REFUSED = 5
+};
+
+typedef struct {
+    uint32_t kind;   /* one of REF_PASSED to REF_REFUSED */
+    uint32_t number; /* refusal number, or the uncaught code as a word; else 0 */
+    uint32_t place;  /* for uncaught and refused; else 0 */
+    uint32_t steps;  /* for finished, spent and uncaught; else 0 */
+} ref_reply;
+
+/* Tests 1 to 9. */
+ref_reply ref_check(const uint8_t *file, size_t file_len,
+                    uint16_t *map, size_t map_len);
+
+/* Tests 1 to 12, then zeroes the stacks, writes first frame and registers. */
+ref_reply ref_start(const uint8_t *file, size_t file_len,
+                    uint16_t *map, size_t map_len,
+                    uint32_t *main_stack, size_t main_len,
+                    uint32_t *ptr_stack, size_t ptr_len,
+                    uint32_t *ctl_stack, size_t ctl_len,
+                    uint32_t *heap, size_t heap_len,
+                    uint8_t *regs, size_t regs_len);
+
+/* Tests 1 to 12, then runs at most budget steps. */
+ref_reply ref_run(const uint8_t *file, size_t file_len,
+                  uint16_t *map, size_t map_len,
+                  uint32_t *main_stack, size_t main_len,
+                  uint32_t *ptr_stack, size_t ptr_len,
+                  uint32_t *ctl_stack, size_t ctl_len,
+                  uint32_t *heap, size_t heap_len,
+                  uint8_t *regs, size_t regs_len,
+                  uint32_t budget);
+
+#endif

@@ -1,0 +1,2243 @@
+/*
+ * Tests of the reference. Every expectation is worked out by hand from
+ * document 01; places stand in front of the instructions in the comments.
+ */
+#include "reference.h"
+
+#include <inttypes.h>
+#include <stdbool.h>
+#include <stdio.h>
+#include <stdlib.h>
+#include <string.h>
+
+enum { N = 65535 };
+
+static unsigned long checks, failures;
+
+static void expect(bool ok, int line, const char *what)
+{
+    checks++;
+    if (!ok) {
+        failures++;
+        if (failures <= 50)
+            printf("line %d: not so: %s\n", line, what);
+    }
+}
+
+#define EXPECT(cond) expect((cond), __LINE__, #cond)
+#define BYTES(...) (const uint8_t[]){ __VA_ARGS__ }, sizeof((const uint8_t[]){ __VA_ARGS__ })
+
+/* ---- lent lists, each allocated to its exact length ---- */
+
+typedef struct {
+    uint8_t *file;
+    uint16_t *map;
+    uint32_t *list[4]; /* main, pointer, control, heap */
+    uint8_t *regs;
+    size_t file_len, map_len, len[4], regs_len;
+} rig;
+
+enum { MAIN, PTR, CTL, HEAP, REGS };
+enum { PLACE, FRAME, HANDLER, MTOP, PTOP, CTOP, STATE };
+
+static void *take(size_t bytes)
+{
+    if (bytes == 0)
+        return NULL;
+    void *p = malloc(bytes);
+    if (p == NULL)
+        abort();
+    return p;
+}
+
+/* Stacks, map and registers hold junk, the heap is empty. */
+static rig rig_new(const uint8_t *file, size_t file_len, size_t map_len,
+                   size_t m, size_t p, size_t c, size_t h, size_t regs_len)
+{
+    rig g;
+    size_t len[4] = { m, p, c, h };
+    g.file = take(file_len);
+    g.file_len = file_len;
+    if (file_len > 0)
+        memcpy(g.file, file, file_len);
+    g.map = take(map_len * 2);
+    g.map_len = map_len;
+    for (size_t i = 0; i < map_len; i++)
+        g.map[i] = (uint16_t)(0xabcd + i);
+    for (int l = 0; l < 4; l++) {
+        g.len[l] = len[l];
+        g.list[l] = take(len[l] * 4);
+        for (size_t i = 0; i < len[l]; i++)
+            g.list[l][i] = l == HEAP ? (i == 0 ? 2 : 0) : 0xdeadbe00u + (uint32_t)i;
+    }
+    g.regs = take(regs_len);
+    g.regs_len = regs_len;
+    for (size_t i = 0; i < regs_len; i++)
+        g.regs[i] = (uint8_t)(0x5a + i);
+    return g;
+}
+
+/* The bench program's lists. */
+static rig bench_rig(const uint8_t *file, size_t file_len)
+{
+    return rig_new(file, file_len, 3 * 4096, 256, 256, 250, 1024, 28);
+}
+
+static void rig_free(rig *g)
+{
+    free(g->file);
+    free(g->map);
+    for (int l = 0; l < 4; l++)
+        free(g->list[l]);
+    free(g->regs);
+}
+
+static void copy(void *to, const void *from, size_t bytes)
+{
+    if (bytes > 0)
+        memcpy(to, from, bytes);
+}
+
+static bool same_bytes(const void *a, const void *b, size_t bytes)
+{
+    return bytes == 0 || memcmp(a, b, bytes) == 0;
+}
+
+static rig rig_copy(const rig *g)
+{
+    rig c = rig_new(g->file, g->file_len, g->map_len, g->len[MAIN], g->len[PTR],
+                    g->len[CTL], g->len[HEAP], g->regs_len);
+    copy(c.map, g->map, g->map_len * 2);
+    for (int l = 0; l < 4; l++)
+        copy(c.list[l], g->list[l], g->len[l] * 4);
+    copy(c.regs, g->regs, g->regs_len);
+    return c;
+}
+
+static bool same_map(const rig *a, const rig *b)
+{
+    return a->map_len == b->map_len && same_bytes(a->map, b->map, a->map_len * 2);
+}
+
+/* All but the map. */
+static bool same_state(const rig *a, const rig *b)
+{
+    for (int l = 0; l < 4; l++)
+        if (a->len[l] != b->len[l] || !same_bytes(a->list[l], b->list[l], a->len[l] * 4))
+            return false;
+    return a->file_len == b->file_len && same_bytes(a->file, b->file, a->file_len)
+        && a->regs_len == b->regs_len && same_bytes(a->regs, b->regs, a->regs_len);
+}
+
+static bool same_rig(const rig *a, const rig *b)
+{
+    return same_map(a, b) && same_state(a, b);
+}
+
+static uint32_t reg_of(const rig *g, size_t i)
+{
+    const uint8_t *b = g->regs + 4 * i;
+    return b[0] * 16777216u + b[1] * 65536u + b[2] * 256u + b[3];
+}
+
+static void set_reg(rig *g, size_t i, uint32_t v)
+{
+    for (size_t k = 0; k < 4; k++)
+        g->regs[4 * i + k] = (uint8_t)(v >> (24 - 8 * k));
+}
+
+static uint32_t word_of(const rig *g, int list, size_t i)
+{
+    return list == REGS ? reg_of(g, i) : g->list[list][i];
+}
+
+static void set_word(rig *g, int list, size_t i, uint32_t v)
+{
+    if (list == REGS)
+        set_reg(g, i, v);
+    else
+        g->list[list][i] = v;
+}
+
+static ref_reply do_check(rig *g)
+{
+    return ref_check(g->file, g->file_len, g->map, g->map_len);
+}
+
+static ref_reply do_start(rig *g)
+{
+    return ref_start(g->file, g->file_len, g->map, g->map_len,
+                     g->list[MAIN], g->len[MAIN], g->list[PTR], g->len[PTR],
+                     g->list[CTL], g->len[CTL], g->list[HEAP], g->len[HEAP],
+                     g->regs, g->regs_len);
+}
+
+static ref_reply do_run(rig *g, uint32_t budget)
+{
+    return ref_run(g->file, g->file_len, g->map, g->map_len,
+                   g->list[MAIN], g->len[MAIN], g->list[PTR], g->len[PTR],
+                   g->list[CTL], g->len[CTL], g->list[HEAP], g->len[HEAP],
+                   g->regs, g->regs_len, budget);
+}
+
+static bool is(ref_reply r, uint32_t kind, uint32_t number, uint32_t place, uint32_t steps)
+{
+    return r.kind == kind && r.number == number && r.place == place && r.steps == steps;
+}
+
+static bool is_refused(ref_reply r, uint32_t number, uint32_t place)
+{
+    return is(r, REF_REFUSED, number, place, 0);
+}
+
+/* ---- the bench line ---- */
+
+static int32_t signed_of(uint32_t w)
+{
+    return w < 0x80000000u ? (int32_t)w : -(int32_t)(0xffffffffu - w) - 1;
+}
+
+/* What run leaves is sound, and a run of no step leaves it alone. */
+static void expect_sound(int line, const rig *g)
+{
+    rig again = rig_copy(g);
+    uint32_t kind = reg_of(g, STATE) == 1 ? REF_FINISHED : REF_SPENT;
+    expect(is(do_run(&again, 0), kind, 0, 0, 0), line, "run leaves a sound state");
+    expect(same_rig(&again, g), line, "no step changes nothing");
+    rig_free(&again);
+}
+
+static void bench_line(const uint8_t *file, size_t file_len, char *out)
+{
+    rig g = bench_rig(file, file_len);
+    ref_reply r = do_start(&g);
+    if (r.kind == REF_READY) {
+        r = do_run(&g, 1000);
+        expect_sound(__LINE__, &g);
+    }
+    if (r.kind == REF_REFUSED) {
+        sprintf(out, "refused %" PRIu32 " at %" PRIu32, r.number, r.place);
+    } else {
+        if (r.kind == REF_FINISHED)
+            out += sprintf(out, "finished");
+        else if (r.kind == REF_SPENT)
+            out += sprintf(out, "spent");
+        else
+            out += sprintf(out, "uncaught %" PRId32 " at %" PRIu32,
+                           signed_of(r.number), r.place);
+        out += sprintf(out, " steps=%" PRIu32 " main=", r.steps);
+        for (uint32_t i = 0; i < reg_of(&g, MTOP); i++)
+            out += sprintf(out, i == 0 ? "%" PRId32 : ",%" PRId32,
+                           signed_of(g.list[MAIN][i]));
+    }
+    rig_free(&g);
+}
+
+static void expect_bench(int line, const char *want, const uint8_t *file, size_t file_len)
+{
+    static char got[8192];
+    bench_line(file, file_len, got);
+    bool ok = strcmp(got, want) == 0;
+    expect(ok, line, want);
+    if (!ok)
+        printf("    got: %s\n", got);
+}
+
+#define BENCH(want, ...) expect_bench(__LINE__, want, BYTES(__VA_ARGS__))
+
+/* ---- refusals 1 to 9 by all three calls, and what they write ---- */
+
+static void expect_refusal(int line, uint32_t number, uint32_t place,
+                           const uint8_t *file, size_t file_len)
+{
+    for (int call = 0; call < 3; call++) {
+        rig g = rig_new(file, file_len, 3 * file_len + 4, 9, 9, 9, 9, 28);
+        rig before = rig_copy(&g);
+        ref_reply r = call == 0 ? do_check(&g) : call == 1 ? do_start(&g) : do_run(&g, 7);
+        bool ok = is_refused(r, number, place);
+        expect(ok, line, "refusal");
+        if (!ok)
+            printf("    got: kind %" PRIu32 " number %" PRIu32 " place %" PRIu32 "\n",
+                   r.kind, r.number, r.place);
+        if (number >= 3)
+            for (size_t i = 0; i < 3 * file_len; i++)
+                before.map[i] = N;
+        expect(same_rig(&g, &before), line, "a refusal writes the map's first numbers alone");
+        rig_free(&g);
+        rig_free(&before);
+    }
+}
+
+#define REFUSAL(number, place, ...) \
+    expect_refusal(__LINE__, number, place, BYTES(__VA_ARGS__))
+
+/* ---- passed, with the whole map ---- */
+
+typedef struct {
+    uint16_t place, m, p, h;
+} entry;
+
+static void expect_map(int line, const entry *want, size_t entries,
+                       const uint8_t *file, size_t file_len)
+{
+    rig g = rig_new(file, file_len, 3 * file_len + 2, 0, 0, 0, 0, 0);
+    rig before = rig_copy(&g);
+    ref_reply r = do_check(&g);
+    bool ok = is(r, REF_PASSED, 0, 0, 0);
+    expect(ok, line, "passed");
+    if (!ok)
+        printf("    got: kind %" PRIu32 " number %" PRIu32 " place %" PRIu32 "\n",
+               r.kind, r.number, r.place);
+    for (size_t i = 0; i < 3 * file_len; i++)
+        before.map[i] = N;
+    for (size_t i = 0; i < entries; i++) {
+        before.map[3 * want[i].place] = want[i].m;
+        before.map[3 * want[i].place + 1] = want[i].p;
+        before.map[3 * want[i].place + 2] = want[i].h;
+    }
+    expect(same_rig(&g, &before), line, "the map");
+    rig_free(&g);
+    rig_free(&before);
+}
+
+#define MAP(entries, ...) \
+    expect_map(__LINE__, entries, sizeof(entries) / sizeof((entries)[0]), BYTES(__VA_ARGS__))
+
+static void expect_passes(int line, const uint8_t *file, size_t file_len)
+{
+    rig g = rig_new(file, file_len, 3 * file_len, 0, 0, 0, 0, 0);
+    ref_reply r = do_check(&g);
+    bool ok = is(r, REF_PASSED, 0, 0, 0);
+    expect(ok, line, "passed");
+    if (!ok)
+        printf("    got: kind %" PRIu32 " number %" PRIu32 " place %" PRIu32 "\n",
+               r.kind, r.number, r.place);
+    rig_free(&g);
+}
+
+#define PASSES(...) expect_passes(__LINE__, BYTES(__VA_ARGS__))
+
+/* ---- the samples of document 01 ---- */
+
+#define A_FILE 240, 0, 0, 1, 0, 2, 0, 54, 5, 54, 3, 142, 73
+#define B_FILE 240, 0, 0, 1, 0, 2, 0, 160, 0, 17, 54, 9, 54, 0, 143, 161, 73, 73
+#define B3_FILE 240, 0, 0, 1, 0, 2, 0, 160, 0, 17, 54, 9, 54, 3, 143, 161, 73, 73
+#define HEAD0 240, 0, 0, 0, 0, 0, 0
+
+static void test_samples(void)
+{
+    /* A: 7 54 5; 9 54 3; 11 142; 12 73 */
+    entry a_map[] = { { 7, 0, 0, N }, { 9, 1, 0, N }, { 11, 2, 0, N }, { 12, 1, 0, N } };
+    MAP(a_map, A_FILE);
+    BENCH("finished steps=4 main=2", A_FILE);
+
+    /* B: 7 160 -> 17; 10 54 9; 12 54 0; 14 143; 15 161; 16 73; 17 73 */
+    entry b_map[] = { { 7, 0, 0, N }, { 10, 0, 0, 7 }, { 12, 1, 0, 7 }, { 14, 2, 0, 7 },
+                      { 15, 1, 0, 7 }, { 16, 1, 0, N }, { 17, 1, 0, N } };
+    MAP(b_map, B_FILE);
+    BENCH("finished steps=5 main=1", B_FILE);
+    BENCH("finished steps=6 main=3", B3_FILE);
+
+    BENCH("spent steps=1000 main=", HEAD0, 3, 0, 3);
+    BENCH("uncaught 1 at 11 steps=2 main=5,0",
+          240, 0, 0, 1, 0, 2, 0, 54, 5, 54, 0, 143, 73);
+    BENCH("refused 7 at 7", 240, 0, 0, 0, 0, 1, 0, 142, 73);
+
+    /* -7 is byte 249 */
+    BENCH("finished steps=4 main=-3", 240, 0, 0, 1, 0, 2, 0, 54, 249, 54, 2, 143, 73);
+    BENCH("finished steps=4 main=-1", 240, 0, 0, 1, 0, 2, 0, 54, 249, 54, 2, 145, 73);
+    /* 7 56 -2^31; 12 144 */
+    BENCH("uncaught 1 at 12 steps=1 main=-2147483648",
+          240, 0, 0, 1, 0, 1, 0, 56, 128, 0, 0, 0, 144, 73);
+    BENCH("finished steps=3 main=2147483647",
+          240, 0, 0, 1, 0, 1, 0, 56, 128, 0, 0, 1, 144, 73);
+
+    /* Endless recursion: 250 control words are 50 records, the first frame's
+       and 49 calls. */
+    BENCH("uncaught 5 at 7 steps=49 main=", HEAD0, 72, 0, 0, 73);
+
+    /* A map of 39 and a main stack of 2 suffice. */
+    {
+        rig g = rig_new(BYTES(A_FILE), 39, 2, 1, 5, 2, 28);
+        EXPECT(is(do_check(&g), REF_PASSED, 0, 0, 0));
+        EXPECT(is(do_start(&g), REF_READY, 0, 0, 0));
+        EXPECT(is(do_run(&g, 4), REF_FINISHED, 0, 0, 4));
+        EXPECT(g.list[MAIN][0] == 2 && g.list[MAIN][1] == 0);
+        rig_free(&g);
+    }
+    /* Rows 1 to 9 as printed. */
+    {
+        char got[64];
+        bench_line(NULL, 0, got);
+        EXPECT(strcmp(got, "refused 1 at 0") == 0);
+    }
+    BENCH("refused 3 at 0", 240, 0, 0);
+    BENCH("refused 4 at 0", 240, 1, 0, 0, 0, 1, 0, 73);
+    BENCH("refused 5 at 7", 240, 0, 0, 0, 0, 0, 0, 72, 0, 1, 73);
+    BENCH("refused 6 at 7", 240, 0, 0, 0, 0, 1, 0, 54, 1);
+    BENCH("refused 8 at 7", 240, 0, 0, 1, 0, 1, 0, 73);
+    BENCH("refused 9 at 9", 240, 0, 0, 0, 0, 1, 0, 54, 1, 3, 0, 5);
+}
+
+/* ---- start: what it writes ---- */
+
+static void test_start(void)
+{
+    rig g = rig_new(BYTES(A_FILE), 45, 6, 4, 12, 8, 28);
+    /* an object of one pointer word to itself, and the root */
+    uint32_t heap[8] = { 5, 2, 0x01000001, 3, 2, 0, 0, 0 };
+    memcpy(g.list[HEAP], heap, sizeof heap);
+    EXPECT(is(do_start(&g), REF_READY, 0, 0, 0));
+    const uint8_t regs[28] = { 0, 0, 0, 7, 0, 0, 0, 1, 0, 0, 0, 0, 0, 0,
+                               0, 0, 0, 0, 0, 0, 0, 0, 0, 5, 0, 0, 0, 0 };
+    EXPECT(memcmp(g.regs, regs, 28) == 0);
+    for (int l = MAIN; l <= CTL; l++)
+        for (size_t i = 0; i < g.len[l]; i++)
+            EXPECT(g.list[l][i] == 0);
+    EXPECT(memcmp(g.list[HEAP], heap, sizeof heap) == 0);
+    EXPECT(g.map[3 * 9] == 1 && g.map[3 * 11] == 2 && g.map[38] == N && g.map[36] == 1);
+    EXPECT(g.map[39] == (uint16_t)(0xabcd + 39) && g.map[44] == (uint16_t)(0xabcd + 44));
+
+    EXPECT(is(do_run(&g, 3), REF_SPENT, 0, 0, 3));
+    EXPECT(reg_of(&g, PLACE) == 12 && reg_of(&g, FRAME) == 1 && reg_of(&g, HANDLER) == 0);
+    EXPECT(reg_of(&g, MTOP) == 1 && reg_of(&g, PTOP) == 0 && reg_of(&g, CTOP) == 5);
+    EXPECT(reg_of(&g, STATE) == 0);
+    EXPECT(g.list[MAIN][0] == 2 && g.list[MAIN][1] == 0);
+    EXPECT(is(do_run(&g, 0), REF_SPENT, 0, 0, 0));
+    EXPECT(is(do_run(&g, 9), REF_FINISHED, 0, 0, 1));
+    const uint8_t done[28] = { 0, 0, 0, 0, 0, 0, 0, 0, 0, 0, 0, 0, 0, 0,
+                               0, 1, 0, 0, 0, 0, 0, 0, 0, 0, 0, 0, 0, 1 };
+    EXPECT(memcmp(g.regs, done, 28) == 0);
+    EXPECT(is(do_run(&g, 0), REF_FINISHED, 0, 0, 0));
+    EXPECT(is(do_run(&g, 4294967295u), REF_FINISHED, 0, 0, 0));
+    EXPECT(memcmp(g.regs, done, 28) == 0);
+    rig_free(&g);
+
+    /* A place above 255: 100 times fjump 0 from 7, so 307 = 1 * 256 + 51. */
+    uint8_t file[308] = { HEAD0 };
+    for (size_t i = 0; i < 100; i++)
+        file[7 + 3 * i] = 1;
+    file[307] = 73;
+    g = bench_rig(file, sizeof file);
+    EXPECT(is(do_start(&g), REF_READY, 0, 0, 0));
+    EXPECT(is(do_run(&g, 100), REF_SPENT, 0, 0, 100));
+    EXPECT(g.regs[0] == 0 && g.regs[1] == 0 && g.regs[2] == 1 && g.regs[3] == 51);
+    EXPECT(is(do_run(&g, 4294967295u), REF_FINISHED, 0, 0, 1));
+    rig_free(&g);
+}
+
+/* ---- refusals 1 to 4 ---- */
+
+/* Body lengths by kind; -1 is unknown. */
+static int body_of(int kind)
+{
+    static const int none[] = { 57, 58, 59, 73, 130, 131, 140, 141, 142, 143, 144, 145, 146,
+                                161, 162, 195, 198, 201, 204 };
+    static const int two[] = { 1, 2, 3, 4, 5, 6, 20, 21, 22, 23, 30, 31, 32, 33, 72, 160 };
+    static const int four[] = { 36, 56, 60, 62, 64 };
+    for (size_t i = 0; i < sizeof none / sizeof none[0]; i++)
+        if (none[i] == kind)
+            return 0;
+    for (size_t i = 0; i < sizeof two / sizeof two[0]; i++)
+        if (two[i] == kind)
+            return 2;
+    for (size_t i = 0; i < sizeof four / sizeof four[0]; i++)
+        if (four[i] == kind)
+            return 4;
+    return kind == 54 ? 1 : kind == 240 ? 6 : -1;
+}
+
+static void test_file(void)
+{
+    static uint8_t big[4097] = { HEAD0 };
+
+    /* 1 */
+    expect_refusal(__LINE__, 1, 0, NULL, 0);
+    for (size_t i = 7; i + 3 <= 4096; i += 3)
+        big[i] = 1; /* fjump 0 */
+    expect_refusal(__LINE__, 1, 0, big, 4097);
+    EXPECT(is_refused(ref_check(big, 4097, NULL, 0), 1, 0));
+    EXPECT(is_refused(ref_check(NULL, 0, NULL, 0), 1, 0));
+    {
+        char got[64];
+        bench_line(big, 4097, got);
+        EXPECT(strcmp(got, "refused 1 at 0") == 0);
+    }
+    /* 4,096 bytes: 1,362 fjumps from 7, then bjump 3 at 4,093 */
+    big[4093] = 3;
+    big[4095] = 3;
+    expect_passes(__LINE__, big, 4096);
+    {
+        rig g = bench_rig(big, 4096);
+        EXPECT(is(do_start(&g), REF_READY, 0, 0, 0));
+        EXPECT(is(do_run(&g, 100000), REF_SPENT, 0, 0, 100000));
+        EXPECT(reg_of(&g, PLACE) == 4093);
+        rig_free(&g);
+    }
+    big[4093] = 1;
+    big[4095] = 0; /* fjump 0 to 4,096 */
+    expect_refusal(__LINE__, 5, 4093, big, 4096);
+    big[4093] = 20; /* passes its state on to 4,096 */
+    expect_refusal(__LINE__, 6, 4093, big, 4096);
+
+    /* 2 */
+    for (size_t map_len = 0; map_len <= 39; map_len++) {
+        rig g = rig_new(BYTES(A_FILE), map_len, 2, 1, 5, 2, 28);
+        rig before = rig_copy(&g);
+        if (map_len < 39) {
+            EXPECT(is_refused(do_check(&g), 2, 0));
+            EXPECT(is_refused(do_start(&g), 2, 0));
+            EXPECT(is_refused(do_run(&g, 1), 2, 0));
+            EXPECT(same_rig(&g, &before));
+        } else {
+            EXPECT(is(do_check(&g), REF_PASSED, 0, 0, 0));
+        }
+        rig_free(&g);
+        rig_free(&before);
+    }
+    EXPECT(is_refused(ref_check((const uint8_t[]){ 99 }, 1, NULL, 0), 2, 0));
+
+    /* 3 */
+    REFUSAL(3, 0, 240, 0, 0);
+    REFUSAL(3, 0, 73);
+    REFUSAL(3, 0, 73, 99);
+    REFUSAL(3, 0, 54, 1, 240);
+    REFUSAL(3, 7, HEAD0, 0);
+    REFUSAL(3, 7, HEAD0, 61, 0, 0, 0, 0, 73);
+    REFUSAL(3, 7, HEAD0, 63, 0, 0, 0, 0, 73);
+    REFUSAL(3, 7, HEAD0, 241, 0, 73);
+    REFUSAL(3, 8, HEAD0, 73, 240, 0, 0, 0, 0, 0);
+    /* nothing behind an unknown kind is looked at, the first one counts */
+    REFUSAL(3, 8, HEAD0, 73, 7, 8);
+    /* 3 anywhere beats 4 anywhere */
+    REFUSAL(3, 8, 240, 1, 0, 0, 0, 1, 0, 73, 99);
+    REFUSAL(3, 10, HEAD0, 72, 0, 9, 1, 0);
+    for (int kind = 0; kind < 256; kind++) {
+        uint8_t file[7 + 7] = { HEAD0, 0 };
+        int body = body_of(kind);
+        file[7] = (uint8_t)kind;
+        if (body < 0) {
+            for (size_t more = 0; more <= 6; more += 3)
+                expect_refusal(__LINE__, 3, 7, file, 8 + more);
+            continue;
+        }
+        for (int have = 0; have < body; have++)
+            expect_refusal(__LINE__, 3, 7, file, 8 + (size_t)have);
+        rig g = rig_new(file, 8 + (size_t)body, 64, 0, 0, 0, 0, 0);
+        EXPECT(do_check(&g).number != 3);
+        rig_free(&g);
+    }
+
+    /* 4 */
+    REFUSAL(4, 0, 240, 1, 0, 0, 0, 1, 0, 73);
+    REFUSAL(4, 0, 240, 0, 1, 0, 0, 0, 1, 73);
+    REFUSAL(4, 0, 240, 0, 0, 1, 0, 0, 0, 73);
+    REFUSAL(4, 0, 240, 0, 0, 0, 1, 0, 0, 73);
+    REFUSAL(4, 0, HEAD0);
+    REFUSAL(4, 0, HEAD0, HEAD0, 73);
+    REFUSAL(4, 8, HEAD0, 73, HEAD0);
+    REFUSAL(4, 8, HEAD0, 73, 240, 2, 0, 0, 0, 1, 0, 73);
+    REFUSAL(4, 8, HEAD0, 73, 240, 0, 2, 0, 0, 0, 1, 73);
+    REFUSAL(4, 8, HEAD0, 73, 240, 0, 0, 2, 0, 1, 0, 73);
+    REFUSAL(4, 8, HEAD0, 73, 240, 0, 0, 0, 2, 0, 1, 73);
+    PASSES(HEAD0, 73, 240, 1, 1, 1, 1, 1, 1, 73);
+    /* 4 anywhere beats 5 anywhere */
+    REFUSAL(4, 11, HEAD0, 72, 0, 9, 73, 240, 0, 0, 1, 0, 0, 0, 73);
+    /* 64 procedures pass, the 65th head lies at 64 * 8 = 512 */
+    uint8_t procs[65 * 8];
+    for (size_t i = 0; i < 65; i++)
+        memcpy(procs + 8 * i, (const uint8_t[]){ HEAD0, 73 }, 8);
+    expect_passes(__LINE__, procs, 64 * 8);
+    expect_refusal(__LINE__, 4, 512, procs, 65 * 8);
+    procs[8 * 20 + 1] = 1; /* a above x in head 20 comes first */
+    expect_refusal(__LINE__, 4, 160, procs, 65 * 8);
+    procs[8 * 20 + 1] = 0;
+    /* procedure 63 can be called, 64 can't: 7 72 0 63; 10 73 */
+    uint8_t calls[11 + 63 * 8];
+    memcpy(calls, (const uint8_t[]){ HEAD0, 72, 0, 63, 73 }, 11);
+    memcpy(calls + 11, procs, 63 * 8);
+    expect_passes(__LINE__, calls, sizeof calls);
+    expect_bench(__LINE__, "finished steps=3 main=", calls, sizeof calls);
+    calls[9] = 64;
+    expect_refusal(__LINE__, 5, 7, calls, sizeof calls);
+}
+
+/* ---- refusals 5, 6, 8, 9 ---- */
+
+static void test_flow(void)
+{
+    /* 5: no such procedure */
+    REFUSAL(5, 7, HEAD0, 72, 0, 1, 73);
+    REFUSAL(5, 7, HEAD0, 72, 1, 0, 73);
+    REFUSAL(5, 7, HEAD0, 72, 255, 255, 73);
+    /* 5: forwards from 7, after the operand is 10, 73 at 10, the end at 11 */
+    PASSES(HEAD0, 1, 0, 0, 73);
+    REFUSAL(5, 7, HEAD0, 1, 0, 1, 73);
+    REFUSAL(5, 7, HEAD0, 1, 0, 2, 73);
+    REFUSAL(5, 7, HEAD0, 1, 255, 255, 73);
+    /* 5: backwards: 10 - s; 7 is itself, 8 and 9 operand bytes, 0 the head,
+       1 to 6 its body, -1 before the file */
+    PASSES(HEAD0, 3, 0, 0, 73);
+    REFUSAL(5, 7, HEAD0, 3, 0, 1, 73);
+    REFUSAL(5, 7, HEAD0, 3, 0, 2, 73);
+    REFUSAL(6, 10, HEAD0, 3, 0, 3, 73); /* 7 passes, 10 is unreached */
+    PASSES(HEAD0, 3, 0, 3);
+    REFUSAL(5, 7, HEAD0, 3, 0, 4, 73);
+    REFUSAL(5, 7, HEAD0, 3, 0, 9, 73);
+    REFUSAL(5, 7, HEAD0, 3, 0, 10, 73);
+    REFUSAL(5, 7, HEAD0, 3, 0, 11, 73);
+    REFUSAL(5, 7, HEAD0, 3, 1, 3, 73);
+    REFUSAL(5, 7, HEAD0, 3, 255, 255, 73);
+    /* 5: the other jumps; 7 54 0; 9 jump; 12 73 or the like */
+    static const uint8_t forwards[] = { 2, 5, 6 };
+    for (size_t i = 0; i < sizeof forwards; i++) {
+        uint8_t f[] = { 240, 0, 0, 0, 0, 1, 0, 54, 0, forwards[i], 0, 1, 73 };
+        expect_refusal(__LINE__, 5, 9, f, sizeof f); /* 13, the end */
+        f[10] = 255;
+        f[11] = 251; /* 12 + 65,531 = 65,543, 7 if it wrapped */
+        expect_refusal(__LINE__, 5, 9, f, sizeof f);
+    }
+    REFUSAL(5, 9, 240, 0, 0, 0, 0, 1, 0, 54, 0, 4, 0, 4, 73); /* 8, operand */
+    REFUSAL(5, 9, 240, 0, 0, 0, 0, 1, 0, 54, 0, 4, 0, 12, 73);
+    REFUSAL(5, 9, 240, 0, 0, 0, 0, 1, 0, 54, 0, 4, 0, 13, 73);
+    PASSES(240, 0, 0, 0, 0, 1, 0, 54, 0, 4, 0, 5, 73); /* 7 again, depth 0 */
+    PASSES(240, 0, 0, 0, 0, 1, 0, 54, 0, 2, 0, 0, 73);
+    PASSES(240, 0, 0, 0, 0, 1, 0, 54, 0, 4, 0, 0, 73);
+    /* 5: another procedure's instruction; 11 head, 18 73 */
+    REFUSAL(5, 7, HEAD0, 1, 0, 8, 73, HEAD0, 73);
+    REFUSAL(5, 7, HEAD0, 1, 0, 1, 73, HEAD0, 73); /* 11, a head */
+    REFUSAL(5, 15, HEAD0, 73, HEAD0, 3, 0, 11, 73); /* 18 - 11 = 7 */
+    /* 5: a handler's target counts from its head and lies above its 160 */
+    REFUSAL(5, 7, 240, 0, 0, 0, 0, 1, 0, 160, 0, 7, 161, 73);
+    REFUSAL(5, 7, 240, 0, 0, 0, 0, 1, 0, 160, 0, 9, 161, 73);
+    REFUSAL(5, 7, 240, 0, 0, 0, 0, 1, 0, 160, 0, 0, 161, 73);
+    REFUSAL(5, 7, 240, 0, 0, 0, 0, 1, 0, 160, 0, 12, 161, 73); /* the end */
+    REFUSAL(5, 7, 240, 0, 0, 0, 0, 1, 0, 160, 255, 255, 161, 73);
+    /* 7 fjump 0; 10 160 -> 7, an instruction below it */
+    REFUSAL(5, 10, 240, 0, 0, 0, 0, 1, 0, 1, 0, 0, 160, 0, 7, 161, 73);
+    /* 7 160 -> 19 in procedure 1 (12 head, 19 73) */
+    REFUSAL(5, 7, 240, 0, 0, 0, 0, 1, 0, 160, 0, 19, 161, 73, HEAD0, 73);
+    /* head at 8: 15 160 + 12 -> 20; 18 161; 19 73; 20 64 1 0; 25 73 */
+    entry handler_map[] = { { 7, 0, 0, N }, { 15, 0, 0, N }, { 18, 0, 0, 15 },
+                            { 19, 0, 0, N }, { 20, 1, 0, N }, { 25, 0, 0, N } };
+    MAP(handler_map, HEAD0, 73, 240, 0, 0, 0, 0, 1, 0, 160, 0, 12, 161, 73,
+        64, 0, 1, 0, 0, 73);
+    /* 5 needs no state, and comes before 6 */
+    REFUSAL(5, 8, HEAD0, 73, 72, 0, 9, 73);
+    REFUSAL(5, 8, HEAD0, 73, 1, 0, 9, 73);
+    /* a 9 at an earlier instruction beats a 5 at a later one */
+    REFUSAL(9, 9, 240, 0, 0, 0, 0, 1, 0, 54, 1, 3, 0, 5, 72, 0, 9);
+    REFUSAL(6, 8, HEAD0, 73, 73, 72, 0, 9);
+
+    /* 6: unreached */
+    REFUSAL(6, 8, HEAD0, 73, 73);
+    REFUSAL(6, 10, 240, 0, 0, 0, 0, 1, 0, 54, 1, 162, 73);
+    /* 7 -> 13; 10 only by the later 13 -> 10 */
+    REFUSAL(6, 10, HEAD0, 1, 0, 3, 1, 0, 3, 3, 0, 6, 73);
+    /* 6: past the procedure, by kind alone */
+    REFUSAL(6, 7, 240, 0, 0, 0, 0, 1, 0, 54, 1);
+    REFUSAL(6, 7, 240, 0, 0, 0, 0, 1, 0, 140);
+    REFUSAL(6, 7, HEAD0, 161);
+    REFUSAL(6, 7, HEAD0, 72, 0, 0);
+    REFUSAL(6, 7, HEAD0, 20, 0, 0);
+    REFUSAL(6, 9, 240, 0, 0, 0, 0, 1, 0, 54, 0, 4, 0, 5);
+    REFUSAL(6, 7, 240, 0, 0, 0, 0, 1, 0, 54, 1, HEAD0, 73);
+    PASSES(240, 0, 0, 0, 0, 1, 0, 54, 1, 162);
+    /* 6: procedures that nobody calls are checked all the same */
+    REFUSAL(6, 16, HEAD0, 73, HEAD0, 73, 73);
+    REFUSAL(7, 15, HEAD0, 73, 240, 0, 0, 0, 0, 1, 0, 142, 73);
+
+    /* 8: the return's rule */
+    REFUSAL(8, 7, 240, 0, 0, 1, 0, 1, 0, 73);
+    REFUSAL(8, 7, 240, 0, 0, 0, 1, 0, 1, 73);
+    REFUSAL(8, 9, 240, 0, 0, 0, 0, 1, 0, 54, 1, 73);
+    REFUSAL(8, 8, 240, 0, 0, 0, 0, 0, 1, 57, 73);
+    REFUSAL(8, 15, HEAD0, 73, 240, 1, 0, 0, 0, 1, 0, 73);
+    /* 7 160 -> 11; 10 73 with it open; 11 64 1 0; 16 73 */
+    REFUSAL(8, 10, 240, 0, 0, 0, 0, 1, 0, 160, 0, 11, 73, 64, 0, 1, 0, 0, 73);
+    /* 8: 161 with none open */
+    REFUSAL(8, 7, HEAD0, 161, 73);
+    /* 7 160 -> 12; 10 161; 11 161; 12 ... */
+    REFUSAL(8, 11, 240, 0, 0, 0, 0, 1, 0, 160, 0, 12, 161, 161, 73);
+    /* 7 160 -> 12; 10 161; 11 73; 12 161: its handler is closed there */
+    REFUSAL(8, 12, 240, 0, 0, 0, 0, 1, 0, 160, 0, 12, 161, 73, 161, 73);
+
+    /* 9: depths */
+    REFUSAL(9, 9, 240, 0, 0, 0, 0, 1, 0, 54, 1, 3, 0, 5);
+    REFUSAL(9, 8, 240, 0, 0, 0, 0, 0, 1, 57, 3, 0, 4);
+    /* jumpff 0 and jumptt 0: 12 gets depth 0 and depth 1 */
+    REFUSAL(9, 9, 240, 0, 0, 0, 0, 1, 0, 54, 1, 5, 0, 0, 73);
+    REFUSAL(9, 9, 240, 0, 0, 0, 0, 1, 0, 54, 1, 6, 0, 0, 73);
+    /* 160 with its target right behind: (0, 0, 7) and (1, 0, none) */
+    REFUSAL(9, 7, 240, 0, 0, 0, 0, 1, 0, 160, 0, 10, 161, 73);
+    /* 9: the third number; 7 54 0; 9 jumpf -> 15; 12 160 -> 17; 15 161 */
+    REFUSAL(9, 12, 240, 0, 0, 0, 0, 1, 0, 54, 0, 2, 0, 3, 160, 0, 17, 161, 73, 73);
+    /* 7 fjump 0; 10 160 -> 16; 13 bjump 6 -> 10 with it open */
+    REFUSAL(9, 13, 240, 0, 0, 0, 0, 1, 0, 1, 0, 0, 160, 0, 16, 3, 0, 6, 73);
+    /* 9: the place is the instruction that passes the state:
+       7 54 0; 9 jumpf -> 17; 12 54 1; 14 1 -> 17 with depth 1 */
+    REFUSAL(9, 14, 240, 0, 0, 0, 0, 1, 0, 54, 0, 2, 0, 5, 54, 1, 1, 0, 0, 73);
+
+    /* a loop in an open handler: 7 160 -> 16; 10 fjump 0; 13 bjump 3; 16 ... */
+    PASSES(240, 0, 0, 0, 0, 1, 0, 160, 0, 16, 1, 0, 0, 3, 0, 3, 64, 0, 1, 0, 0, 73);
+}
+
+/* ---- refusal 7: floor, depths, frame words ---- */
+
+/*
+ * need: least depths; pops: words that count as popped; after: the depths
+ * after, from need. Procedure 2 has a 1, b 2, r 3, s 1.
+ */
+typedef struct {
+    uint8_t code[5];
+    uint8_t size;
+    uint8_t need_m, need_p, pop_m, pop_p, after_m, after_p;
+} depth_row;
+
+static const depth_row depth_rows[] = {
+    { { 2, 0, 0 }, 3, 1, 0, 1, 0, 0, 0 },
+    { { 4, 0, 0 }, 3, 1, 0, 1, 0, 0, 0 },
+    { { 1, 0, 0 }, 3, 0, 0, 0, 0, 0, 0 },
+    { { 3, 0, 0 }, 3, 0, 0, 0, 0, 0, 0 },
+    { { 20, 0, 0 }, 3, 1, 0, 0, 0, 2, 0 },
+    { { 20, 0, 2 }, 3, 3, 0, 0, 0, 4, 0 },
+    { { 21, 0, 0 }, 3, 0, 1, 0, 0, 0, 2 },
+    { { 21, 0, 2 }, 3, 0, 3, 0, 0, 0, 4 },
+    { { 22, 0, 0 }, 3, 2, 0, 1, 0, 1, 0 },
+    { { 22, 0, 2 }, 3, 4, 0, 1, 0, 3, 0 },
+    { { 23, 0, 0 }, 3, 0, 2, 0, 1, 0, 1 },
+    { { 23, 0, 2 }, 3, 0, 4, 0, 1, 0, 3 },
+    { { 30, 0, 2 }, 3, 0, 1, 0, 1, 1, 0 },
+    { { 31, 0, 2 }, 3, 0, 1, 0, 1, 0, 1 },
+    { { 32, 0, 2 }, 3, 1, 1, 1, 1, 0, 0 },
+    { { 33, 0, 2 }, 3, 0, 2, 0, 2, 0, 0 },
+    { { 36, 0, 2, 0, 3 }, 5, 2, 3, 2, 3, 0, 1 },
+    { { 36, 0, 0, 0, 0 }, 5, 0, 0, 0, 0, 0, 1 },
+    { { 54, 9 }, 2, 0, 0, 0, 0, 1, 0 },
+    { { 56, 1, 2, 3, 4 }, 5, 0, 0, 0, 0, 1, 0 },
+    { { 57 }, 1, 0, 0, 0, 0, 0, 1 },
+    { { 58 }, 1, 0, 0, 0, 0, 0, 1 },
+    { { 59 }, 1, 0, 1, 0, 1, 0, 0 },
+    { { 60, 0, 2, 0, 1 }, 5, 3, 1, 3, 1, 1, 0 },
+    { { 60, 0, 0, 0, 0 }, 5, 1, 0, 1, 0, 1, 0 },
+    { { 62, 0, 2, 0, 1 }, 5, 2, 2, 2, 2, 0, 1 },
+    { { 62, 0, 0, 0, 0 }, 5, 0, 1, 0, 1, 0, 1 },
+    { { 64, 0, 2, 0, 1 }, 5, 2, 1, 2, 1, 0, 0 },
+    { { 64, 0, 0, 0, 0 }, 5, 0, 0, 0, 0, 0, 0 },
+    { { 72, 0, 2 }, 3, 1, 2, 1, 2, 3, 1 },
+    { { 130 }, 1, 2, 0, 2, 0, 1, 0 },
+    { { 131 }, 1, 0, 2, 0, 2, 1, 0 },
+    { { 195 }, 1, 2, 0, 2, 0, 1, 0 },
+    { { 198 }, 1, 2, 0, 2, 0, 1, 0 },
+    { { 201 }, 1, 2, 0, 2, 0, 1, 0 },
+    { { 204 }, 1, 2, 0, 2, 0, 1, 0 },
+    { { 140 }, 1, 2, 0, 2, 0, 1, 0 },
+    { { 141 }, 1, 2, 0, 2, 0, 1, 0 },
+    { { 142 }, 1, 2, 0, 2, 0, 1, 0 },
+    { { 143 }, 1, 2, 0, 2, 0, 1, 0 },
+    { { 145 }, 1, 2, 0, 2, 0, 1, 0 },
+    { { 144 }, 1, 1, 0, 1, 0, 1, 0 },
+    { { 146 }, 1, 1, 0, 1, 0, 1, 0 },
+};
+
+static uint8_t most(int a, int b)
+{
+    return (uint8_t)(a > b ? a : b);
+}
+
+/* 0 73; 8 procedure 1: 15 the code, then bjump 3; then procedure 2. */
+static size_t plain_file(uint8_t *f, const depth_row *d, int a, int b, int x, int y)
+{
+    size_t n = 0;
+    const uint8_t front[] = { HEAD0, 73, 240, (uint8_t)a, (uint8_t)b, 0, 0,
+                              (uint8_t)x, (uint8_t)y };
+    const uint8_t back[] = { 3, 0, 3, 240, 1, 2, 3, 1, 3, 2, 3, 0, 3 };
+    memcpy(f, front, sizeof front);
+    n += sizeof front;
+    memcpy(f + n, d->code, d->size);
+    n += d->size;
+    memcpy(f + n, back, sizeof back);
+    return n + sizeof back;
+}
+
+/*
+ * 0 73; 8 procedure 1: 15 160 -> T; 18 push m words and p nils, the code,
+ * bjump 3; T bjump 3; then procedure 2. Gives the code's place.
+ */
+static size_t floor_file(uint8_t *f, size_t *at, const depth_row *d,
+                         int a, int b, int m, int p, int x, int y)
+{
+    size_t n = 0;
+    const uint8_t front[] = { HEAD0, 73, 240, (uint8_t)a, (uint8_t)b, 0, 0,
+                              (uint8_t)x, (uint8_t)y, 160, 0, 0 };
+    const uint8_t back[] = { 3, 0, 3, 3, 0, 3, 240, 1, 2, 3, 1, 3, 2, 3, 0, 3 };
+    memcpy(f, front, sizeof front);
+    n += sizeof front;
+    for (int i = 0; i < m; i++) {
+        f[n++] = 54;
+        f[n++] = 1;
+    }
+    for (int i = 0; i < p; i++)
+        f[n++] = 57;
+    *at = n;
+    memcpy(f + n, d->code, d->size);
+    n += d->size;
+    f[17] = (uint8_t)(n + 3 - 8); /* T, from the head at 8 */
+    memcpy(f + n, back, sizeof back);
+    return n + sizeof back;
+}
+
+static void test_depths(void)
+{
+    for (size_t i = 0; i < sizeof depth_rows / sizeof depth_rows[0]; i++) {
+        const depth_row *d = &depth_rows[i];
+        uint8_t f[128];
+        size_t n, at;
+        uint8_t x = most(d->need_m, d->after_m), y = most(d->need_p, d->after_p);
+        size_t next = 15 + (size_t)d->size;
+
+        /* exactly enough; 0 and up to 2 words more underneath */
+        for (int more = 0; more <= 2; more++) {
+            n = plain_file(f, d, d->need_m + more, d->need_p + more, x + more, y + more);
+            entry want[] = {
+                { 7, 0, 0, N },
+                { 15, (uint16_t)(d->need_m + more), (uint16_t)(d->need_p + more), N },
+                { (uint16_t)next, (uint16_t)(d->after_m + more), (uint16_t)(d->after_p + more), N },
+                { (uint16_t)(next + 10), 1, 2, N }
+            };
+            expect_map(__LINE__, want, 4, f, n);
+        }
+        /* a word short */
+        if (d->need_m > 0) {
+            n = plain_file(f, d, d->need_m - 1, d->need_p, x, y);
+            expect_refusal(__LINE__, 7, 15, f, n);
+        }
+        if (d->need_p > 0) {
+            n = plain_file(f, d, d->need_m, d->need_p - 1, x, y);
+            expect_refusal(__LINE__, 7, 15, f, n);
+        }
+        /* above x, y */
+        if (d->after_m > d->need_m) {
+            n = plain_file(f, d, d->need_m, d->need_p, x - 1, y);
+            expect_refusal(__LINE__, 7, 15, f, n);
+        }
+        if (d->after_p > d->need_p) {
+            n = plain_file(f, d, d->need_m, d->need_p, x, y - 1);
+            expect_refusal(__LINE__, 7, 15, f, n);
+        }
+
+        /* all words under the floor: good for codes that pop nothing */
+        n = floor_file(f, &at, d, d->need_m, d->need_p, 0, 0, x + 1, y);
+        if (d->pop_m > 0 || d->pop_p > 0)
+            expect_refusal(__LINE__, 7, 18, f, n);
+        else
+            expect_passes(__LINE__, f, n);
+        /* exactly the popped words above the floor */
+        n = floor_file(f, &at, d, d->need_m - d->pop_m, d->need_p - d->pop_p,
+                       d->pop_m, d->pop_p, x + 1, y);
+        expect_passes(__LINE__, f, n);
+        /* as deep, one word less above the floor */
+        if (d->pop_m > 0) {
+            n = floor_file(f, &at, d, d->need_m - d->pop_m + 1, d->need_p - d->pop_p,
+                           d->pop_m - 1, d->pop_p, x + 1, y);
+            expect_refusal(__LINE__, 7, (uint32_t)at, f, n);
+        }
+        if (d->pop_p > 0) {
+            n = floor_file(f, &at, d, d->need_m - d->pop_m, d->need_p - d->pop_p + 1,
+                           d->pop_m, d->pop_p - 1, x + 1, y);
+            expect_refusal(__LINE__, 7, (uint32_t)at, f, n);
+        }
+    }
+
+    /* operands far above any depth */
+    REFUSAL(7, 7, HEAD0, 36, 255, 255, 0, 0, 73);
+    REFUSAL(7, 7, HEAD0, 36, 0, 0, 255, 255, 73);
+    REFUSAL(7, 7, 240, 0, 0, 0, 0, 9, 9, 60, 255, 255, 255, 255, 73);
+    REFUSAL(7, 7, 240, 0, 0, 0, 0, 9, 9, 62, 255, 255, 255, 255, 73);
+    REFUSAL(7, 7, 240, 0, 0, 0, 0, 9, 9, 64, 255, 255, 255, 255, 73);
+    REFUSAL(7, 9, 240, 0, 0, 0, 0, 9, 9, 54, 1, 60, 255, 255, 0, 0, 73);
+    REFUSAL(7, 9, 240, 0, 0, 0, 0, 2, 0, 54, 1, 20, 255, 255, 73);
+    REFUSAL(7, 9, 240, 0, 0, 0, 0, 2, 0, 54, 1, 20, 1, 0, 73);
+
+    /* 162: 7 162 with nothing; 7 54 1; 9 160 -> 13; 12 162 under the floor */
+    REFUSAL(7, 7, 240, 0, 0, 0, 0, 1, 0, 162);
+    REFUSAL(7, 12, 240, 0, 0, 0, 0, 2, 0, 54, 1, 160, 0, 13, 162, 162);
+    PASSES(240, 0, 0, 0, 0, 2, 0, 54, 1, 160, 0, 15, 54, 2, 162, 162);
+    /* 5, 6: one pop counts. 7 54 1; 9 160 -> 18; 12 5 0 -> 15; 15 3 0 3; 18 3 0 3 */
+    REFUSAL(7, 7, HEAD0, 5, 0, 0, 73);
+    REFUSAL(7, 7, HEAD0, 6, 0, 0, 73);
+    REFUSAL(7, 12, 240, 0, 0, 0, 0, 2, 0, 54, 1, 160, 0, 18, 5, 0, 0, 3, 0, 3, 3, 0, 3);
+    REFUSAL(7, 12, 240, 0, 0, 0, 0, 2, 0, 54, 1, 160, 0, 18, 6, 0, 0, 3, 0, 3, 3, 0, 3);
+
+    /* 160: the handler's depth, 7 before 9 */
+    REFUSAL(7, 7, HEAD0, 160, 0, 12, 161, 73, 3, 0, 3);
+    REFUSAL(7, 7, HEAD0, 160, 0, 10, 161, 73);
+    PASSES(240, 0, 0, 0, 0, 1, 0, 160, 0, 12, 161, 73, 3, 0, 3);
+
+    /* 72: results against the caller's x, y, though the callee can't return */
+    REFUSAL(7, 7, 240, 0, 0, 0, 0, 1, 0, 72, 0, 1, 3, 0, 3, 240, 0, 0, 2, 0, 2, 0, 3, 0, 3);
+    PASSES(240, 0, 0, 0, 0, 2, 0, 72, 0, 1, 3, 0, 3, 240, 0, 0, 2, 0, 2, 0, 3, 0, 3);
+
+    /* 73 pops nothing: 8, not 7; 161 has no floor of its own */
+    REFUSAL(8, 7, 240, 0, 0, 2, 2, 2, 2, 73);
+    /* growing back under an open handler: 7 54 1; 9 160 -> 23; 12 64 1 0;
+       17 54 2; 19 161; 20 3 0 3; 23 3 0 3 */
+    REFUSAL(7, 12, 240, 0, 0, 0, 0, 2, 0, 54, 1, 160, 0, 23, 64, 0, 1, 0, 0, 54, 2, 161,
+            3, 0, 3, 3, 0, 3);
+
+    /* the floor is the innermost handler's alone: 7 54 1; 9 160 -> 20;
+       12 54 2; 14 160 -> 19; 17 161; 18 162; 19 162; 20 162.
+       At 17 the inner one closes, at 18 the outer floor is 1, depth 2. */
+    entry nested[] = { { 7, 0, 0, N }, { 9, 1, 0, N }, { 12, 1, 0, 9 }, { 14, 2, 0, 9 },
+                       { 17, 2, 0, 14 }, { 18, 2, 0, 9 }, { 19, 3, 0, 9 }, { 20, 2, 0, N } };
+    MAP(nested, 240, 0, 0, 0, 0, 3, 0, 54, 1, 160, 0, 20, 54, 2, 160, 0, 19, 161, 162,
+        162, 162);
+    /* stores and reads under the floor: 7 54 1; 9 160 -> 21; 12 54 2;
+       14 22 0 -> word 0; 17 161; 18 3 0 3; 21 3 0 3 */
+    PASSES(240, 0, 0, 0, 0, 2, 0, 54, 1, 160, 0, 21, 54, 2, 22, 0, 0, 161, 3, 0, 3, 3, 0, 3);
+}
+
+/* ---- instructions ---- */
+
+static void test_jumps(void)
+{
+    /* 7 54 c; 9 jumpf -> 17; 12 54 7; 14 fjump -> 19; 17 54 8; 19 73 */
+    BENCH("finished steps=4 main=8",
+          240, 0, 0, 1, 0, 1, 0, 54, 0, 2, 0, 5, 54, 7, 1, 0, 2, 54, 8, 73);
+    BENCH("finished steps=5 main=7",
+          240, 0, 0, 1, 0, 1, 0, 54, 1, 2, 0, 5, 54, 7, 1, 0, 2, 54, 8, 73);
+    /* any word but 0 is true: -128 */
+    BENCH("finished steps=5 main=7",
+          240, 0, 0, 1, 0, 1, 0, 54, 128, 2, 0, 5, 54, 7, 1, 0, 2, 54, 8, 73);
+    /* 7 54 3; 9 54 1; 11 142; 12 20 0; 15 bjumpt 9 -> 9; 18 73:
+       1 + 3 * 4 + 1 */
+    BENCH("finished steps=14 main=0",
+          240, 0, 0, 1, 0, 2, 0, 54, 3, 54, 1, 142, 20, 0, 0, 4, 0, 9, 73);
+    /* 7 54 2; 9 20 0; 12 jumpf -> 21; 15 54 1; 17 142; 18 bjump 12 -> 9; 21 73:
+       1 + 2 * 5 + 2 + 1 */
+    BENCH("finished steps=14 main=0",
+          240, 0, 0, 1, 0, 2, 0, 54, 2, 20, 0, 0, 2, 0, 6, 54, 1, 142, 3, 0, 12, 73);
+    /* 7 54 c; 9 jumpff -> 14; 12 54 4; 14 73 */
+    BENCH("finished steps=3 main=0", 240, 0, 0, 1, 0, 1, 0, 54, 0, 5, 0, 2, 54, 4, 73);
+    BENCH("finished steps=4 main=4", 240, 0, 0, 1, 0, 1, 0, 54, 6, 5, 0, 2, 54, 4, 73);
+    BENCH("finished steps=4 main=4", 240, 0, 0, 1, 0, 1, 0, 54, 0, 6, 0, 2, 54, 4, 73);
+    BENCH("finished steps=3 main=6", 240, 0, 0, 1, 0, 1, 0, 54, 6, 6, 0, 2, 54, 4, 73);
+    /* an operand of two bytes, 1 * 256 + 2 */
+    uint8_t far[271] = { 240, 0, 0, 0, 0, 1, 0, 54, 0, 2, 1, 2 };
+    /* 7 54 0; 9 jumpf 258 -> 270; 12 to 267: 86 fjumps; 270 73 */
+    for (size_t i = 12; i < 270; i += 3)
+        far[i] = 1;
+    far[270] = 73;
+    expect_bench(__LINE__, "finished steps=3 main=", far, sizeof far);
+    far[8] = 1;
+    expect_bench(__LINE__, "finished steps=89 main=", far, sizeof far);
+}
+
+/* 7 56 a; 12 56 b; 17 code; 18 73 */
+static void binary(int line, uint32_t a, uint32_t b, uint8_t code, bool fine, uint32_t want)
+{
+    uint8_t f[] = { 240, 0, 0, 1, 0, 2, 0,
+                    56, (uint8_t)(a >> 24), (uint8_t)(a >> 16), (uint8_t)(a >> 8), (uint8_t)a,
+                    56, (uint8_t)(b >> 24), (uint8_t)(b >> 16), (uint8_t)(b >> 8), (uint8_t)b,
+                    code, 73 };
+    rig g = bench_rig(f, sizeof f);
+    expect(is(do_start(&g), REF_READY, 0, 0, 0), line, "ready");
+    ref_reply r = do_run(&g, 1000);
+    if (fine) {
+        expect(is(r, REF_FINISHED, 0, 0, 4), line, "finished");
+        expect(g.list[MAIN][0] == want && g.list[MAIN][1] == 0, line, "the result");
+    } else {
+        expect(is(r, REF_UNCAUGHT, want, 17, 2), line, "uncaught");
+        expect(g.list[MAIN][0] == a && g.list[MAIN][1] == b, line, "the operands stay");
+        expect(reg_of(&g, PLACE) == 17 && reg_of(&g, MTOP) == 2, line, "the registers stay");
+    }
+    rig_free(&g);
+}
+
+#define GIVES(a, op, b, want) \
+    binary(__LINE__, (uint32_t)(a), (uint32_t)(b), op, true, (uint32_t)(want))
+#define RAISES1(a, op, b) binary(__LINE__, (uint32_t)(a), (uint32_t)(b), op, false, 1)
+
+static void test_arithmetic(void)
+{
+    const uint32_t low = 0x80000000u, high = 0x7fffffffu;
+
+    GIVES(2, 140, 3, 5);
+    GIVES(high, 140, 0, high);
+    GIVES(low, 140, high, -1);
+    GIVES(-1, 140, -1, -2);
+    RAISES1(high, 140, 1);
+    RAISES1(low, 140, -1);
+    RAISES1(low, 140, low);
+    RAISES1(high, 140, high);
+
+    GIVES(5, 142, 3, 2);
+    GIVES(3, 142, 5, -2);
+    GIVES(-1, 142, low, high);
+    GIVES(low, 142, low, 0);
+    RAISES1(low, 142, 1);
+    RAISES1(0, 142, low);
+    RAISES1(high, 142, -1);
+
+    GIVES(6, 141, 7, 42);
+    GIVES(-6, 141, 7, -42);
+    GIVES(-6, 141, -7, 42);
+    GIVES(46340, 141, 46340, 2147395600);
+    RAISES1(46341, 141, 46341);
+    GIVES(65536, 141, -32768, low);
+    RAISES1(65536, 141, 32768);
+    RAISES1(low, 141, -1);
+    GIVES(low, 141, 1, low);
+    GIVES(low, 141, 0, 0);
+    RAISES1(low, 141, low);
+    RAISES1(65536, 141, 65536); /* 2^32, 0 if it wrapped */
+
+    GIVES(7, 143, 2, 3);
+    GIVES(-7, 143, 2, -3);
+    GIVES(7, 143, -2, -3);
+    GIVES(-7, 143, -2, 3);
+    GIVES(0, 143, -5, 0);
+    GIVES(1, 143, -1, -1);
+    GIVES(low, 143, 1, low);
+    GIVES(low, 143, high, -1);
+    GIVES(low, 143, low, 1);
+    GIVES(high, 143, low, 0);
+    RAISES1(low, 143, -1);
+    RAISES1(7, 143, 0);
+    RAISES1(0, 143, 0);
+    RAISES1(low, 143, 0);
+
+    GIVES(7, 145, 2, 1);
+    GIVES(-7, 145, 2, -1);
+    GIVES(7, 145, -2, 1);
+    GIVES(-7, 145, -2, -1);
+    GIVES(6, 145, 3, 0);
+    GIVES(low, 145, -1, 0);
+    GIVES(5, 145, -1, 0);
+    GIVES(low, 145, high, -1);
+    GIVES(low, 145, low, 0);
+    GIVES(high, 145, low, high);
+    RAISES1(7, 145, 0);
+    RAISES1(low, 145, 0);
+
+    GIVES(4, 130, 4, 1);
+    GIVES(4, 130, 5, 0);
+    GIVES(low, 130, low, 1);
+    GIVES(low, 130, 0, 0);
+
+    GIVES(-1, 195, 1, 1);
+    GIVES(1, 195, -1, 0);
+    GIVES(1, 195, 1, 0);
+    GIVES(low, 195, high, 1);
+    GIVES(-1, 198, 1, 1);
+    GIVES(1, 198, -1, 0);
+    GIVES(1, 198, 1, 1);
+    GIVES(high, 198, low, 0);
+    GIVES(-1, 201, 1, 0);
+    GIVES(1, 201, -1, 1);
+    GIVES(1, 201, 1, 0);
+    GIVES(high, 201, low, 1);
+    GIVES(-1, 204, 1, 0);
+    GIVES(1, 204, -1, 1);
+    GIVES(1, 204, 1, 1);
+    GIVES(low, 204, high, 0);
+
+    BENCH("finished steps=3 main=-5", 240, 0, 0, 1, 0, 1, 0, 54, 5, 144, 73);
+    BENCH("finished steps=3 main=5", 240, 0, 0, 1, 0, 1, 0, 54, 251, 144, 73);
+    BENCH("finished steps=3 main=0", 240, 0, 0, 1, 0, 1, 0, 54, 0, 144, 73);
+    BENCH("finished steps=3 main=-2147483647",
+          240, 0, 0, 1, 0, 1, 0, 56, 127, 255, 255, 255, 144, 73);
+    BENCH("finished steps=3 main=1", 240, 0, 0, 1, 0, 1, 0, 54, 0, 146, 73);
+    BENCH("finished steps=3 main=0", 240, 0, 0, 1, 0, 1, 0, 54, 1, 146, 73);
+    BENCH("finished steps=3 main=0", 240, 0, 0, 1, 0, 1, 0, 54, 255, 146, 73);
+    BENCH("finished steps=3 main=0",
+          240, 0, 0, 1, 0, 1, 0, 56, 128, 0, 0, 0, 146, 73);
+
+    BENCH("finished steps=4 main=127,-128,-1",
+          240, 0, 0, 3, 0, 3, 0, 54, 127, 54, 128, 54, 255, 73);
+    BENCH("finished steps=3 main=16909060,-16909061",
+          240, 0, 0, 2, 0, 2, 0, 56, 1, 2, 3, 4, 56, 254, 253, 252, 251, 73);
+}
+
+/* Runs to the end in bench lists and gives them back. */
+static rig run_out(int line, ref_reply want, const uint8_t *file, size_t file_len)
+{
+    rig g = bench_rig(file, file_len);
+    expect(is(do_start(&g), REF_READY, 0, 0, 0), line, "ready");
+    ref_reply r = do_run(&g, 1000);
+    expect(is(r, want.kind, want.number, want.place, want.steps), line, "the ending");
+    expect_sound(line, &g);
+    return g;
+}
+
+static ref_reply reply(uint32_t kind, uint32_t number, uint32_t place, uint32_t steps)
+{
+    ref_reply r = { kind, number, place, steps };
+    return r;
+}
+
+static bool list_is(const rig *g, int list, const uint32_t *want, size_t n)
+{
+    for (size_t i = 0; i < g->len[list]; i++)
+        if (g->list[list][i] != (i < n ? want[i] : 0))
+            return false;
+    return true;
+}
+
+#define LIST_IS(g, list, ...) \
+    EXPECT(list_is(&(g), list, (const uint32_t[]){ __VA_ARGS__ }, \
+                   sizeof((const uint32_t[]){ __VA_ARGS__ }) / 4))
+
+static void test_objects_and_stacks(void)
+{
+    rig g;
+
+    /* 7 54 5; 9 54 6; 11 20 0; 14 22 1; 17 73 */
+    BENCH("finished steps=5 main=5,5",
+          240, 0, 0, 2, 0, 3, 0, 54, 5, 54, 6, 20, 0, 0, 22, 0, 1, 73);
+
+    /* 7 form -> 2; 12 form -> 4; 17 57; 18 21 1 pushes 4; 21 23 2; 24 73 */
+    g = run_out(__LINE__, reply(REF_FINISHED, 0, 0, 6),
+                BYTES(240, 0, 0, 0, 3, 0, 4, 36, 0, 0, 0, 0, 36, 0, 0, 0, 0, 57, 21, 0, 1,
+                      23, 0, 2, 73));
+    LIST_IS(g, PTR, 2, 4, 4);
+    rig_free(&g);
+
+    /* 7 54 11; 9 54 12; 11 form 2 0 -> 2; 16 57; 17 form 0 2 -> 6;
+       22 31 2 gives 2; 25 30 3 gives 12; 28 73 */
+    g = run_out(__LINE__, reply(REF_FINISHED, 0, 0, 8),
+                BYTES(240, 0, 0, 1, 0, 2, 2, 54, 11, 54, 12, 36, 0, 2, 0, 0, 57,
+                      36, 0, 0, 0, 2, 31, 0, 2, 30, 0, 3, 73));
+    LIST_IS(g, MAIN, 12);
+    LIST_IS(g, PTR, 0);
+    LIST_IS(g, CTL, 0);
+    LIST_IS(g, HEAP, 10, 0, 0x01000000, 4, 11, 12, 0x01000002, 4, 2, 0);
+    rig_free(&g);
+
+    /* both kinds in one: 7 54 1; 9 form 1 0 -> 2; 14 57; 15 54 7; 17 54 8;
+       19 form 2 2 -> 5: pointers 2, nil, then 7, 8; 24 73 */
+    g = run_out(__LINE__, reply(REF_FINISHED, 0, 0, 7),
+                BYTES(240, 0, 0, 0, 1, 2, 2, 54, 1, 36, 0, 1, 0, 0, 57, 54, 7, 54, 8,
+                      36, 0, 2, 0, 2, 73));
+    LIST_IS(g, MAIN, 0);
+    LIST_IS(g, PTR, 5);
+    LIST_IS(g, HEAP, 11, 0, 0x01000000, 3, 1, 0x01000002, 6, 2, 0, 7, 8);
+    rig_free(&g);
+
+    /* 7 54 1; 9 57; 10 form 1 1 -> 2; 15 54 8; 17 21 0; 20 32 3;
+       23 21 0; 26 21 0; 29 33 2; 32 21 0; 35 31 2; 38 23 0; 41 30 3; 44 73 */
+    g = run_out(__LINE__, reply(REF_FINISHED, 0, 0, 14),
+                BYTES(240, 0, 0, 1, 0, 1, 3, 54, 1, 57, 36, 0, 1, 0, 1, 54, 8, 21, 0, 0,
+                      32, 0, 3, 21, 0, 0, 21, 0, 0, 33, 0, 2, 21, 0, 0, 31, 0, 2,
+                      23, 0, 0, 30, 0, 3, 73));
+    LIST_IS(g, MAIN, 8);
+    LIST_IS(g, PTR, 0);
+    LIST_IS(g, HEAP, 6, 0, 0x01000001, 4, 2, 8);
+    rig_free(&g);
+
+    /* pSet pops the object first: 7 form 0 0 -> 2; 12 form 0 1 (2) -> 4;
+       17 57; 18 21 0; 21 33 2: object 4 over nil; 24 73 */
+    g = run_out(__LINE__, reply(REF_FINISHED, 0, 0, 6),
+                BYTES(240, 0, 0, 0, 1, 0, 3, 36, 0, 0, 0, 0, 36, 0, 0, 0, 1, 57, 21, 0, 0,
+                      33, 0, 2, 73));
+    LIST_IS(g, PTR, 4);
+    LIST_IS(g, HEAP, 7, 0, 0x01000000, 2, 0x01000001, 3, 0);
+    rig_free(&g);
+
+    /* 7 form 0 0 -> 2; 12 59; 13 58; 14 58; 15 131; 16 73 */
+    g = run_out(__LINE__, reply(REF_FINISHED, 0, 0, 6),
+                BYTES(240, 0, 0, 1, 0, 1, 2, 36, 0, 0, 0, 0, 59, 58, 58, 131, 73));
+    LIST_IS(g, MAIN, 1);
+    LIST_IS(g, PTR, 0);
+    LIST_IS(g, HEAP, 4, 2, 0x01000000, 2);
+    rig_free(&g);
+    /* 7 form 0 0 -> 2; 12 58 nil; 13 131; 14 73 */
+    BENCH("finished steps=4 main=0", 240, 0, 0, 1, 0, 1, 2, 36, 0, 0, 0, 0, 58, 131, 73);
+    BENCH("finished steps=4 main=1", 240, 0, 0, 1, 0, 1, 2, 57, 58, 131, 73);
+    /* two objects of the same words differ */
+    BENCH("finished steps=4 main=0",
+          240, 0, 0, 1, 0, 1, 2, 36, 0, 0, 0, 0, 36, 0, 0, 0, 0, 131, 73);
+
+    /* 60: 1 2 3 and nil; drop 1 main, 1 pointer under the 3 */
+    BENCH("finished steps=6 main=1,3",
+          240, 0, 0, 2, 0, 3, 1, 54, 1, 54, 2, 54, 3, 57, 60, 0, 1, 0, 1, 73);
+    g = run_out(__LINE__, reply(REF_FINISHED, 0, 0, 6),
+                BYTES(240, 0, 0, 2, 0, 3, 1, 54, 1, 54, 2, 54, 3, 36, 0, 0, 0, 0,
+                      60, 0, 1, 0, 1, 73));
+    LIST_IS(g, MAIN, 1, 3);
+    LIST_IS(g, PTR, 0);
+    EXPECT(reg_of(&g, MTOP) == 2 && reg_of(&g, PTOP) == 0);
+    rig_free(&g);
+    BENCH("finished steps=5 main=3",
+          240, 0, 0, 1, 0, 3, 0, 54, 1, 54, 2, 54, 3, 60, 0, 2, 0, 0, 73);
+    BENCH("finished steps=4 main=1,2",
+          240, 0, 0, 2, 0, 2, 0, 54, 1, 54, 2, 60, 0, 0, 0, 0, 73);
+    /* 62: pointers 2, 4 and words 1, 2; drop 1 of each under the 4 */
+    g = run_out(__LINE__, reply(REF_FINISHED, 0, 0, 6),
+                BYTES(240, 0, 0, 1, 1, 2, 2, 36, 0, 0, 0, 0, 36, 0, 0, 0, 0, 54, 1, 54, 2,
+                      62, 0, 1, 0, 1, 73));
+    LIST_IS(g, MAIN, 1);
+    LIST_IS(g, PTR, 4);
+    rig_free(&g);
+    /* 64 */
+    g = run_out(__LINE__, reply(REF_FINISHED, 0, 0, 5),
+                BYTES(240, 0, 0, 1, 0, 2, 1, 54, 1, 54, 2, 57, 64, 0, 1, 0, 1, 73));
+    LIST_IS(g, MAIN, 1);
+    LIST_IS(g, PTR, 0);
+    rig_free(&g);
+}
+
+static void test_calls(void)
+{
+    /* 7 54 10; 9 54 3; 11 72 1; 14 73. 15 head: 22 142; 23 73 */
+    BENCH("finished steps=6 main=7",
+          240, 0, 0, 1, 0, 2, 0, 54, 10, 54, 3, 72, 0, 1, 73,
+          240, 2, 0, 1, 0, 2, 0, 142, 73);
+    /* 7 54 50; 9 54 20; 11 54 4; 13 72 1; 16 73.
+       17 head: 24 20 1; 27 22 0; 30 141; 31 73: 4 * 4 */
+    BENCH("finished steps=9 main=50,16",
+          240, 0, 0, 2, 0, 3, 0, 54, 50, 54, 20, 54, 4, 72, 0, 1, 73,
+          240, 2, 0, 1, 0, 3, 0, 20, 0, 1, 22, 0, 0, 141, 73);
+    /* 7 form -> 2; 12 57; 13 72 1; 16 131; 17 73.
+       18 head: 25 58 nil; 26 23 0, the frame's word, not the stack's; 29 73 */
+    BENCH("finished steps=8 main=0",
+          240, 0, 0, 1, 0, 1, 2, 36, 0, 0, 0, 0, 57, 72, 0, 1, 131, 73,
+          240, 0, 1, 0, 1, 0, 2, 58, 23, 0, 0, 73);
+    /* 7 form -> 2; 12 form -> 4; 17 72 1; 20 131; 21 64 0 1; 26 73.
+       27 head: 34 21 0 pushes 4; 37 73 */
+    BENCH("finished steps=8 main=1",
+          240, 0, 0, 1, 0, 1, 3, 36, 0, 0, 0, 0, 36, 0, 0, 0, 0, 72, 0, 1, 131,
+          64, 0, 0, 0, 1, 73, 240, 0, 1, 0, 2, 0, 2, 21, 0, 0, 73);
+
+    /* a return brings back the caller's bases: 7 54 50; 9 form -> 2; 14 form -> 4;
+       19 54 9; 21 72 1; 24 20 0; 27 21 0; 30 73. 31 head: 38 64 1 1; 43 73 */
+    rig g = run_out(__LINE__, reply(REF_FINISHED, 0, 0, 10),
+                    BYTES(240, 0, 0, 2, 2, 2, 2, 54, 50, 36, 0, 0, 0, 0, 36, 0, 0, 0, 0, 54, 9,
+                          72, 0, 1, 20, 0, 0, 21, 0, 0, 73,
+                          240, 1, 1, 0, 0, 1, 1, 64, 0, 1, 0, 1, 73));
+    LIST_IS(g, MAIN, 50, 50);
+    LIST_IS(g, PTR, 2, 2);
+    rig_free(&g);
+
+    /* also bases that are not 0: 7 54 50; 9 form -> 2; 14 54 60; 16 form -> 4;
+       21 72 1; 24 73. 25 head: 32 72 2; 35 20 0; 38 21 0; 41 73. 42 head: 49 73 */
+    g = run_out(__LINE__, reply(REF_FINISHED, 0, 0, 11),
+                BYTES(240, 0, 0, 3, 3, 3, 3, 54, 50, 36, 0, 0, 0, 0, 54, 60, 36, 0, 0, 0, 0,
+                      72, 0, 1, 73,
+                      240, 1, 1, 2, 2, 2, 2, 72, 0, 2, 20, 0, 0, 21, 0, 0, 73, HEAD0, 73));
+    LIST_IS(g, MAIN, 50, 60, 60);
+    LIST_IS(g, PTR, 2, 4, 4);
+    rig_free(&g);
+
+#define FACTORIAL(n) 240, 0, 0, 1, 0, 1, 0, 54, n, 72, 0, 1, 73, \
+        240, 1, 0, 1, 0, 3, 0, 20, 0, 0, 2, 0, 11, 20, 0, 0, 54, 1, 142, \
+        72, 0, 1, 141, 73, 146, 73
+    /* 13 head: 20 20 0; 23 jumpf -> 37; 26 20 0; 29 54 1; 31 142; 32 72 1;
+       35 141; 36 73; 37 146; 38 73. 3 + 8 * n + 4 steps */
+    BENCH("finished steps=7 main=1", FACTORIAL(0));
+    BENCH("finished steps=47 main=120", FACTORIAL(5));
+    BENCH("finished steps=103 main=479001600", FACTORIAL(12));
+    /* 13!: 2 + 13 * 6 + 4 + 12 * 2 = 108, then the outermost 141 */
+    BENCH("uncaught 1 at 35 steps=108 main=13,479001600", FACTORIAL(13));
+}
+
+/* ---- exceptions ---- */
+
+static void test_exceptions(void)
+{
+    rig g;
+
+    /* 2, uncaught */
+    BENCH("uncaught 2 at 8 steps=1 main=", 240, 0, 0, 1, 0, 1, 1, 57, 30, 0, 2, 73);
+    BENCH("uncaught 2 at 8 steps=1 main=", 240, 0, 0, 0, 1, 0, 1, 57, 31, 0, 2, 73);
+    BENCH("uncaught 2 at 10 steps=2 main=1",
+          240, 0, 0, 0, 0, 1, 1, 54, 1, 57, 32, 0, 2, 73);
+    BENCH("uncaught 2 at 9 steps=2 main=", 240, 0, 0, 0, 0, 0, 2, 57, 57, 33, 0, 2, 73);
+    /* 2 before 3: word 0 of nil */
+    BENCH("uncaught 2 at 8 steps=1 main=", 240, 0, 0, 1, 0, 1, 1, 57, 30, 0, 0, 73);
+    BENCH("uncaught 2 at 8 steps=1 main=", 240, 0, 0, 0, 1, 0, 1, 57, 31, 255, 255, 73);
+
+    /* 3: an object of one pointer word (2) and one plain word (3) */
+    for (unsigned s = 0; s <= 256; s++) {
+        uint8_t hi = (uint8_t)(s >> 8), lo = (uint8_t)s;
+        char *want;
+        if (s > 6 && s < 250)
+            continue;
+        want = s == 3 ? "finished steps=5 main=9" : "uncaught 3 at 15 steps=3 main=";
+        BENCH(want, 240, 0, 0, 1, 0, 1, 1, 54, 9, 57, 36, 0, 1, 0, 1, 30, hi, lo, 73);
+        want = s == 2 ? "finished steps=5 main=" : "uncaught 3 at 15 steps=3 main=";
+        BENCH(want, 240, 0, 0, 0, 1, 1, 1, 54, 9, 57, 36, 0, 1, 0, 1, 31, hi, lo, 73);
+        /* 15 54 5; 17 21 0; 20 32 s; 23 73 */
+        want = s == 3 ? "finished steps=7 main=" : "uncaught 3 at 20 steps=5 main=5";
+        BENCH(want, 240, 0, 0, 0, 1, 1, 2, 54, 9, 57, 36, 0, 1, 0, 1, 54, 5, 21, 0, 0,
+              32, hi, lo, 73);
+        /* 15 57; 16 21 0; 19 33 s; 22 73 */
+        want = s == 2 ? "finished steps=7 main=" : "uncaught 3 at 19 steps=5 main=";
+        BENCH(want, 240, 0, 0, 0, 1, 1, 3, 54, 9, 57, 36, 0, 1, 0, 1, 57, 21, 0, 0,
+              33, hi, lo, 73);
+    }
+    /* an object of size 2 has neither part */
+    BENCH("uncaught 3 at 12 steps=1 main=",
+          240, 0, 0, 1, 0, 1, 1, 36, 0, 0, 0, 0, 30, 0, 2, 73);
+    BENCH("uncaught 3 at 12 steps=1 main=",
+          240, 0, 0, 0, 1, 0, 1, 36, 0, 0, 0, 0, 31, 0, 2, 73);
+    /* the next object's words are not in reach: 7 form -> 2; 12 59; 13 form -> 4;
+       18 58; 19 30 2; 22 73 with one pointer left */
+    BENCH("uncaught 3 at 19 steps=4 main=",
+          240, 0, 0, 1, 1, 1, 2, 36, 0, 0, 0, 0, 59, 36, 0, 0, 0, 0, 58, 30, 0, 2, 73);
+
+    /* 4 in the bench: 255 forms of size 2 from 7, 64 0 255 at 1282, 255 forms
+       from 1287, 64 0 255 at 2562, forms at 2567 (the 511th, the last to fit
+       in 1,022 words) and 2572 */
+    {
+        static uint8_t f[2580] = { 240, 0, 0, 0, 0, 0, 255 };
+        size_t n = 7;
+        for (int i = 0; i < 512; i++) {
+            f[n] = 36;
+            n += 5;
+            if (i == 254 || i == 509) {
+                f[n] = 64;
+                f[n + 4] = 255;
+                n += 5;
+            }
+        }
+        EXPECT(n == 2577);
+        f[2577] = 3;
+        f[2579] = 3;
+        expect_bench(__LINE__, "uncaught 4 at 2572 steps=513 main=", f, sizeof f);
+    }
+    /* 4: exact fits. 7 form 1 1 of size 4 twice; 2 + 8 words */
+    for (size_t h = 2; h <= 12; h++) {
+        /* 7 54 1; 9 57; 10 form 1 1; 15 54 2; 17 57; 18 form 1 1; 23 73 */
+        g = rig_new(BYTES(240, 0, 0, 0, 2, 1, 2, 54, 1, 57, 36, 0, 1, 0, 1,
+                          54, 2, 57, 36, 0, 1, 0, 1, 73), 80, 1, 2, 5, h, 28);
+        EXPECT(is(do_start(&g), REF_READY, 0, 0, 0));
+        ref_reply r = do_run(&g, 100);
+        if (h < 6) {
+            EXPECT(is(r, REF_UNCAUGHT, 4, 10, 2));
+            LIST_IS(g, HEAP, 2, 0);
+            LIST_IS(g, MAIN, 1);
+        } else if (h < 10) {
+            EXPECT(is(r, REF_UNCAUGHT, 4, 18, 5));
+            LIST_IS(g, HEAP, 6, 0, 0x01000001, 4, 0, 1);
+            LIST_IS(g, MAIN, 2);
+            LIST_IS(g, PTR, 2, 0);
+        } else {
+            EXPECT(is(r, REF_FINISHED, 0, 0, 7));
+            LIST_IS(g, HEAP, 10, 0, 0x01000001, 4, 0, 1, 0x01000001, 4, 0, 2);
+            LIST_IS(g, MAIN, 0);
+            LIST_IS(g, PTR, 2, 6);
+        }
+        rig_free(&g);
+    }
+
+    /* 5: x. Procedure 0 calls itself, each frame one word up: 7 54 1; 9 72 0 */
+    g = rig_new(BYTES(240, 0, 0, 0, 0, 1, 0, 54, 1, 72, 0, 0, 64, 0, 1, 0, 0, 73),
+                54, 3, 1, 1280, 2, 28);
+    EXPECT(is(do_start(&g), REF_READY, 0, 0, 0));
+    EXPECT(is(do_run(&g, 100), REF_UNCAUGHT, 5, 9, 5));
+    LIST_IS(g, MAIN, 1, 1, 1);
+    LIST_IS(g, CTL, 0, 0, 0, 0, 0, 1, 0, 0, 12, 1, 2, 0, 0, 12, 2);
+    rig_free(&g);
+    /* 5: y. 7 57; 8 72 0; 11 64 0 1; 16 73 */
+    g = rig_new(BYTES(240, 0, 0, 0, 0, 0, 1, 57, 72, 0, 0, 64, 0, 0, 0, 1, 73),
+                51, 1, 2, 1280, 2, 28);
+    EXPECT(is(do_start(&g), REF_READY, 0, 0, 0));
+    EXPECT(is(do_run(&g, 100), REF_UNCAUGHT, 5, 8, 3));
+    LIST_IS(g, CTL, 0, 0, 0, 0, 0, 0, 1, 0, 11, 1);
+    rig_free(&g);
+    /* 5: control words, for lists of 5 to 20: as many calls as whole records */
+    for (size_t c = 5; c <= 20; c++) {
+        g = rig_new(BYTES(HEAD0, 72, 0, 0, 73), 33, 1, 1, c, 2, 28);
+        EXPECT(is(do_start(&g), REF_READY, 0, 0, 0));
+        EXPECT(is(do_run(&g, 100), REF_UNCAUGHT, 5, 7, (uint32_t)(c / 5) - 1));
+        rig_free(&g);
+    }
+    /* 5: a handler's record. B in control lists of 5 to 10 */
+    for (size_t c = 5; c <= 10; c++) {
+        g = rig_new(BYTES(B_FILE), 54, 2, 1, c, 2, 28);
+        EXPECT(is(do_start(&g), REF_READY, 0, 0, 0));
+        ref_reply r = do_run(&g, 100);
+        if (c < 10)
+            EXPECT(is(r, REF_UNCAUGHT, 5, 7, 0));
+        else
+            EXPECT(is(r, REF_FINISHED, 0, 0, 5));
+        rig_free(&g);
+    }
+    /* 5: procedure 1 with x = 200 over 0 words; 7 160 -> 17; 10 72 1; 13 54 7;
+       15 161; 16 73; 17 73. 18 head; 25 73 */
+    for (size_t m = 199; m <= 201; m++) {
+        g = rig_new(BYTES(240, 0, 0, 1, 0, 1, 0, 160, 0, 17, 72, 0, 1, 54, 7, 161, 73, 73,
+                          240, 0, 0, 0, 0, 200, 0, 73), 78, m, 1, 15, 2, 28);
+        EXPECT(is(do_start(&g), REF_READY, 0, 0, 0));
+        ref_reply r = do_run(&g, 100);
+        if (m < 200) {
+            EXPECT(is(r, REF_FINISHED, 0, 0, 3));
+            LIST_IS(g, MAIN, 5);
+        } else {
+            EXPECT(is(r, REF_FINISHED, 0, 0, 6));
+            LIST_IS(g, MAIN, 7);
+        }
+        rig_free(&g);
+    }
+    /* a parameter lies in the callee's frame: base = top less a. Main list of 3:
+       7 54 1; 9 54 2; 11 72 1; 14 73. 15 head a 1, x 2: 1 + 2 = 3; 22 73 */
+    for (size_t m = 2; m <= 3; m++) {
+        g = rig_new(BYTES(240, 0, 0, 2, 0, 2, 0, 54, 1, 54, 2, 72, 0, 1, 73,
+                          240, 1, 0, 1, 0, 2, 0, 73), 69, m, 1, 15, 2, 28);
+        EXPECT(is(do_start(&g), REF_READY, 0, 0, 0));
+        if (m == 2)
+            EXPECT(is(do_run(&g, 100), REF_UNCAUGHT, 5, 11, 2));
+        else
+            EXPECT(is(do_run(&g, 100), REF_FINISHED, 0, 0, 5));
+        LIST_IS(g, MAIN, 1, 2);
+        rig_free(&g);
+    }
+
+    /* 1, caught, for every code that raises it: 7 160 -> 23; 10 56 a; 15 56 b;
+       20 code; 21 161; 22 73; 23 73 */
+    static const uint8_t raising[][9] = {
+        { 127, 255, 255, 255, 0, 0, 0, 1, 140 }, { 0, 1, 0, 0, 0, 1, 0, 0, 141 },
+        { 128, 0, 0, 0, 0, 0, 0, 1, 142 }, { 128, 0, 0, 0, 255, 255, 255, 255, 143 },
+        { 0, 0, 0, 9, 0, 0, 0, 0, 143 }, { 0, 0, 0, 9, 0, 0, 0, 0, 145 }
+    };
+    for (size_t i = 0; i < sizeof raising / sizeof raising[0]; i++) {
+        const uint8_t *c = raising[i];
+        BENCH("finished steps=5 main=1", 240, 0, 0, 1, 0, 2, 0, 160, 0, 23,
+              56, c[0], c[1], c[2], c[3], 56, c[4], c[5], c[6], c[7], c[8], 161, 73, 73);
+    }
+    /* 7 160 -> 18; 10 56 -2^31; 15 144; 16 161; 17 73; 18 73 */
+    BENCH("finished steps=4 main=1",
+          240, 0, 0, 1, 0, 1, 0, 160, 0, 18, 56, 128, 0, 0, 0, 144, 161, 73, 73);
+    /* 2, caught: 7 160 -> 23; 10 57; 11 31 2; 14 64 0 1; 19 54 7; 21 161; 22 73; 23 73 */
+    BENCH("finished steps=4 main=2",
+          240, 0, 0, 1, 0, 1, 1, 160, 0, 23, 57, 31, 0, 2, 64, 0, 0, 0, 1, 54, 7, 161, 73, 73);
+    /* 7 160 -> 20; 10 54 5; 12 57; 13 32 2; 16 54 7; 18 161; 19 73; 20 73 */
+    BENCH("finished steps=5 main=2",
+          240, 0, 0, 1, 0, 1, 1, 160, 0, 20, 54, 5, 57, 32, 0, 2, 54, 7, 161, 73, 73);
+    /* 7 160 -> 19; 10 57; 11 57; 12 33 2; 15 54 7; 17 161; 18 73; 19 73 */
+    BENCH("finished steps=5 main=2",
+          240, 0, 0, 1, 0, 1, 2, 160, 0, 19, 57, 57, 33, 0, 2, 54, 7, 161, 73, 73);
+    /* 3, caught: 7 160 -> 27; 10 form; 15 31 2; 18 64 0 1; 23 54 7; 25 161; 26 73; 27 73 */
+    BENCH("finished steps=4 main=3",
+          240, 0, 0, 1, 0, 1, 1, 160, 0, 27, 36, 0, 0, 0, 0, 31, 0, 2, 64, 0, 0, 0, 1,
+          54, 7, 161, 73, 73);
+    /* 7 160 -> 23; 10 57; 11 form; 16 33 2; 19 54 7; 21 161; 22 73; 23 73 */
+    BENCH("finished steps=5 main=3",
+          240, 0, 0, 1, 0, 1, 2, 160, 0, 23, 57, 36, 0, 0, 0, 0, 33, 0, 2, 54, 7, 161, 73, 73);
+    /* 7 160 -> 24; 10 54 5; 12 form; 17 32 2; 20 54 7; 22 161; 23 73; 24 73 */
+    g = run_out(__LINE__, reply(REF_FINISHED, 0, 0, 5),
+                BYTES(240, 0, 0, 1, 0, 1, 1, 160, 0, 24, 54, 5, 36, 0, 0, 0, 0, 32, 0, 2,
+                      54, 7, 161, 73, 73));
+    LIST_IS(g, MAIN, 3);
+    LIST_IS(g, PTR, 0);
+    LIST_IS(g, HEAP, 4, 0, 0x01000000, 2);
+    rig_free(&g);
+    /* 2, caught: 7 160 -> 16; 10 57; 11 30 2; 14 161; 15 73; 16 73 */
+    BENCH("finished steps=4 main=2",
+          240, 0, 0, 1, 0, 1, 1, 160, 0, 16, 57, 30, 0, 2, 161, 73, 73);
+    /* 3, caught: 7 160 -> 20; 10 form; 15 30 2; 18 161; 19 73; 20 73 */
+    BENCH("finished steps=4 main=3",
+          240, 0, 0, 1, 0, 1, 1, 160, 0, 20, 36, 0, 0, 0, 0, 30, 0, 2, 161, 73, 73);
+    /* 4, caught: 7 160 -> 24; 10 form; 15 64 0 1; 20 54 7; 22 161; 23 73; 24 73 */
+    for (size_t h = 2; h <= 4; h++) {
+        g = rig_new(BYTES(240, 0, 0, 1, 0, 1, 1, 160, 0, 24, 36, 0, 0, 0, 0, 64, 0, 0, 0, 1,
+                          54, 7, 161, 73, 73), 75, 1, 1, 10, h, 28);
+        EXPECT(is(do_start(&g), REF_READY, 0, 0, 0));
+        ref_reply r = do_run(&g, 100);
+        if (h < 4) {
+            EXPECT(is(r, REF_FINISHED, 0, 0, 3));
+            LIST_IS(g, MAIN, 4);
+            LIST_IS(g, HEAP, 2, 0);
+        } else {
+            EXPECT(is(r, REF_FINISHED, 0, 0, 6));
+            LIST_IS(g, MAIN, 7);
+            LIST_IS(g, HEAP, 4, 0, 0x01000000, 2);
+        }
+        rig_free(&g);
+    }
+    /* a raised word, caught: 7 160 -> 13; 10 54 -5; 12 162; 13 73 */
+    BENCH("finished steps=4 main=-5",
+          240, 0, 0, 1, 0, 1, 0, 160, 0, 13, 54, 251, 162, 73);
+    /* uncaught, the word stays: 7 54 -5; 9 162 */
+    BENCH("uncaught -5 at 9 steps=1 main=-5", 240, 0, 0, 0, 0, 1, 0, 54, 251, 162);
+    BENCH("uncaught 0 at 9 steps=1 main=0", 240, 0, 0, 0, 0, 1, 0, 54, 0, 162);
+    g = run_out(__LINE__, reply(REF_UNCAUGHT, 0xfffffffbu, 9, 1),
+                BYTES(240, 0, 0, 0, 0, 1, 0, 54, 251, 162));
+    EXPECT(reg_of(&g, PLACE) == 9 && reg_of(&g, MTOP) == 1 && reg_of(&g, STATE) == 0);
+    rig_free(&g);
+}
+
+/* ---- handlers and frames ---- */
+
+#define ACROSS_FILE \
+    240, 0, 0, 2, 0, 2, 1, 54, 4, 160, 0, 20, 57, 54, 6, 72, 0, 1, 161, 73, 73, \
+    240, 1, 1, 1, 0, 2, 2, 54, 2, 21, 0, 0, 72, 0, 2, 64, 0, 1, 0, 1, 73, \
+    240, 1, 1, 1, 0, 2, 1, 54, 44, 162
+
+#define NESTED_FILE \
+    240, 0, 0, 1, 0, 3, 0, 160, 0, 20, 54, 1, 160, 0, 18, 54, 9, 162, 140, 162, 73
+
+#define MIDDLE_FILE \
+    240, 0, 0, 2, 0, 2, 0, 54, 100, 54, 20, 72, 0, 1, 73, \
+    240, 1, 0, 1, 0, 2, 0, 160, 0, 18, 54, 7, 72, 0, 2, 161, 140, 73, 142, 73, \
+    240, 0, 0, 0, 0, 2, 0, 54, 1, 54, 0, 143, 64, 0, 1, 0, 0, 73
+
+static void test_handlers(void)
+{
+    rig g;
+
+    /* 7 160 -> 20; 10 54 1; 12 160 -> 18; 15 54 9; 17 162 to 18 with 1, 9;
+       18 140; 19 162 of 10 to 20; 20 73 */
+    BENCH("finished steps=8 main=10", NESTED_FILE);
+    /* both closed: 7 160 -> 20; 10 160 -> 18; 13 161; 14 161; 15 54 7; 17 73; 18 161; 19 73; 20 73 */
+    BENCH("finished steps=6 main=7",
+          240, 0, 0, 1, 0, 1, 0, 160, 0, 20, 160, 0, 18, 161, 161, 54, 7, 73, 161, 73, 73);
+    /* the second record doesn't fit in 10 or 14 words: 5 goes to the outer one */
+    for (size_t c = 10; c <= 15; c++) {
+        g = rig_new(BYTES(240, 0, 0, 1, 0, 1, 0, 160, 0, 20, 160, 0, 18, 161, 161, 54, 7, 73,
+                          161, 73, 73), 63, 1, 1, c, 2, 28);
+        EXPECT(is(do_start(&g), REF_READY, 0, 0, 0));
+        EXPECT(is(do_run(&g, 100), REF_FINISHED, 0, 0, c < 15 ? 3 : 6));
+        EXPECT(g.list[MAIN][0] == (c < 15 ? 5 : 7));
+        rig_free(&g);
+    }
+    /* a handler is closed when it is used: 7 160 -> 13; 10 54 9; 12 162; 13 162 */
+    BENCH("uncaught 9 at 13 steps=3 main=9",
+          240, 0, 0, 0, 0, 1, 0, 160, 0, 13, 54, 9, 162, 162);
+    /* a closed handler catches nothing: 7 160 -> 14; 10 161; 11 54 3; 13 162; 14 162 */
+    BENCH("uncaught 3 at 13 steps=3 main=3",
+          240, 0, 0, 0, 0, 1, 0, 160, 0, 14, 161, 54, 3, 162, 162);
+
+    /* 7 54 4; 9 160 -> 20; 12 57; 13 54 6; 15 72 1; 18 161; 19 73; 20 73.
+       21 head: 28 54 2; 30 21 0; 33 72 2; 36 64 1 1; 41 73.
+       42 head: 49 54 44; 51 162. Both stacks cut to 1 and 0, 44 pushed. */
+    g = run_out(__LINE__, reply(REF_FINISHED, 0, 0, 11), BYTES(ACROSS_FILE));
+    LIST_IS(g, MAIN, 4, 44);
+    LIST_IS(g, PTR, 0);
+    LIST_IS(g, CTL, 0);
+    rig_free(&g);
+    /* before and after the raise */
+    g = bench_rig(BYTES(ACROSS_FILE));
+    EXPECT(is(do_start(&g), REF_READY, 0, 0, 0));
+    EXPECT(is(do_run(&g, 9), REF_SPENT, 0, 0, 9));
+    LIST_IS(g, MAIN, 4, 6, 2, 44);
+    LIST_IS(g, CTL, 0, 0, 0, 0, 0, 9, 1, 0, 1, 0, 1, 0, 1, 18, 1, 2, 1, 2, 36, 3);
+    EXPECT(reg_of(&g, PLACE) == 51 && reg_of(&g, FRAME) == 4 && reg_of(&g, HANDLER) == 2);
+    EXPECT(reg_of(&g, MTOP) == 4 && reg_of(&g, PTOP) == 2 && reg_of(&g, CTOP) == 20);
+    EXPECT(is(do_run(&g, 1), REF_SPENT, 0, 0, 1));
+    LIST_IS(g, MAIN, 4, 44);
+    LIST_IS(g, PTR, 0);
+    LIST_IS(g, CTL, 0);
+    EXPECT(reg_of(&g, PLACE) == 20 && reg_of(&g, FRAME) == 1 && reg_of(&g, HANDLER) == 0);
+    EXPECT(reg_of(&g, MTOP) == 2 && reg_of(&g, PTOP) == 0 && reg_of(&g, CTOP) == 5);
+    rig_free(&g);
+
+    /* a raise brings back the handler's frame: 7 54 50; 9 form -> 2; 14 160 -> 26;
+       17 57; 18 54 9; 20 72 1; 23 3 0 3; 26 20 0; 29 21 0; 32 73.
+       33 head: 40 162 of 9 */
+    g = run_out(__LINE__, reply(REF_FINISHED, 0, 0, 10),
+                BYTES(240, 0, 0, 3, 2, 3, 2, 54, 50, 36, 0, 0, 0, 0, 160, 0, 26, 57, 54, 9,
+                      72, 0, 1, 3, 0, 3, 20, 0, 0, 21, 0, 0, 73,
+                      240, 1, 1, 0, 0, 1, 1, 162));
+    LIST_IS(g, MAIN, 50, 9, 50);
+    LIST_IS(g, PTR, 2, 2);
+    rig_free(&g);
+
+    /* also bases that are not 0: 7 54 50; 9 form -> 2; 14 54 60; 16 form -> 4;
+       21 72 1; 24 73. 25 head: 32 160 + 16 -> 41; 35 72 2; 38 3 0 3; 41 20 0;
+       44 21 0; 47 73. 48 head: 55 54 8; 57 162 */
+    g = run_out(__LINE__, reply(REF_FINISHED, 0, 0, 13),
+                BYTES(240, 0, 0, 4, 3, 4, 3, 54, 50, 36, 0, 0, 0, 0, 54, 60, 36, 0, 0, 0, 0,
+                      72, 0, 1, 73,
+                      240, 1, 1, 3, 2, 3, 2, 160, 0, 16, 72, 0, 2, 3, 0, 3, 20, 0, 0,
+                      21, 0, 0, 73, 240, 0, 0, 0, 0, 1, 0, 54, 8, 162));
+    LIST_IS(g, MAIN, 50, 60, 8, 60);
+    LIST_IS(g, PTR, 2, 4, 4);
+    rig_free(&g);
+
+    /* 7 54 100; 9 54 20; 11 72 1; 14 73.
+       15 head: 22 160 + 18 -> 33; 25 54 7; 27 72 2; 30 161; 31 140; 32 73;
+       33 142: 20 - 1; 34 73.
+       35 head: 42 54 1; 44 54 0; 46 143 raises 1; 47 64 1 0; 52 73 */
+    BENCH("finished steps=12 main=100,19", MIDDLE_FILE);
+
+    /* from a handler's code to an outer frame: 7 160 -> 15; 10 72 1; 13 161;
+       14 73; 15 73. 16 head: 23 160 + 13 -> 29; 26 54 5; 28 162; 29 54 1;
+       31 140; 32 162 of 6 */
+    BENCH("finished steps=9 main=6",
+          240, 0, 0, 1, 0, 1, 0, 160, 0, 15, 72, 0, 1, 161, 73, 73,
+          240, 0, 0, 1, 0, 2, 0, 160, 0, 13, 54, 5, 162, 54, 1, 140, 162);
+    /* uncaught deep in calls, the whole stack shows: 7 54 1; 9 72 1; 12 73.
+       13 head: 20 54 2; 22 54 0; 24 145 raises 1; 25 73 */
+    BENCH("uncaught 1 at 24 steps=4 main=1,2,0",
+          240, 0, 0, 2, 0, 2, 0, 54, 1, 72, 0, 1, 73,
+          240, 0, 0, 1, 0, 2, 0, 54, 2, 54, 0, 145, 73);
+    /* what was stored under the floor stays: 7 54 1; 9 160 -> 20; 12 54 2;
+       14 22 0; 17 54 3; 19 162; 20 73 with 2, 3 */
+    BENCH("finished steps=7 main=2,3",
+          240, 0, 0, 2, 0, 2, 0, 54, 1, 160, 0, 20, 54, 2, 22, 0, 0, 54, 3, 162, 73);
+    /* a handler opened again and again: 7 160 -> 16; 10 54 0; 12 54 0; 14 143;
+       15 162; 16 64 1 0; 21 bjump 17 -> 7. Six steps a round (160, 54, 54, 143,
+       64, 3): 166 rounds, then 160, 54, 54, 143: the code is on the stack */
+    BENCH("spent steps=1000 main=1",
+          240, 0, 0, 0, 0, 2, 0, 160, 0, 16, 54, 0, 54, 0, 143, 162,
+          64, 0, 1, 0, 0, 3, 0, 17);
+}
+
+/* ---- a deep state ---- */
+
+/*
+ * 0 head x 3 y 2: 7 54 1; 9 54 2; 11 57; 12 form 1 1; 17 160 -> 44; 20 21 0;
+ * 23 59; 24 54 3; 26 160 -> 43; 29 58; 30 54 5; 32 72 1; 35 161; 36 161;
+ * 37 64 2 1; 42 73; 43 162; 44 64 2 1; 49 73.
+ * 50 head a 1 b 1 x 2 y 2: 57 54 6; 59 57; 60 form 1 1; 65 72 2; 68 64 1 1; 73 73.
+ * 74 head a 1 b 1 r 1 x 3 y 2: 81 54 7; 83 160 + 27 -> 101; 86 54 8; 88 57;
+ * 89 64 1 1; 94 161; 95 64 1 1; 100 73; 101 64 2 1; 106 73.
+ */
+#define DEEP_FILE \
+    240, 0, 0, 0, 0, 3, 2, 54, 1, 54, 2, 57, 36, 0, 1, 0, 1, 160, 0, 44, 21, 0, 0, 59, \
+    54, 3, 160, 0, 43, 58, 54, 5, 72, 0, 1, 161, 161, 64, 0, 2, 0, 1, 73, 162, \
+    64, 0, 2, 0, 1, 73, \
+    240, 1, 1, 0, 0, 2, 2, 54, 6, 57, 36, 0, 1, 0, 1, 72, 0, 2, 64, 0, 1, 0, 1, 73, \
+    240, 1, 1, 1, 0, 3, 2, 54, 7, 160, 0, 27, 54, 8, 57, 64, 0, 1, 0, 1, 161, \
+    64, 0, 1, 0, 1, 73, 64, 0, 2, 0, 1, 73
+
+static rig deep_rig(void)
+{
+    rig g = rig_new(BYTES(DEEP_FILE), 3 * 107, 8, 6, 37, 12, 28);
+    EXPECT(is(do_start(&g), REF_READY, 0, 0, 0));
+    return g;
+}
+
+/* The registers after each step. */
+static const uint32_t deep_trace[31][7] = {
+    { 7, 1, 0, 0, 0, 5, 0 },   { 9, 1, 0, 1, 0, 5, 0 },   { 11, 1, 0, 2, 0, 5, 0 },
+    { 12, 1, 0, 2, 1, 5, 0 },  { 17, 1, 0, 1, 1, 5, 0 },  { 20, 1, 2, 1, 1, 10, 0 },
+    { 23, 1, 2, 1, 2, 10, 0 }, { 24, 1, 2, 1, 1, 10, 0 }, { 26, 1, 2, 2, 1, 10, 0 },
+    { 29, 1, 3, 2, 1, 15, 0 }, { 30, 1, 3, 2, 2, 15, 0 }, { 32, 1, 3, 3, 2, 15, 0 },
+    { 57, 4, 3, 3, 2, 20, 0 }, { 59, 4, 3, 4, 2, 20, 0 }, { 60, 4, 3, 4, 3, 20, 0 },
+    { 65, 4, 3, 3, 3, 20, 0 }, { 81, 5, 3, 3, 3, 25, 0 }, { 83, 5, 3, 4, 3, 25, 0 },
+    { 86, 5, 6, 4, 3, 30, 0 }, { 88, 5, 6, 5, 3, 30, 0 }, { 89, 5, 6, 5, 4, 30, 0 },
+    { 94, 5, 6, 4, 3, 30, 0 }, { 95, 5, 3, 4, 3, 25, 0 }, { 100, 5, 3, 3, 2, 25, 0 },
+    { 68, 4, 3, 3, 2, 20, 0 }, { 73, 4, 3, 2, 1, 20, 0 }, { 35, 1, 3, 2, 1, 15, 0 },
+    { 36, 1, 2, 2, 1, 10, 0 }, { 37, 1, 0, 2, 1, 5, 0 },  { 42, 1, 0, 0, 0, 5, 0 },
+    { 0, 0, 0, 0, 0, 0, 1 }
+};
+
+/* Places of one procedure with equal states in the map. */
+static bool equal_places(uint32_t a, uint32_t b)
+{
+    static const uint32_t classes[][3] = {
+        { 7, 42, 49 }, { 12, 37, 44 }, { 20, 24, 24 }, { 26, 36, 36 }, { 29, 35, 35 },
+        { 57, 68, 68 }, { 83, 95, 95 }, { 86, 94, 94 }, { 100, 106, 106 }
+    };
+    for (size_t i = 0; i < sizeof classes / sizeof classes[0]; i++) {
+        bool in_a = false, in_b = false;
+        for (int k = 0; k < 3; k++) {
+            in_a = in_a || classes[i][k] == a;
+            in_b = in_b || classes[i][k] == b;
+        }
+        if (in_a && in_b)
+            return true;
+    }
+    return a == b;
+}
+
+typedef ref_reply (*judge)(const rig *sound, int list, size_t i, uint32_t v);
+
+static ref_reply sound_reply(const rig *g)
+{
+    return reply(reg_of(g, STATE) == 1 ? REF_FINISHED : REF_SPENT, 0, 0, 0);
+}
+
+/* Puts many other values in every word of a list, and tests run's answer. */
+static void damage(int line, const rig *sound, int list, judge expected)
+{
+    size_t len = list == REGS ? 7 : sound->len[list];
+    for (size_t i = 0; i < len; i++) {
+        uint32_t old = word_of(sound, list, i);
+        for (uint32_t t = 0; t < 120 + 32 + 8; t++) {
+            uint32_t v = t < 120 ? t : t < 152 ? old ^ (1u << (t - 120))
+                : t < 156 ? old + (t - 151) : t < 159 ? old - (t - 155) : 0xffffffffu;
+            rig g = rig_copy(sound);
+            set_word(&g, list, i, v);
+            rig before = rig_copy(&g);
+            ref_reply want = v == old ? sound_reply(sound) : expected(sound, list, i, v);
+            ref_reply r = do_run(&g, 0);
+            bool ok = is(r, want.kind, want.number, want.place, want.steps);
+            expect(ok, line, "the answer on a changed word");
+            if (!ok && failures <= 50)
+                printf("    list %d word %zu from %" PRIu32 " to %" PRIu32
+                       ": kind %" PRIu32 " number %" PRIu32 " place %" PRIu32 "\n",
+                       list, i, old, v, r.kind, r.number, r.place);
+            expect(same_rig(&g, &before), line, "nothing is written");
+            rig_free(&g);
+            rig_free(&before);
+        }
+    }
+}
+
+/* Control words and words above the tops have one sound value. */
+static ref_reply judge_fixed(const rig *sound, int list, size_t i, uint32_t v)
+{
+    (void)sound; (void)list; (void)i; (void)v;
+    return reply(REF_REFUSED, 12, 0, 0);
+}
+
+/* Any word below the main top is sound. */
+static ref_reply judge_main(const rig *sound, int list, size_t i, uint32_t v)
+{
+    (void)list; (void)v;
+    return i < reg_of(sound, MTOP) ? sound_reply(sound) : reply(REF_REFUSED, 12, 0, 0);
+}
+
+/* The place may be another one of equal state. */
+static ref_reply judge_deep_regs(const rig *sound, int list, size_t i, uint32_t v)
+{
+    (void)list;
+    if (i == PLACE && equal_places(v, reg_of(sound, PLACE)))
+        return sound_reply(sound);
+    return reply(REF_REFUSED, 12, 0, 0);
+}
+
+/* After step 20 objects lie at 2 and 6. */
+static ref_reply judge_deep_ptr(const rig *sound, int list, size_t i, uint32_t v)
+{
+    (void)list;
+    if (i < reg_of(sound, PTOP) && (v == 0 || v == 2 || v == 6))
+        return sound_reply(sound);
+    return reply(REF_REFUSED, 12, 0, 0);
+}
+
+/* The heap after step 20: 10, 2, view of 1 and 1 (nil, 2), view (nil, 6), 0, 0. */
+static ref_reply judge_deep_heap(const rig *sound, int list, size_t i, uint32_t v)
+{
+    (void)list;
+    uint32_t at = 0;
+    bool pointer = v == 0 || v == 2 || v == 6;
+    switch (i) {
+    case 0:
+        if (v < 2 || v > 12)
+            at = 0;
+        else if (v == 2)
+            at = 1; /* the root has no object */
+        else if (v == 3)
+            at = 2; /* no size word below the mark */
+        else if (v == 4 || v == 5)
+            at = 3; /* past the mark */
+        else if (v == 6 || v == 7)
+            at = 6; /* nonzero free word; no size word */
+        else if (v == 8 || v == 9)
+            at = 7;
+        else
+            at = 10; /* a header of kind 0 */
+        break;
+    case 1: case 4: case 8:
+        if (pointer)
+            return sound_reply(sound);
+        at = (uint32_t)i;
+        break;
+    case 2: case 6:
+        /* kind 1 with up to two pointer words: words 5 and 9 hold 2 and 6 */
+        if (v >= 0x01000000u && v <= 0x01000002u)
+            return sound_reply(sound);
+        at = v >= 0x01000000u && v <= 0x01ffffffu ? (uint32_t)i + 1 : (uint32_t)i;
+        break;
+    case 3:
+        if (v == 8) /* one object of 8 words: 6 on the pointer stack is none */
+            return reply(REF_REFUSED, 12, 0, 0);
+        at = v == 3 ? 5 : v == 5 ? 7 : v == 6 ? 8 : v == 7 ? 9 : 3;
+        break;
+    case 7:
+        at = v == 3 ? 9 : 7;
+        break;
+    case 5: case 9:
+        return sound_reply(sound);
+    default: /* 10 and 11 are free */
+        at = (uint32_t)i;
+        break;
+    }
+    return reply(REF_REFUSED, 11, at, 0);
+}
+
+static void test_deep(void)
+{
+    entry deep_map[] = {
+        { 7, 0, 0, N }, { 9, 1, 0, N }, { 11, 2, 0, N }, { 12, 2, 1, N }, { 17, 1, 1, N },
+        { 20, 1, 1, 17 }, { 23, 1, 2, 17 }, { 24, 1, 1, 17 }, { 26, 2, 1, 17 },
+        { 29, 2, 1, 26 }, { 30, 2, 2, 26 }, { 32, 3, 2, 26 }, { 35, 2, 1, 26 },
+        { 36, 2, 1, 17 }, { 37, 2, 1, N }, { 42, 0, 0, N }, { 43, 3, 1, 17 },
+        { 44, 2, 1, N }, { 49, 0, 0, N },
+        { 57, 1, 1, N }, { 59, 2, 1, N }, { 60, 2, 2, N }, { 65, 1, 2, N }, { 68, 1, 1, N },
+        { 73, 0, 0, N },
+        { 81, 1, 1, N }, { 83, 2, 1, N }, { 86, 2, 1, 83 }, { 88, 3, 1, 83 }, { 89, 3, 2, 83 },
+        { 94, 2, 1, 83 }, { 95, 2, 1, N }, { 100, 1, 0, N }, { 101, 3, 1, N }, { 106, 1, 0, N }
+    };
+    MAP(deep_map, DEEP_FILE);
+    BENCH("finished steps=30 main=", DEEP_FILE);
+
+    /* step by step, and in one run */
+    rig g = deep_rig();
+    for (uint32_t k = 0; k <= 30; k++) {
+        if (k > 0)
+            EXPECT(is(do_run(&g, 1), k == 30 ? REF_FINISHED : REF_SPENT, 0, 0, 1));
+        rig once = deep_rig();
+        EXPECT(is(do_run(&once, k), k == 30 ? REF_FINISHED : REF_SPENT, 0, 0, k));
+        EXPECT(same_rig(&g, &once));
+        for (size_t i = 0; i < 7; i++)
+            EXPECT(reg_of(&g, i) == deep_trace[k][i]);
+        /* all registers and control words changed, at every step */
+        damage(__LINE__, &g, REGS, judge_deep_regs);
+        damage(__LINE__, &g, CTL, judge_fixed);
+        rig_free(&once);
+    }
+    LIST_IS(g, MAIN, 0);
+    LIST_IS(g, PTR, 0);
+    LIST_IS(g, CTL, 0);
+    LIST_IS(g, HEAP, 10, 2, 0x01000001, 4, 0, 2, 0x01000001, 4, 0, 6);
+    /* finished: procedure 0 has no results */
+    damage(__LINE__, &g, MAIN, judge_fixed);
+    damage(__LINE__, &g, PTR, judge_fixed);
+    rig_free(&g);
+
+    g = deep_rig();
+    EXPECT(is(do_run(&g, 20), REF_SPENT, 0, 0, 20));
+    LIST_IS(g, MAIN, 1, 3, 5, 7, 8);
+    LIST_IS(g, PTR, 2, 2, 6, 0);
+    LIST_IS(g, CTL, 0, 0, 0, 0, 0, 17, 1, 1, 1, 0, 26, 2, 1, 1, 2, 2, 1, 1, 35, 1,
+            2, 2, 2, 68, 4, 83, 4, 3, 5, 3);
+    LIST_IS(g, HEAP, 10, 2, 0x01000001, 4, 0, 2, 0x01000001, 4, 0, 6);
+    damage(__LINE__, &g, MAIN, judge_main);
+    damage(__LINE__, &g, PTR, judge_deep_ptr);
+    damage(__LINE__, &g, HEAP, judge_deep_heap);
+    rig_free(&g);
+
+    /* every frame fits with x and y: after step 16 frame 5 has bases 2, 2 and
+       x 3, y 2, the tops are 3 and 3 */
+    for (size_t m = 3; m <= 5; m++)
+        for (size_t p = 3; p <= 4; p++) {
+            g = deep_rig();
+            EXPECT(is(do_run(&g, 16), REF_SPENT, 0, 0, 16));
+            g.len[MAIN] = m;
+            g.len[PTR] = p;
+            if (m < 5 || p < 4)
+                EXPECT(is_refused(do_run(&g, 1), 12, 0));
+            else
+                EXPECT(is(do_run(&g, 14), REF_FINISHED, 0, 0, 14));
+            rig_free(&g);
+        }
+    /* a control list that ends with the last record */
+    g = deep_rig();
+    EXPECT(is(do_run(&g, 20), REF_SPENT, 0, 0, 20));
+    g.len[CTL] = 29;
+    EXPECT(is_refused(do_run(&g, 1), 12, 0));
+    g.len[CTL] = 30;
+    EXPECT(is(do_run(&g, 10), REF_FINISHED, 0, 0, 10));
+    rig_free(&g);
+    /* words past the last whole record count too */
+    g = deep_rig();
+    g.list[CTL][36] = 1;
+    EXPECT(is_refused(do_run(&g, 1), 12, 0));
+    rig_free(&g);
+}
+
+/* ---- cut runs ---- */
+
+static void cut_runs(int line, uint32_t kind, uint32_t total, const uint8_t *file, size_t file_len)
+{
+    for (uint32_t n = 0; n <= total; n++)
+        for (uint32_t m = 0; n + m <= total + 2; m++) {
+            rig one = rig_new(file, file_len, 3 * file_len, 20, 20, 60, 40, 28);
+            rig two = rig_copy(&one);
+            expect(is(do_start(&one), REF_READY, 0, 0, 0), line, "ready");
+            expect(is(do_start(&two), REF_READY, 0, 0, 0), line, "ready");
+            ref_reply whole = do_run(&one, n + m);
+            ref_reply first = do_run(&two, n);
+            if (n < total)
+                expect(is(first, REF_SPENT, 0, 0, n), line, "spent");
+            ref_reply second = do_run(&two, m);
+            /* finished with the last step, uncaught only with one to spare */
+            bool ended = kind == REF_FINISHED ? n + m >= total : n + m > total;
+            if (kind == REF_UNCAUGHT && m == 0 && n == total)
+                ended = false;
+            expect(whole.kind == (ended ? kind : (uint32_t)REF_SPENT), line, "the ending");
+            expect(second.kind == whole.kind && second.number == whole.number
+                   && second.place == whole.place, line, "the same answer");
+            expect(whole.steps == (n + m < total ? n + m : total), line, "the steps");
+            expect(first.steps + second.steps == whole.steps, line, "the steps add up");
+            expect(same_rig(&one, &two), line, "the same memory");
+            rig_free(&one);
+            rig_free(&two);
+        }
+}
+
+static void test_cuts(void)
+{
+    cut_runs(__LINE__, REF_FINISHED, 4, BYTES(A_FILE));
+    cut_runs(__LINE__, REF_FINISHED, 5, BYTES(B_FILE));
+    cut_runs(__LINE__, REF_FINISHED, 6, BYTES(B3_FILE));
+    cut_runs(__LINE__, REF_UNCAUGHT, 2, BYTES(240, 0, 0, 1, 0, 2, 0, 54, 5, 54, 0, 143, 73));
+    cut_runs(__LINE__, REF_FINISHED, 47, BYTES(FACTORIAL(5)));
+    cut_runs(__LINE__, REF_FINISHED, 11, BYTES(ACROSS_FILE));
+    cut_runs(__LINE__, REF_FINISHED, 8, BYTES(NESTED_FILE));
+    cut_runs(__LINE__, REF_FINISHED, 12, BYTES(MIDDLE_FILE));
+    cut_runs(__LINE__, REF_FINISHED, 30, BYTES(DEEP_FILE));
+    /* 60 control words are 12 records: 11 calls */
+    cut_runs(__LINE__, REF_UNCAUGHT, 11, BYTES(HEAD0, 72, 0, 0, 73));
+}
+
+/* ---- refusals 10 to 12 ---- */
+
+static void lengths(int line, size_t m, size_t p, size_t c, size_t h, bool fine)
+{
+    rig g = rig_new(BYTES(HEAD0, 73), 24, m, p, c, h, 28);
+    rig before = rig_copy(&g);
+    ref_reply r = do_start(&g);
+    if (fine) {
+        expect(is(r, REF_READY, 0, 0, 0), line, "ready");
+        expect(is(do_run(&g, 5), REF_FINISHED, 0, 0, 1), line, "finished");
+    } else {
+        expect(is_refused(r, 10, 0), line, "10 by start");
+        expect(same_state(&g, &before), line, "nothing but the map is written");
+        expect(g.map[21] == 0 && g.map[22] == 0 && g.map[23] == N && g.map[20] == N, line,
+               "the finished map stays");
+        expect(is_refused(do_run(&g, 5), 10, 0), line, "10 by run");
+        expect(same_state(&g, &before), line, "nothing but the map is written");
+    }
+    rig_free(&g);
+    rig_free(&before);
+}
+
+static void test_lengths(void)
+{
+    lengths(__LINE__, 1, 1, 5, 2, true);
+    lengths(__LINE__, 4096, 4096, 1280, 16384, true);
+    lengths(__LINE__, 0, 1, 5, 2, false);
+    lengths(__LINE__, 4097, 1, 5, 2, false);
+    lengths(__LINE__, 1, 0, 5, 2, false);
+    lengths(__LINE__, 1, 4097, 5, 2, false);
+    lengths(__LINE__, 1, 1, 0, 2, false);
+    lengths(__LINE__, 1, 1, 4, 2, false);
+    lengths(__LINE__, 1, 1, 1281, 2, false);
+    lengths(__LINE__, 1, 1, 5, 0, false);
+    lengths(__LINE__, 1, 1, 5, 1, false);
+    lengths(__LINE__, 1, 1, 5, 16385, false);
+
+    /* below procedure 0's x, y; another procedure's don't count */
+    rig g = rig_new(BYTES(A_FILE), 39, 1, 1, 5, 2, 28);
+    EXPECT(is_refused(do_start(&g), 10, 0));
+    EXPECT(is_refused(do_run(&g, 1), 10, 0));
+    rig_free(&g);
+    g = rig_new(BYTES(240, 0, 0, 0, 0, 0, 3, 73), 24, 1, 2, 5, 2, 28);
+    EXPECT(is_refused(do_start(&g), 10, 0));
+    rig_free(&g);
+    g = rig_new(BYTES(240, 0, 0, 0, 0, 0, 3, 73), 24, 1, 3, 5, 2, 28);
+    EXPECT(is(do_start(&g), REF_READY, 0, 0, 0));
+    rig_free(&g);
+    g = rig_new(BYTES(HEAD0, 73, 240, 0, 0, 0, 0, 99, 99, 73), 48, 1, 1, 5, 2, 28);
+    EXPECT(is(do_start(&g), REF_READY, 0, 0, 0));
+    rig_free(&g);
+    /* in a finished state too */
+    g = rig_new(BYTES(A_FILE), 39, 2, 1, 5, 2, 28);
+    EXPECT(is(do_start(&g), REF_READY, 0, 0, 0));
+    EXPECT(is(do_run(&g, 9), REF_FINISHED, 0, 0, 4));
+    g.len[MAIN] = 1;
+    EXPECT(is_refused(do_run(&g, 9), 10, 0));
+    rig_free(&g);
+
+    /* 10 before 11 before 12 */
+    g = rig_new(BYTES(A_FILE), 39, 1, 1, 5, 2, 27);
+    g.list[HEAP][0] = 1;
+    EXPECT(is_refused(do_start(&g), 10, 0));
+    EXPECT(is_refused(do_run(&g, 9), 10, 0));
+    rig_free(&g);
+    g = rig_new(BYTES(A_FILE), 39, 2, 1, 5, 2, 27);
+    g.list[HEAP][0] = 1;
+    EXPECT(is_refused(do_start(&g), 11, 0));
+    EXPECT(is_refused(do_run(&g, 9), 11, 0));
+    g.list[HEAP][0] = 2;
+    EXPECT(is_refused(do_start(&g), 12, 0));
+    EXPECT(is_refused(do_run(&g, 9), 12, 0));
+    rig_free(&g);
+    /* a register list of another length, start and run */
+    for (size_t len = 0; len <= 60; len++) {
+        g = rig_new(BYTES(A_FILE), 39, 2, 1, 5, 2, len);
+        rig before = rig_copy(&g);
+        if (len != 28) {
+            EXPECT(is_refused(do_start(&g), 12, 0));
+            EXPECT(same_state(&g, &before));
+            EXPECT(is_refused(do_run(&g, 1), 12, 0));
+            EXPECT(same_state(&g, &before));
+        } else {
+            EXPECT(is(do_start(&g), REF_READY, 0, 0, 0));
+        }
+        EXPECT(g.map[3 * 11] == 2 && g.map[3 * 10] == N);
+        rig_free(&g);
+        rig_free(&before);
+    }
+    /* no lists at all */
+    EXPECT(is_refused(ref_start(NULL, 0, NULL, 0, NULL, 0, NULL, 0, NULL, 0, NULL, 0, NULL, 0),
+                      1, 0));
+    EXPECT(is_refused(ref_run(NULL, 0, NULL, 0, NULL, 0, NULL, 0, NULL, 0, NULL, 0, NULL, 0, 1),
+                      1, 0));
+    g = rig_new(BYTES(A_FILE), 0, 0, 0, 0, 0, 0);
+    EXPECT(is_refused(do_start(&g), 2, 0));
+    EXPECT(is_refused(do_run(&g, 3), 2, 0));
+    rig_free(&g);
+    g = rig_new(BYTES(A_FILE), 39, 0, 0, 0, 0, 0);
+    EXPECT(is_refused(do_start(&g), 10, 0));
+    EXPECT(is_refused(do_run(&g, 3), 10, 0));
+    rig_free(&g);
+}
+
+/* 11 at a place, or fine (-1), by start and by run. */
+static void heap_case(int line, int place, const uint32_t *heap, size_t len)
+{
+    rig g = rig_new(BYTES(HEAD0, 73), 24, 1, 1, 5, len, 28);
+    /* a started state, with this heap put in its place */
+    expect(is(do_start(&g), REF_READY, 0, 0, 0), line, "ready");
+    memcpy(g.list[HEAP], heap, len * 4);
+    rig before = rig_copy(&g);
+    ref_reply r = do_run(&g, 0);
+    if (place < 0)
+        expect(is(r, REF_SPENT, 0, 0, 0), line, "spent");
+    else
+        expect(is_refused(r, 11, (uint32_t)place), line, "11 by run");
+    if (place >= 0 && !is_refused(r, 11, (uint32_t)place))
+        printf("    got: kind %" PRIu32 " number %" PRIu32 " place %" PRIu32 "\n",
+               r.kind, r.number, r.place);
+    expect(same_rig(&g, &before), line, "nothing is written");
+    r = do_start(&g);
+    if (place < 0)
+        expect(is(r, REF_READY, 0, 0, 0), line, "ready");
+    else
+        expect(is_refused(r, 11, (uint32_t)place), line, "11 by start");
+    expect(same_rig(&g, &before), line, "nothing is written");
+    rig_free(&g);
+    rig_free(&before);
+}
+
+#define HEAP_CASE(place, ...) \
+    heap_case(__LINE__, place, (const uint32_t[]){ __VA_ARGS__ }, \
+              sizeof((const uint32_t[]){ __VA_ARGS__ }) / 4)
+
+static void test_heap(void)
+{
+    const uint32_t v = 0x01000000; /* a view's header without pointer words */
+
+    /* the mark */
+    HEAP_CASE(0, 1, 0);
+    HEAP_CASE(0, 0, 0);
+    HEAP_CASE(0, 3, 0);
+    HEAP_CASE(0, 0xffffffffu, 0);
+    HEAP_CASE(0, 5, 9, 7, 7);
+    HEAP_CASE(-1, 2, 0);
+    HEAP_CASE(-1, 2, 0, 0, 0, 0);
+    /* the root, free words: the lowest index of both */
+    HEAP_CASE(1, 2, 1);
+    HEAP_CASE(1, 2, 2);
+    HEAP_CASE(1, 2, 2, 0);
+    HEAP_CASE(1, 2, 0xffffffffu, 0);
+    HEAP_CASE(2, 2, 0, 5);
+    HEAP_CASE(3, 2, 0, 0, 1);
+    HEAP_CASE(1, 2, 7, 5, 1);
+    HEAP_CASE(1, 2, 2, v, 2); /* a header in the free words is no object */
+    HEAP_CASE(2, 2, 0, v, 2);
+    /* headers */
+    HEAP_CASE(2, 3, 0, v);
+    HEAP_CASE(2, 3, 0, v, 2);
+    HEAP_CASE(-1, 4, 0, v, 2);
+    HEAP_CASE(-1, 4, 2, v, 2);
+    HEAP_CASE(1, 4, 3, v, 2);
+    HEAP_CASE(1, 4, 4, v, 2);
+    HEAP_CASE(2, 4, 0, 0, 2);
+    HEAP_CASE(2, 4, 0, 1, 2);
+    HEAP_CASE(2, 4, 0, 0x02000000, 2);
+    HEAP_CASE(2, 4, 0, 0x81000000u, 2);
+    HEAP_CASE(2, 4, 0, 0xffffffffu, 2);
+    HEAP_CASE(2, 4, 9, 0x02000000, 0, 7); /* the walk comes before root and rest */
+    /* size words */
+    HEAP_CASE(3, 4, 0, v, 0);
+    HEAP_CASE(3, 4, 0, v, 1);
+    HEAP_CASE(3, 4, 0, v, 3);
+    HEAP_CASE(3, 4, 0, v, 3, 0);
+    HEAP_CASE(3, 4, 0, v, 0xffffffffu);
+    HEAP_CASE(3, 4, 0, v, 0xfffffffeu); /* 2 + size is 0 if it wraps */
+    HEAP_CASE(3, 4, 0, v + 1, 2);
+    HEAP_CASE(3, 4, 0, 0x01ffffff, 2);
+    HEAP_CASE(3, 5, 0, v + 2, 3, 0);
+    HEAP_CASE(3, 4, 9, v, 1, 7);
+    /* plain words are free */
+    HEAP_CASE(-1, 5, 0, v, 3, 0xffffffffu);
+    HEAP_CASE(-1, 5, 0, v, 3, 1, 0);
+    /* pointer words: nil, itself, forwards */
+    HEAP_CASE(-1, 5, 2, v + 1, 3, 0);
+    HEAP_CASE(-1, 5, 2, v + 1, 3, 2);
+    HEAP_CASE(4, 5, 2, v + 1, 3, 1);
+    HEAP_CASE(4, 5, 2, v + 1, 3, 3);
+    HEAP_CASE(4, 5, 2, v + 1, 3, 4);
+    HEAP_CASE(4, 5, 2, v + 1, 3, 5);
+    HEAP_CASE(4, 5, 2, v + 1, 3, 5, 0);
+    HEAP_CASE(4, 5, 2, v + 1, 3, 0x80000002u);
+    HEAP_CASE(-1, 7, 5, v + 1, 3, 5, v, 2);
+    HEAP_CASE(1, 7, 5, v, 2, v + 1, 3, 2); /* objects at 2 and 4, the root 5 */
+    HEAP_CASE(-1, 7, 4, v, 2, v + 1, 3, 2);
+    HEAP_CASE(6, 7, 4, v, 2, v + 1, 3, 5);
+    HEAP_CASE(7, 8, 4, v, 2, v + 2, 4, 0, 3);
+    /* the lowest of several: root, pointer word, free word */
+    HEAP_CASE(1, 5, 7, v + 1, 3, 7, 7);
+    HEAP_CASE(4, 5, 2, v + 1, 3, 7, 7);
+    HEAP_CASE(5, 5, 2, v + 1, 3, 2, 7);
+    /* a fault of the walk in a later object beats a bad pointer before it */
+    HEAP_CASE(5, 7, 9, v + 1, 3, 9, 0, 2);
+    HEAP_CASE(6, 7, 9, v + 1, 3, 9, v, 3);
+    HEAP_CASE(5, 6, 9, v + 1, 3, 9, v);
+    /* objects end exactly at the mark */
+    HEAP_CASE(4, 5, 0, v, 2, 0);
+    HEAP_CASE(4, 5, 0, v, 2, v);
+
+    /* the greatest heap: 8,191 objects of size 2 from 2 to 16,382 */
+    static uint32_t big[16384];
+    big[0] = 16384;
+    big[1] = 16382;
+    for (size_t i = 2; i < 16384; i += 2) {
+        big[i] = v;
+        big[i + 1] = 2;
+    }
+    heap_case(__LINE__, -1, big, 16384);
+    big[1] = 16383;
+    heap_case(__LINE__, 1, big, 16384);
+    big[1] = 2;
+    big[16383] = 3;
+    heap_case(__LINE__, 16383, big, 16384);
+    big[16383] = 2;
+    big[16382] = 0;
+    heap_case(__LINE__, 16382, big, 16384);
+    big[0] = 16382;
+    heap_case(__LINE__, 16383, big, 16384);
+    big[0] = 16383;
+    big[16382] = v;
+    heap_case(__LINE__, 16382, big, 16384);
+    /* one object of 16,382 words, all pointers to itself but the last */
+    big[0] = 16384;
+    big[1] = 0;
+    big[2] = v + 16380;
+    big[3] = 16382;
+    for (size_t i = 4; i < 16384; i++)
+        big[i] = 2;
+    heap_case(__LINE__, -1, big, 16384);
+    big[16383] = 16383;
+    heap_case(__LINE__, 16383, big, 16384);
+    big[2] = v + 16379; /* now the last word is plain */
+    heap_case(__LINE__, -1, big, 16384);
+    big[2] = v + 16381;
+    heap_case(__LINE__, 3, big, 16384);
+}
+
+static ref_reply judge_one_pointer(const rig *sound, int list, size_t i, uint32_t v)
+{
+    (void)list;
+    if (i < reg_of(sound, PTOP) && (v == 0 || v == 2))
+        return sound_reply(sound);
+    return reply(REF_REFUSED, 12, 0, 0);
+}
+
+static void test_sound(void)
+{
+    /* row 12: pointer stack 3, object at 2 only; 7 form 0 0; 12 73 */
+    rig g = rig_new(BYTES(240, 0, 0, 0, 1, 0, 1, 36, 0, 0, 0, 0, 73), 39, 1, 2, 5, 8, 28);
+    EXPECT(is(do_start(&g), REF_READY, 0, 0, 0));
+    EXPECT(is(do_run(&g, 1), REF_SPENT, 0, 0, 1));
+    LIST_IS(g, PTR, 2);
+    g.list[PTR][0] = 3;
+    EXPECT(is_refused(do_run(&g, 1), 12, 0));
+    g.list[PTR][0] = 2;
+    damage(__LINE__, &g, REGS, judge_fixed);
+    damage(__LINE__, &g, PTR, judge_one_pointer);
+    damage(__LINE__, &g, CTL, judge_fixed);
+    damage(__LINE__, &g, MAIN, judge_fixed);
+    /* the finished state: one pointer result */
+    EXPECT(is(do_run(&g, 1), REF_FINISHED, 0, 0, 1));
+    EXPECT(reg_of(&g, PTOP) == 1 && reg_of(&g, STATE) == 1 && reg_of(&g, CTOP) == 0);
+    damage(__LINE__, &g, REGS, judge_fixed);
+    damage(__LINE__, &g, PTR, judge_one_pointer);
+    damage(__LINE__, &g, CTL, judge_fixed);
+    damage(__LINE__, &g, MAIN, judge_fixed);
+    rig_free(&g);
+
+    /* A, finished: one main result */
+    g = rig_new(BYTES(A_FILE), 39, 4, 1, 7, 3, 28);
+    EXPECT(is(do_start(&g), REF_READY, 0, 0, 0));
+    EXPECT(is(do_run(&g, 4), REF_FINISHED, 0, 0, 4));
+    damage(__LINE__, &g, REGS, judge_fixed);
+    damage(__LINE__, &g, MAIN, judge_main);
+    damage(__LINE__, &g, CTL, judge_fixed);
+    rig_free(&g);
+
+    /* recursion of procedure 0: frames 1 to 3; 7 72 0; 10 73. Both places have
+       state (0, 0, none), so each may stand for the other in the registers. */
+    g = rig_new(BYTES(HEAD0, 72, 0, 0, 73), 33, 1, 1, 15, 2, 28);
+    EXPECT(is(do_start(&g), REF_READY, 0, 0, 0));
+    EXPECT(is(do_run(&g, 2), REF_SPENT, 0, 0, 2));
+    LIST_IS(g, CTL, 0, 0, 0, 0, 0, 0, 0, 0, 10, 1, 0, 0, 0, 10, 2);
+    damage(__LINE__, &g, CTL, judge_fixed);
+    set_reg(&g, PLACE, 10);
+    EXPECT(is(do_run(&g, 9), REF_FINISHED, 0, 0, 3));
+    rig_free(&g);
+
+    /* two calls of one procedure with equal states: either return place is
+       sound. 7 72 1; 10 72 1; 13 73. 14 head; 21 73 */
+    g = rig_new(BYTES(HEAD0, 72, 0, 1, 72, 0, 1, 73, HEAD0, 73), 66, 1, 1, 10, 2, 28);
+    EXPECT(is(do_start(&g), REF_READY, 0, 0, 0));
+    EXPECT(is(do_run(&g, 1), REF_SPENT, 0, 0, 1));
+    LIST_IS(g, CTL, 0, 0, 0, 0, 0, 0, 0, 1, 10, 1);
+    for (uint32_t at = 0; at < 30; at++) {
+        rig h = rig_copy(&g);
+        h.list[CTL][8] = at;
+        if (at == 10)
+            EXPECT(is(do_run(&h, 9), REF_FINISHED, 0, 0, 4));
+        else if (at == 13)
+            EXPECT(is(do_run(&h, 9), REF_FINISHED, 0, 0, 2));
+        else
+            EXPECT(is_refused(do_run(&h, 9), 12, 0));
+        rig_free(&h);
+    }
+    rig_free(&g);
+
+    /* a call of another procedure is no return place: 7 72 1; 10 72 2; 13 73.
+       14 head; 21 73. 22 head; 29 73 */
+    g = rig_new(BYTES(HEAD0, 72, 0, 1, 72, 0, 2, 73, HEAD0, 73, HEAD0, 73), 90, 1, 1, 10, 2, 28);
+    EXPECT(is(do_start(&g), REF_READY, 0, 0, 0));
+    EXPECT(is(do_run(&g, 1), REF_SPENT, 0, 0, 1));
+    g.list[CTL][8] = 13;
+    EXPECT(is_refused(do_run(&g, 9), 12, 0));
+    /* with the procedure and its place it is one */
+    g.list[CTL][7] = 2;
+    EXPECT(is_refused(do_run(&g, 9), 12, 0));
+    set_reg(&g, PLACE, 29);
+    EXPECT(is(do_run(&g, 9), REF_FINISHED, 0, 0, 2));
+    rig_free(&g);
+}
+
+int main(void)
+{
+    test_samples();
+    test_start();
+    test_file();
+    test_flow();
+    test_depths();
+    test_jumps();
+    test_arithmetic();
+    test_objects_and_stacks();
+    test_calls();
+    test_exceptions();
+    test_handlers();
+    test_deep();
+    test_cuts();
+    test_lengths();
+    test_heap();
+    test_sound();
+    printf("%lu checks, %lu failed\n", checks, failures);
+    return failures == 0 ? 0 : 1;
+}
