@@ -2320,8 +2320,10 @@ fn heaps(file: &[u8]) {
     on_heap(b"own pointer", file, &mut own);
 }
 
-fn put(l: &mut [u32; 2], w: u32) {
-    l[0] = w;
+fn put(l: &mut [u32], w: u32) {
+    if l.len() > 0 {
+        l[0] = w;
+    }
 }
 
 // Refusal 12: a pointer stack of 3 with an object at 2 only. 7 form 0 0; 12 73.
