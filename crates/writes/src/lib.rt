@@ -205,25 +205,33 @@ pub fn form(main: &[u32], ptr: &[u32], heap: &mut [u32], regs: Regs, put: Put)
     heap[0] = (mark + size) as u32;
 }
 
-// The stacks are cut, and a word is written into one of them or into the heap.
+// The stacks are cut, and a word is written into one of them or into the heap. Each arm cuts by itself: a plan made with a known `into`
+// then jumps to its arm, with no second jump by table after the cuts.
 pub fn plain(main: &mut [u32], ptr: &mut [u32], heap: &mut [u32], regs: Regs, put: Put)
     requires { ⌜ Plain (length (now heap)) (now main) (now ptr) regs put ⌝ }
     ensures { λ _. ⌜ ((ctl : List ℕ) → machine (onwards put regs) (now (main .exit)) (now (ptr .exit)) ctl (now (heap .exit)) ≡ plainly (put .into) put (machine regs (now (main .entry)) (now (ptr .entry)) ctl (now (heap .entry)))) ⌝ }
 {
     let into = put.into;
     let at = put.at;
-    cut_to(main, put.mtop, regs.mtop);
-    cut_to(ptr, put.ptop, regs.ptop);
     match into {
         Into::Main => {
+            cut_to(main, put.mtop, regs.mtop);
+            cut_to(ptr, put.ptop, regs.ptop);
             main[at] = put.word;
         }
         Into::Pointer => {
+            cut_to(main, put.mtop, regs.mtop);
+            cut_to(ptr, put.ptop, regs.ptop);
             ptr[at] = put.word;
         }
         Into::Heap => {
+            cut_to(main, put.mtop, regs.mtop);
+            cut_to(ptr, put.ptop, regs.ptop);
             heap[at] = put.word;
         }
-        _ => {}
+        _ => {
+            cut_to(main, put.mtop, regs.mtop);
+            cut_to(ptr, put.ptop, regs.ptop);
+        }
     }
 }
