@@ -39,7 +39,7 @@ typedef struct {
 } memory;
 
 static memory side[SIDES];
-static unsigned turns = 15;
+static unsigned turns = 40;
 
 static double now(void)
 {
@@ -81,11 +81,11 @@ static void measure(int what, uint32_t budget, uint32_t want, const char *name, 
     unsigned inner = 1;
     for (int w = 0; w < SIDES; w++)
         need(call(w, what, budget), want, name);
-    for (;;) { /* calls enough for two milliseconds */
+    for (;;) { /* calls enough for a millisecond */
         double from = now();
         for (unsigned i = 0; i < inner; i++)
             call(O2, what, budget);
-        if (now() - from > 2e6)
+        if (now() - from > 1e6)
             break;
         inner *= 2;
     }

@@ -157,6 +157,15 @@ static bool call_some(maker *g)
             byte(g, 72);
             operand(g, q);
             effect(g, c->a, c->b, c->r, c->s);
+            /* with nothing taken or left: calls of others like it, at the same depths */
+            for (uint32_t k = 0; k < g->procs && c->a + c->b + c->r + c->s == 0; k++) {
+                const signature *d = &g->sig[k];
+                if (k != q && k > g->self && d->a + d->b + d->r + d->s == 0 && one_in(2)
+                    && g->n + 60 < g->limit) {
+                    byte(g, 72);
+                    operand(g, k);
+                }
+            }
             return true;
         }
     }
@@ -638,8 +647,8 @@ static void make_file(maker *g, uint32_t procs, size_t total, size_t exact)
         c->b = (uint8_t)(q == 0 ? 0 : below(3));
         c->r = (uint8_t)below(4);
         c->s = (uint8_t)below(3);
-        if (c->b > g->cap_p)
-            c->b = (uint8_t)g->cap_p;
+        if (one_in(4)) /* several that a call can take for each other */
+            c->a = c->b = c->r = c->s = 0;
     }
     size_t share = total / procs;
     for (uint32_t q = 0; q < procs; q++) {
@@ -776,7 +785,8 @@ enum { CHECK, START, RUN };
 static const char *const call_name[] = { "check", "start", "run" };
 
 static uint64_t seed, case_no, calls, steps_total;
-static uint64_t answers[3][6], refusals[3][13], raised[7], stepped[256], made[8], damages[12];
+static uint64_t answers[3][6], refusals[3][13], raised[7], stepped[256], made[8], damages[15];
+static uint64_t edges[5]; /* see table() */
 static const char *file_sort;
 
 static void dump_list(const char *name, const list *l, int which)
@@ -1109,9 +1119,46 @@ static void damage_heap(void)
     }
 }
 
+/* The place of some record of this kind, or of any instruction for 0; 0 if none is met. */
+static uint32_t some_place(uint8_t kind)
+{
+    uint32_t found = 0, seen = 0;
+    const list *l = &lists[L_FILE];
+    for (size_t i = 0; i < l->len; i += 1 + body_of(l->ref[i]))
+        if ((kind == 0 ? l->ref[i] != 240 : l->ref[i] == kind) && one_in(++seen))
+            found = (uint32_t)i;
+    return found;
+}
+
+/* Damage that keeps close to what is sound. */
+static void damage_closely(uint32_t k)
+{
+    if (lists[L_REGS].len != 28)
+        return;
+    uint32_t records = reg(5) / 5;
+    if (k == 12) { /* lists that end just above their tops */
+        int which = (int)below(3);
+        if (reg(3 + (size_t)which) <= lists[L_MAIN + which].len)
+            relend(L_MAIN + which, reg(3 + (size_t)which) + below(6));
+    } else if (k == 13 && records > 1 && 5 * records <= lists[L_CTL].len) {
+        /* another call, another procedure, another handler */
+        size_t at = 5 * (size_t)(1 + below(records - 1));
+        if (one_in(2) && reg(1) > 1 && reg(1) <= records)
+            at = 5 * (size_t)(reg(1) - 1); /* the topmost frame */
+        switch (below(8)) {
+        case 0: case 1: case 2: case 3: set_word(L_CTL, at + 3, some_place(72) + 3); break;
+        case 4: case 5: set_word(L_CTL, at + 3, some_place(0) + 3); break;
+        case 6: set_word(L_CTL, at + 2, below(4)); break;
+        default: set_word(L_CTL, at, some_place(160)); break;
+        }
+    } else {
+        set_reg(0, some_place(0));
+    }
+}
+
 static void damage(void)
 {
-    uint32_t k = below(12);
+    uint32_t k = one_in(6) ? 13 : below(15);
     damages[k]++;
     switch (k) {
     case 0: case 1: {
@@ -1149,6 +1196,9 @@ static void damage(void)
     case 10:
         relend(L_MAP, one_in(2) ? lists[L_MAP].len + below(100)
                : lists[L_FILE].len * 3 - (lists[L_FILE].len > 0 ? below(4) : 0));
+        break;
+    case 12: case 13: case 14:
+        damage_closely(k);
         break;
     default:
         if (lists[L_FILE].len > 0) {
@@ -1209,6 +1259,14 @@ static void one_case(void)
     fill_junk(L_MAP);
     ref_reply r = both(CHECK, 0);
     bool valid = n > 0 && n <= 4096 && map_len >= 3 * n;
+    uint32_t heads = 0;
+    for (size_t i = 0; r.kind == REF_PASSED && i < n; i += 1 + body_of(lists[L_FILE].ref[i]))
+        heads += lists[L_FILE].ref[i] == 240;
+    edges[0] += n == 4096 && r.kind == REF_PASSED;
+    edges[1] += n == 4097;
+    edges[2] += heads == 64;
+    edges[3] += r.kind == REF_REFUSED && r.number == 4 && g.procs == 65;
+    edges[4] += n == 0;
     if ((!strcmp(file_sort, "valid") || !strcmp(file_sort, "long"))
         && r.kind != REF_PASSED && valid && g.n == n) {
         printf("\nThe generator's file is refused as %" PRIu32 " at %" PRIu32 ": seed %" PRIu64
@@ -1289,16 +1347,20 @@ static void table(void)
     static const char *const damage_name[] = {
         "registers", "registers", "control words", "control words", "main words",
         "pointer words", "heap words", "heap words", "a length", "register length",
-        "map length", "file byte"
+        "map length", "file byte", "lists cut at their tops", "another call or handler",
+        "another place"
     };
     printf("files:");
     for (int i = 0; i < 7; i++)
         printf(" %s %" PRIu64 "%s", made_name[i], made[i], i < 6 ? "," : "\n");
+    printf("4,096 bytes and passed: %" PRIu64 ", 4,097 bytes: %" PRIu64 ", 0 bytes: %" PRIu64
+           ", 64 procedures and passed: %" PRIu64 ", 65 procedures refused as 4: %" PRIu64 "\n",
+           edges[0], edges[1], edges[4], edges[2], edges[3]);
     printf("damage between calls:");
-    for (int i = 0; i < 12; i++) {
-        bool twice = i + 1 < 12 && !strcmp(damage_name[i], damage_name[i + 1]);
+    for (int i = 0; i < 15; i++) {
+        bool twice = i + 1 < 15 && !strcmp(damage_name[i], damage_name[i + 1]);
         printf(" %s %" PRIu64 "%s", damage_name[i], damages[i] + (twice ? damages[i + 1] : 0),
-               i < 11 ? "," : "\n");
+               i < 14 ? "," : "\n");
         i += twice;
     }
     printf("%-12s %12s %12s %12s\n", "answer", "check", "start", "run");

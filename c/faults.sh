@@ -17,11 +17,11 @@ plant() {
         return
     fi
     ${CC:-gcc} -std=c11 -O2 -w -I. -o "$build/fault" compare.c "$copy" "$library" || exit 1
-    if "$build/fault" 1 20000 >"$build/fault.txt" 2>&1; then
+    if "$build/fault" 1 100000 >"$build/fault.txt" 2>&1; then
         echo "$1: NOT FOUND"
         bad=1
     else
-        echo "$1: found: $(grep -a -m 1 DIFFERENCE "$build/fault.txt" || tail -n 1 "$build/fault.txt")"
+        echo "$1: found: $(grep -a -m 1 DIFFERENCE "$build/fault.txt" || echo "the copy stopped by itself")"
     fi
 }
 
@@ -32,4 +32,10 @@ plant "finished one step short" 's/REF_FINISHED, 0, 0, steps)/REF_FINISHED, 0, 0
 plant "a refused file's map not filled again" 's/^                clear_map(map, len);//'
 plant "the first frame's return place not audited" 's/f\[F_RETURN\] == 0 \&\& f\[F_CALLER\] == 0/f[F_CALLER] == 0/'
 plant "rem of the least number by -1 raises" 's/ \&\& file\[place\] == DIV)) {/)) {/'
+plant "a frame's room not audited" 's/if (main_base + head\[5\] > main_len || ptr_base + head\[6\] > ptr_len)/if (0)/'
+plant "a caller's call of another procedure let pass" 's/|| operand_at(file, file_len, (size_t)place + 1) != callee))/))/'
+plant "a handler's frame not audited" 's/|| h\[H_FRAME\] != frame)/)/'
+plant "an exact fit of form raises" 's/heap_len - object < size/heap_len - object <= size/'
+plant "the last control record not given" 's/ct + RECORD > ctl_len/ct + RECORD >= ctl_len/'
+plant "a handler's target at its 160 let pass" 's/target <= (int64_t)at)/target < (int64_t)at)/'
 exit $bad
