@@ -1,0 +1,424 @@
+/*
+ * Library against reference (built at -O2 and at -O3) in one run: the check
+ * by the byte, the audits by the call, the steps. The three take turns; the
+ * best of several turns counts. Ratios above 1: the library is slower.
+ *   bench [TURNS]
+ */
+#define _POSIX_C_SOURCE 199309L
+#include "reference.h"
+#include "yalgovim.h"
+
+#include <stdbool.h>
+#include <stdio.h>
+#include <stdlib.h>
+#include <string.h>
+#include <time.h>
+
+/* The reference twice, under other names. */
+#define TWICE(n)                                                                          \
+    ref_reply ref##n##_check(const uint8_t *, size_t, uint16_t *, size_t);                \
+    ref_reply ref##n##_start(const uint8_t *, size_t, uint16_t *, size_t, uint32_t *,     \
+                             size_t, uint32_t *, size_t, uint32_t *, size_t, uint32_t *,  \
+                             size_t, uint8_t *, size_t);                                  \
+    ref_reply ref##n##_run(const uint8_t *, size_t, uint16_t *, size_t, uint32_t *,       \
+                           size_t, uint32_t *, size_t, uint32_t *, size_t, uint32_t *,    \
+                           size_t, uint8_t *, size_t, uint32_t);
+TWICE(2)
+TWICE(3)
+
+enum { LIBRARY, O2, O3, SIDES };
+enum { CHECK, START, RUN };
+
+typedef struct {
+    uint8_t file[4096];
+    size_t file_len;
+    uint16_t map[3 * 4096];
+    uint32_t main[4096], ptr[4096], ctl[1280], heap[16384];
+    size_t main_len, ptr_len, ctl_len, heap_len;
+    uint8_t regs[28];
+} memory;
+
+static memory side[SIDES];
+static unsigned turns = 40;
+
+static double now(void)
+{
+    struct timespec t;
+    clock_gettime(CLOCK_PROCESS_CPUTIME_ID, &t);
+    return (double)t.tv_sec * 1e9 + (double)t.tv_nsec;
+}
+
+static uint32_t call(int who, int what, uint32_t budget)
+{
+    memory *m = &side[who];
+#define FILE_AND_MAP m->file, m->file_len, m->map, 3 * m->file_len
+#define REST m->main, m->main_len, m->ptr, m->ptr_len, m->ctl, m->ctl_len, m->heap, m->heap_len, \
+             m->regs, sizeof m->regs
+    switch (what * SIDES + who) {
+    case CHECK * SIDES + LIBRARY: return yalgovim_check(FILE_AND_MAP).kind;
+    case CHECK * SIDES + O2: return ref2_check(FILE_AND_MAP).kind;
+    case CHECK * SIDES + O3: return ref3_check(FILE_AND_MAP).kind;
+    case START * SIDES + LIBRARY: return yalgovim_start(FILE_AND_MAP, REST).kind;
+    case START * SIDES + O2: return ref2_start(FILE_AND_MAP, REST).kind;
+    case START * SIDES + O3: return ref3_start(FILE_AND_MAP, REST).kind;
+    case RUN * SIDES + LIBRARY: return yalgovim_run(FILE_AND_MAP, REST, budget).kind;
+    case RUN * SIDES + O2: return ref2_run(FILE_AND_MAP, REST, budget).kind;
+    default: return ref3_run(FILE_AND_MAP, REST, budget).kind;
+    }
+}
+
+static void need(uint32_t got, uint32_t want, const char *what)
+{
+    if (got != want) {
+        printf("%s: answer %u, not %u\n", what, (unsigned)got, (unsigned)want);
+        exit(1);
+    }
+}
+
+/* Nanoseconds of one call, the best of the turns, for each side. */
+static void measure(int what, uint32_t budget, uint32_t want, const char *name, double best[SIDES])
+{
+    unsigned inner = 1;
+    for (int w = 0; w < SIDES; w++)
+        need(call(w, what, budget), want, name);
+    for (;;) { /* calls enough for a millisecond */
+        double from = now();
+        for (unsigned i = 0; i < inner; i++)
+            call(O2, what, budget);
+        if (now() - from > 1e6)
+            break;
+        inner *= 2;
+    }
+    for (int w = 0; w < SIDES; w++)
+        best[w] = 1e30;
+    for (unsigned t = 0; t < turns; t++)
+        for (int w = 0; w < SIDES; w++) {
+            double from = now();
+            for (unsigned i = 0; i < inner; i++)
+                call(w, what, budget);
+            double each = (now() - from) / inner;
+            if (each < best[w])
+                best[w] = each;
+        }
+}
+
+static void lend(const uint8_t *file, size_t n, size_t main_len, size_t ptr_len, size_t ctl_len,
+                 size_t heap_len)
+{
+    for (int w = 0; w < SIDES; w++) {
+        memory *m = &side[w];
+        memset(m, 0, sizeof *m);
+        memcpy(m->file, file, n);
+        m->file_len = n;
+        m->main_len = main_len;
+        m->ptr_len = ptr_len;
+        m->ctl_len = ctl_len;
+        m->heap_len = heap_len;
+        m->heap[0] = 2;
+    }
+}
+
+static double last[SIDES]; /* the row before, for the growth */
+
+static void title(const char *text, const char *unit)
+{
+    printf("\n%-44s %10s %8s %8s %9s %9s\n", text, unit, "lib/-O2", "lib/-O3", "lib grows",
+           "ref grows");
+}
+
+static void row(const char *name, double units, const double best[SIDES], bool grows)
+{
+    printf("%-44s %10.2f %8.2f %8.2f", name, best[LIBRARY] / units, best[LIBRARY] / best[O2],
+           best[LIBRARY] / best[O3]);
+    if (grows)
+        printf(" %9.2f %9.2f", best[LIBRARY] / last[LIBRARY], best[O2] / last[O2]);
+    printf("\n");
+    memcpy(last, best, sizeof last);
+    fflush(stdout);
+}
+
+/* ---- files of a wanted length ---- */
+
+static uint8_t f[4096 + 64];
+static size_t n;
+
+static void bytes(const uint8_t *b, size_t count)
+{
+    memcpy(f + n, b, count);
+    n += count;
+}
+#define BYTES(...) bytes((const uint8_t[]){ __VA_ARGS__ }, sizeof((const uint8_t[]){ __VA_ARGS__ }))
+
+/* Pads with jumps to the next instruction and empty retracts, then returns. */
+static void finish(size_t total)
+{
+    while ((total - n - 1) % 3 != 0)
+        BYTES(64, 0, 0, 0, 0);
+    while (n + 1 < total)
+        BYTES(1, 0, 0);
+    BYTES(73);
+}
+
+static void straight(size_t total)
+{
+    n = 0;
+    BYTES(240, 0, 0, 0, 0, 2, 1);
+    while (n + 40 < total)
+        BYTES(54, 1, 54, 2, 140, 144, 64, 0, 1, 0, 0);
+    finish(total);
+}
+
+static void jumps(size_t total)
+{
+    n = 0;
+    BYTES(240, 0, 0, 0, 0, 2, 1);
+    while (n + 40 < total)
+        BYTES(54, 1, 2, 0, 3, 1, 0, 0, 54, 0, 4, 0, 0);
+    finish(total);
+}
+
+/* Handlers one after another. */
+static void handlers(size_t total)
+{
+    n = 0;
+    BYTES(240, 0, 0, 0, 0, 2, 1);
+    while (n + 40 < total) {
+        size_t target = n + 6; /* reached from the body too, with one word */
+        BYTES(160, (uint8_t)(target >> 8), (uint8_t)target, 54, 1, 161, 64, 0, 1, 0, 0);
+    }
+    finish(total);
+}
+
+/* Handlers one in another, as many as fit. */
+static void nested(size_t total)
+{
+    size_t k = (total - 20) / 12;
+    n = 0;
+    BYTES(240, 0, 0, 0, 0, 2, 1);
+    size_t open = n;
+    for (size_t i = 0; i < k; i++)
+        BYTES(160, 0, 0);
+    for (size_t i = 0; i < k; i++) {
+        /* closes the innermost; its target is behind it, with one word */
+        BYTES(161, 54, 0);
+        size_t at = open + 3 * (k - 1 - i);
+        f[at + 1] = (uint8_t)(n >> 8);
+        f[at + 2] = (uint8_t)n;
+        BYTES(64, 0, 1, 0, 0);
+    }
+    finish(total);
+}
+
+static void procedures(size_t total)
+{
+    n = 0;
+    BYTES(240, 0, 0, 0, 0, 2, 1);
+    for (unsigned k = 1; k < 64 && n + 40 < total; k++) {
+        BYTES(73, 240, 0, 0, 0, 0, 2, 1);
+        size_t to = total * (k + 1) / 64;
+        while (n + 12 < to && n + 40 < total)
+            BYTES(72, 0, (uint8_t)(k / 2), 1, 0, 0);
+    }
+    finish(total);
+}
+
+static void check_rows(void)
+{
+    static const struct {
+        const char *name;
+        void (*make)(size_t);
+    } sorts[] = {
+        { "plain", straight }, { "jumps", jumps }, { "handlers in turn", handlers },
+        { "handlers nested", nested }, { "calls, 64 heads", procedures }
+    };
+    static const uint8_t a[] = { 240, 0, 0, 1, 0, 2, 0, 54, 5, 54, 3, 142, 73 };
+    double best[SIDES];
+    char name[80];
+    title("check", "ns/byte");
+    lend(a, sizeof a, 256, 256, 250, 1024);
+    measure(CHECK, 0, YALGOVIM_PASSED, "sample A", best);
+    row("sample A, 13 bytes", sizeof a, best, false);
+    for (size_t s = 0; s < sizeof sorts / sizeof *sorts; s++)
+        for (size_t total = 512; total <= 4096; total *= 2) {
+            sorts[s].make(total);
+            snprintf(name, sizeof name, "%s, %zu bytes", sorts[s].name, n);
+            lend(f, n, 256, 256, 250, 1024);
+            measure(CHECK, 0, YALGOVIM_PASSED, name, best);
+            row(name, (double)n, best, total > 512);
+        }
+    /* refused at the last byte */
+    straight(4096);
+    f[n - 1] = 99;
+    lend(f, n, 256, 256, 250, 1024);
+    measure(CHECK, 0, YALGOVIM_REFUSED, "refused", best);
+    row("plain, 4096 bytes, refused at the last byte", (double)n, best, false);
+}
+
+/* ---- audits ---- */
+
+/* for ever: bjump to itself */
+static const uint8_t idle[] = { 240, 0, 0, 0, 0, 1, 1, 3, 0, 3 };
+
+static void fill_heap(size_t len, uint32_t ptrs, uint32_t plain)
+{
+    for (int w = 0; w < SIDES; w++) {
+        uint32_t *heap = side[w].heap;
+        uint32_t size = 2 + ptrs + plain, at = 2;
+        for (; at + size <= len; at += size) {
+            heap[at] = 0x01000000u + ptrs;
+            heap[at + 1] = size;
+            for (uint32_t i = 0; i < ptrs; i++)
+                heap[at + 2 + i] = 2 + size * ((at / size) / 2);
+        }
+        heap[0] = at;
+        heap[1] = 2;
+    }
+}
+
+static void start_all(const char *name)
+{
+    for (int w = 0; w < SIDES; w++)
+        need(call(w, START, 0), YALGOVIM_READY, name);
+}
+
+static void audit_rows(void)
+{
+    double best[SIDES];
+    char name[80];
+    title("audits: run with budget 0", "us/call");
+    for (size_t h = 1024; h <= 16384; h *= 2) {
+        snprintf(name, sizeof name, "heap of %zu, empty", h);
+        lend(idle, sizeof idle, 16, 16, 20, h);
+        start_all(name);
+        measure(RUN, 0, YALGOVIM_SPENT, name, best);
+        row(name, 1000, best, h > 1024);
+    }
+    for (size_t h = 1024; h <= 16384; h *= 2) {
+        snprintf(name, sizeof name, "heap of %zu, full, objects of 2 words", h);
+        lend(idle, sizeof idle, 16, 16, 20, h);
+        fill_heap(h, 0, 0);
+        start_all(name);
+        measure(RUN, 0, YALGOVIM_SPENT, name, best);
+        row(name, 1000, best, h > 1024);
+    }
+    for (size_t h = 1024; h <= 16384; h *= 2) {
+        snprintf(name, sizeof name, "heap of %zu, full, 14 pointers each", h);
+        lend(idle, sizeof idle, 16, 16, 20, h);
+        fill_heap(h, 14, 0);
+        start_all(name);
+        measure(RUN, 0, YALGOVIM_SPENT, name, best);
+        row(name, 1000, best, h > 1024);
+    }
+    for (size_t m = 512; m <= 4096; m *= 2) {
+        snprintf(name, sizeof name, "both stacks of %zu, shallow", m);
+        lend(idle, sizeof idle, m, m, 20, 64);
+        start_all(name);
+        measure(RUN, 0, YALGOVIM_SPENT, name, best);
+        row(name, 1000, best, m > 512);
+    }
+    /* calls itself for ever; 16 words of each stack a frame: 5 ends it */
+    n = 0;
+    BYTES(240, 0, 0, 0, 0, 0, 0, 72, 0, 1, 73);
+    BYTES(240, 0, 0, 0, 0, 16, 16);
+    for (int i = 0; i < 16; i++)
+        BYTES(54, 1, 57);
+    BYTES(72, 0, 1, 64, 0, 16, 0, 16, 73);
+    for (size_t c = 160; c <= 1280; c *= 2) {
+        snprintf(name, sizeof name, "deep: %zu frames, tops near %zu", c / 5, c / 5 * 16);
+        lend(f, n, 4096, 4096, c, 64);
+        start_all(name);
+        for (int w = 0; w < SIDES; w++)
+            need(call(w, RUN, 1000000), YALGOVIM_UNCAUGHT, name);
+        measure(RUN, 0, YALGOVIM_SPENT, name, best);
+        row(name, 1000, best, c > 160);
+    }
+    /* opens a handler and calls itself */
+    n = 0;
+    BYTES(240, 0, 0, 0, 0, 2, 0, 160, 0, 17, 72, 0, 0, 161, 1, 0, 5, 64, 0, 1, 0, 0, 73);
+    for (size_t c = 160; c <= 1280; c *= 2) {
+        snprintf(name, sizeof name, "control of %zu, half frames, half handlers", c);
+        lend(f, n, 4096, 4096, c, 64);
+        start_all(name);
+        for (int w = 0; w < SIDES; w++)
+            need(call(w, RUN, (uint32_t)(2 * (c / 10) - 2)), YALGOVIM_SPENT, name);
+        measure(RUN, 0, YALGOVIM_SPENT, name, best);
+        row(name, 1000, best, c > 160);
+    }
+    title("start", "us/call");
+    lend(idle, sizeof idle, 256, 256, 250, 1024);
+    measure(START, 0, YALGOVIM_READY, "start, bench", best);
+    row("stacks 256, 256, 250, heap 1024", 1000, best, false);
+    lend(idle, sizeof idle, 4096, 4096, 1280, 16384);
+    measure(START, 0, YALGOVIM_READY, "start, greatest", best);
+    row("stacks 4096, 4096, 1280, heap 16384", 1000, best, false);
+}
+
+/* ---- steps ---- */
+
+#define LISTED(...) { __VA_ARGS__ }, sizeof((const uint8_t[]){ __VA_ARGS__ })
+
+static const struct {
+    const char *name;
+    uint8_t file[64];
+    size_t n;
+} loops[] = {
+    { "counting", LISTED(240, 0, 0, 0, 0, 2, 0, 54, 0,
+        54, 1, 140, 20, 0, 0, 4, 0, 9, 3, 0, 12) },
+    { "arithmetic", LISTED(240, 0, 0, 0, 0, 2, 0, 54, 7,
+        54, 3, 141, 54, 5, 143, 54, 2, 142, 144, 54, 100, 145, 3, 0, 16) },
+    { "locals", LISTED(240, 0, 0, 0, 0, 4, 0, 54, 7, 54, 8, 54, 9,
+        20, 0, 0, 22, 0, 1, 20, 0, 1, 22, 0, 2, 20, 0, 2, 22, 0, 0, 3, 0, 21) },
+    { "calls", LISTED(240, 0, 0, 0, 0, 1, 0, 54, 5, 72, 0, 1, 64, 0, 1, 0, 0, 3, 0, 13,
+        240, 1, 0, 1, 0, 2, 0, 144, 73) },
+    { "handlers opened and closed", LISTED(240, 0, 0, 0, 0, 1, 0,
+        160, 0, 14, 161, 3, 0, 7, 162) },
+    { "handlers raised", LISTED(240, 0, 0, 0, 0, 1, 0,
+        160, 0, 13, 54, 9, 162, 64, 0, 1, 0, 0, 3, 0, 14) },
+    { "raised through a frame, by div", LISTED(240, 0, 0, 0, 0, 1, 0,
+        160, 0, 16, 72, 0, 1, 161, 54, 0, 64, 0, 1, 0, 0, 3, 0, 17,
+        240, 0, 0, 0, 0, 2, 0, 54, 1, 54, 0, 143, 162) },
+    { "heap fields", LISTED(240, 0, 0, 0, 0, 2, 2,
+        54, 1, 54, 2, 57, 36, 0, 2, 0, 1, 59,
+        58, 30, 0, 3, 54, 1, 140, 58, 32, 0, 3, 58, 58, 33, 0, 2, 58, 31, 0, 2, 59, 3, 0, 24) },
+    { "retracts", LISTED(240, 0, 0, 0, 0, 5, 2,
+        54, 1, 54, 2, 54, 3, 54, 4, 57, 57, 60, 0, 3, 0, 1, 62, 0, 1, 0, 0, 64, 0, 0, 0, 1,
+        3, 0, 28) }
+};
+
+static void step_rows(void)
+{
+    double best[SIDES];
+    char name[80];
+    title("steps: a long run", "ns/step");
+    for (size_t i = 0; i < sizeof loops / sizeof *loops; i++)
+        for (uint32_t b = 50000; b <= 200000; b *= 2) {
+            snprintf(name, sizeof name, "%s, %u steps", loops[i].name, (unsigned)b);
+            lend(loops[i].file, loops[i].n, 256, 256, 250, 1024);
+            start_all(name);
+            measure(RUN, b, YALGOVIM_SPENT, name, best);
+            row(name, b, best, b > 50000);
+        }
+    lend(loops[0].file, loops[0].n, 4096, 4096, 1280, 16384);
+    start_all("greatest lists");
+    measure(RUN, 200000, YALGOVIM_SPENT, "greatest lists", best);
+    row("counting, 200000 steps, greatest lists", 200000, best, false);
+    title("a stroke: run with a budget of 100", "us/call");
+    for (size_t i = 0; i < sizeof loops / sizeof *loops; i++) {
+        lend(loops[i].file, loops[i].n, 256, 256, 250, 1024);
+        start_all(loops[i].name);
+        measure(RUN, 100, YALGOVIM_SPENT, loops[i].name, best);
+        row(loops[i].name, 1000, best, false);
+    }
+}
+
+int main(int argc, char **argv)
+{
+    if (argc > 1)
+        turns = (unsigned)strtoul(argv[1], NULL, 10);
+    if (turns == 0)
+        turns = 1;
+    check_rows();
+    audit_rows();
+    step_rows();
+    return 0;
+}

@@ -1,0 +1,1410 @@
+/*
+ * The proved library and the reference side by side: generated files and call
+ * sequences, every answer and every list compared after each call.
+ *   compare SEED CASES
+ * Stops at the first difference with a dump. A case depends on the seed and
+ * its own number alone: compare SEED CASES FIRST begins with case FIRST.
+ */
+#include "reference.h"
+#include "yalgovim.h"
+
+#include <inttypes.h>
+#include <stdbool.h>
+#include <stdio.h>
+#include <stdlib.h>
+#include <string.h>
+#include <time.h>
+
+/* ---- chance ---- */
+
+static uint64_t chance;
+
+static uint32_t draw(void)
+{
+    uint64_t z = (chance += 0x9e3779b97f4a7c15u);
+    z = (z ^ (z >> 30)) * 0xbf58476d1ce4e5b9u;
+    z = (z ^ (z >> 27)) * 0x94d049bb133111ebu;
+    return (uint32_t)((z ^ (z >> 31)) >> 16);
+}
+
+/* 0 to n - 1 */
+static uint32_t below(uint32_t n)
+{
+    return n == 0 ? 0 : draw() % n;
+}
+
+static bool one_in(uint32_t n)
+{
+    return below(n) == 0;
+}
+
+/* ---- a generator of files that keep the rules ---- */
+
+enum { ROOM = 4500, PROCS = 66 };
+
+typedef struct {
+    uint8_t a, b, r, s;
+} signature;
+
+typedef struct {
+    uint8_t f[ROOM];
+    size_t n, limit, head;
+    signature sig[PROCS];
+    uint32_t procs, self;
+    uint32_t m, p;         /* depths here */
+    uint32_t floor_m, floor_p;
+    uint32_t max_m, max_p; /* greatest so far */
+    uint32_t cap_m, cap_p;
+    uint32_t handlers;     /* open here */
+} maker;
+
+static void byte(maker *g, uint32_t b)
+{
+    if (g->n >= ROOM)
+        abort();
+    g->f[g->n++] = (uint8_t)b;
+}
+
+static void operand(maker *g, uint32_t s)
+{
+    byte(g, s >> 8 & 255);
+    byte(g, s & 255);
+}
+
+static void patch(maker *g, size_t at, size_t s)
+{
+    g->f[at] = (uint8_t)(s >> 8);
+    g->f[at + 1] = (uint8_t)s;
+}
+
+static void effect(maker *g, uint32_t pop_m, uint32_t pop_p, uint32_t push_m, uint32_t push_p)
+{
+    g->m = g->m - pop_m + push_m;
+    g->p = g->p - pop_p + push_p;
+    if (g->m > g->max_m)
+        g->max_m = g->m;
+    if (g->p > g->max_p)
+        g->max_p = g->p;
+}
+
+static uint32_t odd_word(void)
+{
+    static const uint32_t some[] = {
+        0, 1, 2, 3, 5, 7, 0xffffffffu, 0xfffffffeu, 0x80000000u, 0x80000001u,
+        0x7fffffffu, 0x7ffffffeu, 0x40000000u, 0xc0000000u, 46340, 46341, 65535, 65536,
+        0x01000000u, 0x01000001u
+    };
+    if (one_in(3))
+        return draw();
+    return some[below(sizeof some / sizeof *some)];
+}
+
+static void push_word(maker *g)
+{
+    if (one_in(2)) {
+        byte(g, 54);
+        byte(g, one_in(3) ? below(4) : draw() & 255);
+    } else {
+        uint32_t w = odd_word();
+        byte(g, 56);
+        operand(g, w >> 16);
+        operand(g, w & 65535);
+    }
+    effect(g, 0, 0, 1, 0);
+}
+
+static void push_pointer(maker *g)
+{
+    if (g->p > 0 && one_in(2)) {
+        byte(g, 21);
+        operand(g, below(g->p));
+    } else {
+        byte(g, one_in(2) ? 57 : 58);
+    }
+    effect(g, 0, 0, 0, 1);
+}
+
+/* Brings both depths to those wanted, which are not below the floor. */
+static void adjust(maker *g, uint32_t m, uint32_t p)
+{
+    uint32_t drop_m = g->m > m ? g->m - m : 0, drop_p = g->p > p ? g->p - p : 0;
+    if (drop_m > 0 || drop_p > 0 || one_in(20)) {
+        uint32_t kind = 64;
+        if (g->m - drop_m > g->floor_m && one_in(2))
+            kind = 60;
+        else if (g->p - drop_p > g->floor_p && one_in(2))
+            kind = 62;
+        byte(g, kind);
+        operand(g, drop_m);
+        operand(g, drop_p);
+        effect(g, drop_m, drop_p, 0, 0);
+    }
+    while (g->m < m)
+        push_word(g);
+    while (g->p < p)
+        push_pointer(g);
+}
+
+static bool call_some(maker *g)
+{
+    for (int i = 0; i < 4; i++) {
+        uint32_t q = below(g->procs);
+        if (q <= g->self && !one_in(6) && g->self + 1 < g->procs)
+            q = g->self + 1 + below(g->procs - g->self - 1);
+        const signature *c = &g->sig[q];
+        if (c->a <= g->m - g->floor_m && c->b <= g->p - g->floor_p
+            && g->m - c->a + c->r <= g->cap_m && g->p - c->b + c->s <= g->cap_p) {
+            byte(g, 72);
+            operand(g, q);
+            effect(g, c->a, c->b, c->r, c->s);
+            /* with nothing taken or left: calls of others like it, at the same depths */
+            for (uint32_t k = 0; k < g->procs && c->a + c->b + c->r + c->s == 0; k++) {
+                const signature *d = &g->sig[k];
+                if (k != q && k > g->self && d->a + d->b + d->r + d->s == 0 && one_in(2)
+                    && g->n + 60 < g->limit) {
+                    byte(g, 72);
+                    operand(g, k);
+                }
+            }
+            return true;
+        }
+    }
+    return false;
+}
+
+/* A new object and a use of one of its words, mostly one that is there. */
+static bool object_use(maker *g)
+{
+    uint32_t free_m = g->m - g->floor_m, free_p = g->p - g->floor_p;
+    if (g->m + 2 > g->cap_m || g->p + 3 > g->cap_p)
+        return false;
+    uint32_t w = below((free_m > 3 ? 3 : free_m) + 1), q = below((free_p > 2 ? 2 : free_p) + 1);
+    if (w == 0 && q == 0) {
+        push_word(g);
+        w = 1;
+    }
+    uint32_t plain = 2 + q + below(w + one_in(15)), ptr = 2 + below(q + one_in(15));
+    uint32_t use = 2 * below(2) + (w == 0 || (q > 0 && one_in(2)));
+    byte(g, 36);
+    operand(g, w);
+    operand(g, q);
+    effect(g, w, q, 0, 1);
+    if (one_in(3)) {
+        byte(g, 59);
+        byte(g, 58);
+        effect(g, 0, 1, 0, 0);
+        effect(g, 0, 0, 0, 1);
+    }
+    switch (use) {
+    case 0:
+        byte(g, 30);
+        operand(g, plain);
+        effect(g, 0, 1, 1, 0);
+        break;
+    case 1:
+        byte(g, 31);
+        operand(g, ptr);
+        effect(g, 0, 1, 0, 1);
+        break;
+    case 2:
+        push_word(g);
+        byte(g, 32);
+        operand(g, plain);
+        effect(g, 1, 1, 0, 0);
+        break;
+    default:
+        byte(g, 21); /* the object, stored in itself */
+        operand(g, g->p - 1);
+        effect(g, 0, 0, 0, 1);
+        byte(g, 33);
+        operand(g, ptr);
+        effect(g, 0, 2, 0, 0);
+        break;
+    }
+    return true;
+}
+
+/* Two words that an operation can bear, and the operation. */
+static bool reckon(maker *g)
+{
+    static const uint8_t codes[] = { 140, 141, 142, 143, 145, 130, 195, 198, 201, 204 };
+    if (g->m + 2 > g->cap_m)
+        return false;
+    for (int i = 0; i < 2; i++) {
+        if (one_in(3)) { /* an end of the range or near it */
+            static const uint32_t ends[] = {
+                0x80000000u, 0x80000001u, 0x7fffffffu, 0xffffffffu, 0, 1, 0x40000000u, 2
+            };
+            uint32_t w = ends[below(8)];
+            byte(g, 56);
+            operand(g, w >> 16);
+            operand(g, w & 65535);
+        } else {
+            byte(g, 54);
+            byte(g, one_in(8) ? 0 : draw() & 255);
+        }
+        effect(g, 0, 0, 1, 0);
+    }
+    byte(g, codes[below(sizeof codes)]);
+    effect(g, 2, 0, 1, 0);
+    return true;
+}
+
+/* One instruction, or a few, that pass their state to the next alone. */
+static void simple(maker *g)
+{
+    static const uint8_t binary[] = {
+        140, 141, 142, 143, 145, 130, 195, 198, 201, 204, 140, 142, 143
+    };
+    uint32_t free_m = g->m - g->floor_m, free_p = g->p - g->floor_p;
+    bool room_m = g->m < g->cap_m, room_p = g->p < g->cap_p;
+    uint32_t k;
+    if (one_in(4) && (one_in(2) ? object_use(g) : reckon(g)))
+        return;
+    switch (below(26)) {
+    case 0: case 1: case 2: case 3:
+        if (free_m < 2)
+            break;
+        byte(g, binary[below(sizeof binary)]);
+        effect(g, 2, 0, 1, 0);
+        return;
+    case 4:
+        if (free_m < 1)
+            break;
+        byte(g, one_in(2) ? 144 : 146);
+        return;
+    case 5: case 6:
+        if (g->m < 1 || !room_m)
+            break;
+        byte(g, 20);
+        operand(g, below(g->m));
+        effect(g, 0, 0, 1, 0);
+        return;
+    case 7:
+        if (free_m < 1 || g->m < 2)
+            break;
+        byte(g, 22);
+        operand(g, below(g->m - 1));
+        effect(g, 1, 0, 0, 0);
+        return;
+    case 8:
+        if (free_p < 1 || g->p < 2)
+            break;
+        byte(g, 23);
+        operand(g, below(g->p - 1));
+        effect(g, 0, 1, 0, 0);
+        return;
+    case 9: case 10:
+        if (free_p < 1 || !room_m || !one_in(3))
+            break;
+        byte(g, 30);
+        operand(g, one_in(30) ? draw() & 65535 : below(7));
+        effect(g, 0, 1, 1, 0);
+        return;
+    case 11: case 12:
+        if (free_p < 1 || !one_in(3))
+            break;
+        byte(g, 31);
+        operand(g, one_in(30) ? draw() & 65535 : below(6));
+        effect(g, 0, 1, 0, 1);
+        return;
+    case 13:
+        if (free_p < 1 || free_m < 1 || !one_in(3))
+            break;
+        byte(g, 32);
+        operand(g, below(7));
+        effect(g, 1, 1, 0, 0);
+        return;
+    case 14:
+        if (free_p < 2 || !one_in(3))
+            break;
+        byte(g, 33);
+        operand(g, below(6));
+        effect(g, 0, 2, 0, 0);
+        return;
+    case 15: case 16: case 17: {
+        uint32_t w = below((free_m > 4 ? 4 : free_m) + 1), q = below((free_p > 3 ? 3 : free_p) + 1);
+        if (q == 0 && !room_p)
+            break;
+        if (one_in(20))
+            w = free_m;
+        byte(g, 36);
+        operand(g, w);
+        operand(g, q);
+        effect(g, w, q, 0, 1);
+        return;
+    }
+    case 18:
+        if (free_p < 1)
+            break;
+        byte(g, 59);
+        effect(g, 0, 1, 0, 0);
+        return;
+    case 19:
+        if (free_p < 2 || !room_m)
+            break;
+        byte(g, 131);
+        effect(g, 0, 2, 1, 0);
+        return;
+    case 20:
+        k = below(free_m + 1);
+        if (k > 3)
+            k = 3;
+        adjust(g, g->m - k, g->p - below((free_p > 2 ? 2 : free_p) + 1));
+        return;
+    case 21:
+        byte(g, one_in(3) ? 3 : 1); /* a jump to the next instruction */
+        operand(g, 0);
+        return;
+    case 22: case 23:
+        if (call_some(g))
+            return;
+        break;
+    default:
+        break;
+    }
+    if (room_m && (!room_p || !one_in(3)))
+        push_word(g);
+    else if (room_p)
+        push_pointer(g);
+    else
+        adjust(g, g->floor_m, g->floor_p);
+}
+
+/* A condition on top; false if there is no room for one. */
+static bool condition(maker *g)
+{
+    if (g->m > g->floor_m && one_in(2))
+        return true;
+    if (g->m >= g->cap_m)
+        return false;
+    push_word(g);
+    return true;
+}
+
+static void block(maker *g, uint32_t level, uint32_t count);
+
+/* Ends a branch that does not go on. */
+static bool leave(maker *g)
+{
+    signature own = g->sig[g->self];
+    switch (below(4)) {
+    case 0: case 1:
+        if (g->handlers > 0)
+            return false;
+        adjust(g, own.r, own.s);
+        byte(g, 73);
+        return true;
+    case 2:
+        if (!condition(g))
+            return false;
+        byte(g, 162);
+        return true;
+    default:
+        if (!one_in(8))
+            return false;
+        byte(g, 3); /* for ever */
+        operand(g, 3);
+        return true;
+    }
+}
+
+static void branch(maker *g, uint32_t level)
+{
+    if (!condition(g))
+        return;
+    size_t at = g->n;
+    byte(g, 2);
+    operand(g, 0);
+    effect(g, 1, 0, 0, 0);
+    uint32_t m = g->m, p = g->p, fm = g->floor_m, fp = g->floor_p;
+    block(g, level + 1, below(4));
+    /* a return goes below a loop's counter, never below a handler's floor */
+    uint32_t lower_m = g->handlers > 0 ? fm : 0, lower_p = g->handlers > 0 ? fp : 0;
+    g->floor_m = lower_m;
+    g->floor_p = lower_p;
+    bool left = leave(g);
+    g->floor_m = fm;
+    g->floor_p = fp;
+    if (left) {
+        patch(g, at + 1, g->n - at - 3);
+        g->m = m;
+        g->p = p;
+        return;
+    }
+    adjust(g, m, p);
+    size_t over = g->n;
+    byte(g, 1);
+    operand(g, 0);
+    patch(g, at + 1, g->n - at - 3);
+    block(g, level + 1, below(4));
+    adjust(g, m, p);
+    patch(g, over + 1, g->n - over - 3);
+}
+
+static void keep(maker *g, uint32_t level)
+{
+    if (!condition(g))
+        return;
+    uint32_t m = g->m, p = g->p;
+    size_t at = g->n;
+    byte(g, 5 + below(2));
+    operand(g, 0);
+    effect(g, 1, 0, 0, 0);
+    block(g, level + 1, below(4));
+    if (g->m >= m && g->p >= p && g->n == at + 3)
+        abort();
+    adjust(g, m, p);
+    patch(g, at + 1, g->n - at - 3);
+}
+
+static void loop(maker *g, uint32_t level)
+{
+    if (g->m + 4 > g->cap_m)
+        return;
+    byte(g, 54);
+    byte(g, 1 + below(one_in(4) ? 30 : 4));
+    effect(g, 0, 0, 1, 0);
+    uint32_t slot = g->m - 1, m = g->m, p = g->p, fm = g->floor_m, fp = g->floor_p;
+    size_t again = g->n;
+    g->floor_m = m;
+    block(g, level + 1, 1 + below(5));
+    adjust(g, m, p);
+    byte(g, 20);
+    operand(g, slot);
+    effect(g, 0, 0, 1, 0);
+    byte(g, 54);
+    byte(g, 1);
+    effect(g, 0, 0, 1, 0);
+    byte(g, 142);
+    effect(g, 2, 0, 1, 0);
+    byte(g, 22);
+    operand(g, slot);
+    effect(g, 1, 0, 0, 0);
+    byte(g, 20);
+    operand(g, slot);
+    effect(g, 0, 0, 1, 0);
+    size_t at = g->n;
+    byte(g, 4);
+    operand(g, (uint32_t)(at + 3 - again));
+    effect(g, 1, 0, 0, 0);
+    g->floor_m = fm;
+    g->floor_p = fp;
+}
+
+static void handler(maker *g, uint32_t level)
+{
+    if (g->m + 2 > g->cap_m)
+        return;
+    uint32_t m = g->m, p = g->p, fm = g->floor_m, fp = g->floor_p;
+    size_t at = g->n, out = 0;
+    byte(g, 160);
+    operand(g, 0);
+    g->floor_m = m;
+    g->floor_p = p;
+    g->handlers++;
+    block(g, level + 1, 1 + below(5));
+    if (one_in(4) && condition(g)) {
+        /* closes the handler in a branch and leaves it */
+        uint32_t bm = g->m - 1, bp = g->p;
+        size_t skip = g->n;
+        byte(g, 2);
+        operand(g, 0);
+        effect(g, 1, 0, 0, 0);
+        byte(g, 161);
+        adjust(g, m, p);
+        out = g->n;
+        byte(g, 1);
+        operand(g, 0);
+        patch(g, skip + 1, g->n - skip - 3);
+        g->m = bm;
+        g->p = bp;
+        block(g, level + 1, below(3));
+    }
+    if (one_in(8) && condition(g)) {
+        byte(g, 162); /* always raises */
+        g->handlers--;
+        g->floor_m = fm;
+        g->floor_p = fp;
+        patch(g, at + 1, g->n - g->head);
+        g->m = m;
+        g->p = p;
+        effect(g, 0, 0, 1, 0);
+        block(g, level + 1, below(3));
+        adjust(g, m, p);
+    } else {
+        byte(g, 161);
+        g->handlers--;
+        g->floor_m = fm;
+        g->floor_p = fp;
+        adjust(g, m, p);
+        if (one_in(3)) {
+            push_word(g); /* falls into the handler's code */
+            patch(g, at + 1, g->n - g->head);
+            block(g, level + 1, below(3));
+            adjust(g, m, p);
+        } else {
+            size_t over = g->n;
+            byte(g, 1);
+            operand(g, 0);
+            patch(g, at + 1, g->n - g->head);
+            g->m = m;
+            g->p = p;
+            effect(g, 0, 0, 1, 0);
+            block(g, level + 1, below(4));
+            adjust(g, m, p);
+            patch(g, over + 1, g->n - over - 3);
+        }
+    }
+    if (out != 0)
+        patch(g, out + 1, g->n - out - 3);
+}
+
+static void block(maker *g, uint32_t level, uint32_t count)
+{
+    for (uint32_t i = 0; i < count; i++) {
+        if (g->n + 60 > g->limit)
+            return;
+        uint32_t k = level >= 4 || g->n + 120 > g->limit ? 99 : below(24);
+        if (k < 2)
+            branch(g, level);
+        else if (k < 3)
+            keep(g, level);
+        else if (k < 4)
+            loop(g, level);
+        else if (k < 7)
+            handler(g, level);
+        else
+            simple(g);
+    }
+}
+
+static void procedure(maker *g, uint32_t self, size_t share, size_t exact)
+{
+    const signature *own = &g->sig[self];
+    g->self = self;
+    g->head = g->n;
+    g->limit = g->n + share;
+    g->m = g->max_m = own->a;
+    g->p = g->max_p = own->b;
+    g->floor_m = g->floor_p = g->handlers = 0;
+    byte(g, 240);
+    byte(g, own->a);
+    byte(g, own->b);
+    byte(g, own->r);
+    byte(g, own->s);
+    byte(g, 0);
+    byte(g, 0);
+    if (share > 60) {
+        uint32_t count = share > 1000 ? 400 : 1 + below((uint32_t)share / 6);
+        block(g, 0, count);
+    }
+    while (exact >= g->n + 40) { /* what is short of a length wanted exactly */
+        byte(g, 1);
+        operand(g, 0);
+    }
+    if (exact == 0 && one_in(12)) {
+        adjust(g, own->a, own->b);
+        size_t at = g->n;
+        byte(g, 3);
+        operand(g, (uint32_t)(at + 3 - (g->head + 7)));
+    } else if (exact == 0 && one_in(12) && condition(g)) {
+        byte(g, 162);
+    } else {
+        adjust(g, own->r, own->s);
+        if (exact > g->n + 8) {
+            while ((exact - g->n - 1) % 3 != 0) {
+                byte(g, 64);
+                operand(g, 0);
+                operand(g, 0);
+            }
+            while (exact > g->n + 1) {
+                byte(g, 1);
+                operand(g, 0);
+            }
+        }
+        byte(g, 73);
+    }
+    uint32_t x = g->max_m > own->r ? g->max_m : own->r, y = g->max_p > own->s ? g->max_p : own->s;
+    if (one_in(4))
+        x += below(4);
+    if (one_in(4))
+        y += below(4);
+    g->f[g->head + 5] = (uint8_t)(x > 255 ? 255 : x);
+    g->f[g->head + 6] = (uint8_t)(y > 255 ? 255 : y);
+}
+
+/* exact: the length wanted, or 0 */
+static void make_file(maker *g, uint32_t procs, size_t total, size_t exact)
+{
+    g->n = 0;
+    g->procs = procs;
+    g->cap_m = one_in(10) ? 240 : 4 + below(30);
+    g->cap_p = one_in(10) ? 240 : 2 + below(20);
+    for (uint32_t q = 0; q < procs; q++) {
+        signature *c = &g->sig[q];
+        c->a = (uint8_t)(q == 0 ? 0 : below(4));
+        c->b = (uint8_t)(q == 0 ? 0 : below(3));
+        c->r = (uint8_t)below(4);
+        c->s = (uint8_t)below(3);
+        if (one_in(4)) /* several that a call can take for each other */
+            c->a = c->b = c->r = c->s = 0;
+    }
+    size_t share = total / procs;
+    for (uint32_t q = 0; q < procs; q++) {
+        bool last = q + 1 == procs;
+        procedure(g, q, one_in(2) ? share : 8 + below((uint32_t)share), last ? exact : 0);
+    }
+}
+
+/* ---- lists, on both sides ---- */
+
+enum { L_FILE, L_MAP, L_MAIN, L_PTR, L_CTL, L_HEAP, L_REGS, LISTS };
+static const char *const list_name[LISTS] = {
+    "file", "map", "main", "ptr", "ctl", "heap", "registers"
+};
+static const size_t width[LISTS] = { 1, 2, 4, 4, 4, 4, 1 };
+enum { GUARD = 64 };
+
+typedef struct {
+    size_t len;
+    uint8_t *ref;  /* exactly its length, so that a sanitizer sees its ends */
+    uint8_t *room; /* the library's, between two guards */
+    uint8_t *lib;
+} list;
+
+static list lists[LISTS];
+
+static void *take(size_t bytes)
+{
+    void *p = malloc(bytes == 0 ? 1 : bytes);
+    if (p == NULL)
+        abort();
+    return p;
+}
+
+static void lend(int which, size_t len)
+{
+    list *l = &lists[which];
+    size_t bytes = len * width[which];
+    free(l->ref);
+    free(l->room);
+    l->len = len;
+    l->ref = take(bytes);
+    l->room = take(bytes + 2 * GUARD);
+    memset(l->room, 0xa5, bytes + 2 * GUARD);
+    l->lib = l->room + GUARD;
+}
+
+static void set_bytes(int which, const void *from)
+{
+    list *l = &lists[which];
+    if (l->len == 0)
+        return;
+    memcpy(l->ref, from, l->len * width[which]);
+    memcpy(l->lib, from, l->len * width[which]);
+}
+
+static uint32_t word(int which, size_t i)
+{
+    return ((const uint32_t *)(const void *)lists[which].ref)[i];
+}
+
+static void set_word(int which, size_t i, uint32_t w)
+{
+    ((uint32_t *)(void *)lists[which].ref)[i] = w;
+    ((uint32_t *)(void *)lists[which].lib)[i] = w;
+}
+
+static uint32_t reg(size_t i)
+{
+    const uint8_t *b = lists[L_REGS].ref + 4 * i;
+    return (uint32_t)b[0] << 24 | (uint32_t)b[1] << 16 | (uint32_t)b[2] << 8 | b[3];
+}
+
+static void set_reg(size_t i, uint32_t w)
+{
+    for (size_t k = 0; k < 4; k++)
+        lists[L_REGS].ref[4 * i + k] = lists[L_REGS].lib[4 * i + k] = (uint8_t)(w >> (24 - 8 * k));
+}
+
+static void fill_junk(int which)
+{
+    for (size_t i = 0; i < lists[which].len * width[which]; i++)
+        lists[which].ref[i] = lists[which].lib[i] = (uint8_t)draw();
+}
+
+/* Another length, the contents kept as far as they go, zeros behind. */
+static void relend(int which, size_t len)
+{
+    list *l = &lists[which];
+    size_t bytes = len * width[which], old = l->len * width[which];
+    uint8_t *kept = take(bytes);
+    memset(kept, 0, bytes == 0 ? 1 : bytes);
+    memcpy(kept, l->ref, old < bytes ? old : bytes);
+    lend(which, len);
+    set_bytes(which, kept);
+    free(kept);
+}
+
+typedef struct {
+    size_t len[LISTS];
+    uint8_t *held[LISTS];
+} snapshot;
+
+static snapshot snap_take(void)
+{
+    snapshot s;
+    for (int i = 0; i < LISTS; i++) {
+        size_t bytes = lists[i].len * width[i];
+        s.len[i] = lists[i].len;
+        s.held[i] = take(bytes);
+        memcpy(s.held[i], lists[i].ref, bytes);
+    }
+    return s;
+}
+
+static void snap_restore(const snapshot *s)
+{
+    for (int i = 0; i < LISTS; i++) {
+        if (lists[i].len != s->len[i])
+            lend(i, s->len[i]);
+        set_bytes(i, s->held[i]);
+    }
+}
+
+static void snap_free(snapshot *s)
+{
+    for (int i = 0; i < LISTS; i++)
+        free(s->held[i]);
+}
+
+/* ---- calls and comparison ---- */
+
+enum { CHECK, START, RUN };
+static const char *const call_name[] = { "check", "start", "run" };
+
+static uint64_t seed, case_no, calls, steps_total;
+static uint64_t answers[3][6], refusals[3][13], raised[7], stepped[256], made[8], damages[15];
+static uint64_t edges[5]; /* see table() */
+static const char *file_sort;
+
+static void dump_list(const char *name, const list *l, int which)
+{
+    printf("%s, %zu:", name, l->len);
+    for (size_t i = 0; i < l->len; i++) {
+        uint32_t a = 0, b = 0;
+        memcpy(&a, l->ref + i * width[which], width[which]);
+        memcpy(&b, l->lib + i * width[which], width[which]);
+        if (a == b)
+            printf(" %" PRIu32, a);
+        else
+            printf(" [%zu: reference %" PRIu32 " library %" PRIu32 "]", i, a, b);
+    }
+    printf("\n");
+}
+
+static void dump(int call, uint32_t budget, yalgovim_reply lib, ref_reply ref,
+                 const snapshot *before, const char *what)
+{
+    printf("\nDIFFERENCE: seed %" PRIu64 " case %" PRIu64 " (%s), call %s, budget %" PRIu32 ": %s\n",
+           seed, case_no, file_sort, call_name[call], budget, what);
+    printf("library:   kind %" PRIu32 " number %" PRIu32 " place %zu steps %" PRIu32 "\n",
+           lib.kind, lib.number, lib.place, lib.steps);
+    printf("reference: kind %" PRIu32 " number %" PRIu32 " place %" PRIu32 " steps %" PRIu32 "\n",
+           ref.kind, ref.number, ref.place, ref.steps);
+    printf("-- before\n");
+    for (int i = 0; i < LISTS; i++) {
+        list l = { before->len[i], before->held[i], NULL, before->held[i] };
+        dump_list(list_name[i], &l, i);
+    }
+    printf("-- after\n");
+    for (int i = 0; i < LISTS; i++)
+        dump_list(list_name[i], &lists[i], i);
+    exit(1);
+}
+
+static bool guards_whole(const list *l, int which)
+{
+    for (size_t i = 0; i < GUARD; i++)
+        if (l->room[i] != 0xa5 || l->lib[l->len * width[which] + i] != 0xa5)
+            return false;
+    return true;
+}
+
+static snapshot before_call; /* for the dump */
+static bool have_before;
+
+static ref_reply both(int call, uint32_t budget)
+{
+    list *l = lists;
+    yalgovim_reply lib;
+    ref_reply ref;
+    uint16_t *lib_map = (void *)l[L_MAP].lib, *ref_map = (void *)l[L_MAP].ref;
+    uint32_t *lib_w[4], *ref_w[4];
+    size_t n[4];
+    for (int i = 0; i < 4; i++) {
+        lib_w[i] = (void *)l[L_MAIN + i].lib;
+        ref_w[i] = (void *)l[L_MAIN + i].ref;
+        n[i] = l[L_MAIN + i].len;
+    }
+    if (have_before)
+        snap_free(&before_call);
+    before_call = snap_take();
+    have_before = true;
+    uint32_t code = 0;
+    if (call == RUN && budget == 1 && l[L_REGS].len == 28 && reg(0) < l[L_FILE].len)
+        code = l[L_FILE].ref[reg(0)];
+
+    switch (call) {
+    case CHECK:
+        lib = yalgovim_check(l[L_FILE].lib, l[L_FILE].len, lib_map, l[L_MAP].len);
+        ref = ref_check(l[L_FILE].ref, l[L_FILE].len, ref_map, l[L_MAP].len);
+        break;
+    case START:
+        lib = yalgovim_start(l[L_FILE].lib, l[L_FILE].len, lib_map, l[L_MAP].len, lib_w[0], n[0],
+                             lib_w[1], n[1], lib_w[2], n[2], lib_w[3], n[3],
+                             l[L_REGS].lib, l[L_REGS].len);
+        ref = ref_start(l[L_FILE].ref, l[L_FILE].len, ref_map, l[L_MAP].len, ref_w[0], n[0],
+                        ref_w[1], n[1], ref_w[2], n[2], ref_w[3], n[3],
+                        l[L_REGS].ref, l[L_REGS].len);
+        break;
+    default:
+        lib = yalgovim_run(l[L_FILE].lib, l[L_FILE].len, lib_map, l[L_MAP].len, lib_w[0], n[0],
+                           lib_w[1], n[1], lib_w[2], n[2], lib_w[3], n[3],
+                           l[L_REGS].lib, l[L_REGS].len, budget);
+        ref = ref_run(l[L_FILE].ref, l[L_FILE].len, ref_map, l[L_MAP].len, ref_w[0], n[0],
+                      ref_w[1], n[1], ref_w[2], n[2], ref_w[3], n[3],
+                      l[L_REGS].ref, l[L_REGS].len, budget);
+        break;
+    }
+    calls++;
+    if (lib.kind != ref.kind || lib.number != ref.number || lib.place != ref.place
+        || lib.steps != ref.steps)
+        dump(call, budget, lib, ref, &before_call, "answers");
+    for (int i = 0; i < LISTS; i++) {
+        if (l[i].len > 0 && memcmp(l[i].lib, l[i].ref, l[i].len * width[i]) != 0)
+            dump(call, budget, lib, ref, &before_call, list_name[i]);
+        if (!guards_whole(&l[i], i))
+            dump(call, budget, lib, ref, &before_call, "written outside a list");
+    }
+    answers[call][ref.kind > 5 ? 5 : ref.kind]++;
+    if (ref.kind == REF_REFUSED)
+        refusals[call][ref.number > 12 ? 0 : ref.number]++;
+    if (ref.kind == REF_UNCAUGHT)
+        raised[ref.number >= 1 && ref.number <= 5 ? ref.number : 6]++;
+    steps_total += ref.steps;
+    if (ref.steps == 1)
+        stepped[code]++;
+    return ref;
+}
+
+/* ---- cases ---- */
+
+static maker g;
+
+static void lend_file(const uint8_t *f, size_t n)
+{
+    lend(L_FILE, n);
+    set_bytes(L_FILE, f);
+}
+
+static uint8_t known_kind(void)
+{
+    static const uint8_t kinds[] = {
+        1, 2, 3, 4, 5, 6, 20, 21, 22, 23, 30, 31, 32, 33, 36, 54, 56, 57, 58, 59, 60, 62, 64,
+        72, 73, 130, 131, 195, 198, 201, 204, 140, 141, 142, 143, 145, 144, 146, 160, 161, 162, 240
+    };
+    return kinds[below(sizeof kinds)];
+}
+
+static uint32_t body_of(uint8_t kind)
+{
+    if (kind == 240)
+        return 6;
+    if (kind == 36 || kind == 56 || kind == 60 || kind == 62 || kind == 64)
+        return 4;
+    if (kind <= 33 || kind == 72 || kind == 160)
+        return 2;
+    return kind == 54;
+}
+
+/* Another target for one of the jumps, an instruction's start more often than not. */
+static void retarget(void)
+{
+    static size_t at[ROOM];
+    size_t count = 0;
+    for (size_t i = 0; i < g.n; i += 1 + body_of(g.f[i]))
+        at[count++] = i;
+    for (int tries = 0; tries < 50; tries++) {
+        size_t j = at[below((uint32_t)count)];
+        uint8_t kind = g.f[j];
+        size_t to = at[below((uint32_t)count)];
+        if ((kind >= 1 && kind <= 6) || kind == 160) {
+            size_t from = kind == 160 ? 0 : j + 3; /* of procedure 0 */
+            if (kind == 3 || kind == 4 ? to <= from : to >= from) {
+                patch(&g, j + 1, to <= from ? from - to : to - from);
+                return;
+            }
+        }
+    }
+}
+
+static void choose_file(void)
+{
+    uint32_t k = below(100);
+    uint32_t procs = one_in(3) ? 1 : 1 + below(5);
+    if (one_in(100))
+        procs = 1 + below(64);
+    size_t total = 30 + below(one_in(6) ? 1200 : 250);
+    if (total < procs * 20)
+        total = procs * 40;
+    if (k < 62) {
+        make_file(&g, procs, total, 0);
+        made[0]++;
+        file_sort = "valid";
+        lend_file(g.f, g.n > 4096 ? 4096 : g.n);
+    } else if (k < 84) {
+        make_file(&g, procs, total, 0);
+        uint32_t times = one_in(3) ? 1 + below(4) : 1;
+        if (one_in(4)) {
+            retarget();
+            times = one_in(4);
+        }
+        for (uint32_t i = 0; i < times; i++) {
+            size_t at = below((uint32_t)g.n);
+            switch (below(5)) {
+            case 0: g.f[at] = (uint8_t)draw(); break;
+            case 1: g.f[at] = (uint8_t)(g.f[at] + 1); break;
+            case 2: g.f[at] = (uint8_t)(g.f[at] - 1); break;
+            case 3: g.f[at] = known_kind(); break;
+            default: g.f[at] ^= (uint8_t)(1u << below(8)); break;
+            }
+        }
+        made[1]++;
+        file_sort = "damaged";
+        lend_file(g.f, g.n > 4096 ? 4096 : g.n);
+    } else if (k < 89) {
+        make_file(&g, procs, total, 0);
+        made[2]++;
+        file_sort = "cut short";
+        lend_file(g.f, below((uint32_t)(g.n > 4096 ? 4096 : g.n)));
+    } else if (k < 93) {
+        size_t n = below(one_in(4) ? 300 : 30);
+        for (size_t i = 0; i < n; i++)
+            g.f[i] = one_in(2) ? known_kind() : (uint8_t)below(one_in(2) ? 4 : 256);
+        if (n > 0 && !one_in(4))
+            g.f[0] = 240;
+        made[3]++;
+        file_sort = "random";
+        lend_file(g.f, n);
+    } else if (k < 96) {
+        /* records one after another, heads with small numbers */
+        size_t n = 0;
+        uint32_t records = 1 + below(12);
+        for (uint32_t i = 0; i < records && n < 200; i++) {
+            uint8_t kind = i == 0 ? 240 : known_kind();
+            uint32_t body = body_of(kind);
+            g.f[n++] = kind;
+            for (uint32_t j = 0; j < body; j++)
+                g.f[n++] = (uint8_t)(kind == 240 && i == 0 && j < 2 ? 0
+                                     : kind == 240 ? (j < 4 ? below(3) : 1 + below(3))
+                                     : j % 2 == 0 ? 0 : below(kind == 160 ? 40 : 5));
+        }
+        if (one_in(2))
+            g.f[n++] = 73;
+        made[4]++;
+        file_sort = "records";
+        lend_file(g.f, n);
+    } else if (k < 98) {
+        /* 4,096 bytes, or one or a few off */
+        size_t exact = one_in(2) ? 4096 : 4094 + below(4);
+        uint32_t many = one_in(3) ? 1 + below(60) : 1 + below(8);
+        make_file(&g, many, 1500 + below(1500), exact);
+        made[5]++;
+        file_sort = "long";
+        lend_file(g.f, g.n);
+    } else {
+        make_file(&g, 62 + below(4), 2000, 0);
+        if (one_in(4))
+            g.f[below((uint32_t)g.n)] = known_kind();
+        made[6]++;
+        file_sort = "many procedures";
+        lend_file(g.f, g.n);
+    }
+}
+
+static size_t around(size_t least, size_t most, uint32_t usual)
+{
+    switch (below(100)) {
+    case 0: return 0;
+    case 1: return least == 0 ? 0 : least - 1;
+    case 2: return most;
+    case 3: return most + 1;
+    case 4: return least;
+    default: return least + below(usual);
+    }
+}
+
+/* A sound heap with some objects, now and then one with a fault. */
+static void fill_heap(void)
+{
+    size_t n = lists[L_HEAP].len;
+    size_t at[512], count = 0, mark = 2;
+    for (size_t i = 0; i < n; i++)
+        set_word(L_HEAP, i, 0);
+    if (n < 2)
+        return;
+    uint32_t objects = one_in(2) ? 0 : below(one_in(8) ? 500 : 8);
+    for (uint32_t i = 0; i < objects; i++) {
+        uint32_t ptrs = below(4), size = 2 + ptrs + below(5);
+        if (mark + size > n)
+            break;
+        at[count++] = mark;
+        set_word(L_HEAP, mark, 0x01000000u + ptrs);
+        set_word(L_HEAP, mark + 1, size);
+        for (uint32_t j = 2 + ptrs; j < size; j++)
+            set_word(L_HEAP, mark + j, odd_word());
+        mark += size;
+    }
+    for (size_t i = 0; i < count; i++)
+        for (uint32_t j = 0; j < (word(L_HEAP, at[i]) & 0xffffffu); j++)
+            set_word(L_HEAP, at[i] + 2 + j, one_in(3) ? 0 : (uint32_t)at[below((uint32_t)count)]);
+    set_word(L_HEAP, 0, (uint32_t)mark);
+    if (count > 0 && !one_in(3))
+        set_word(L_HEAP, 1, (uint32_t)at[below((uint32_t)count)]);
+}
+
+static uint32_t nudge(uint32_t w)
+{
+    switch (below(8)) {
+    case 0: return w + 1;
+    case 1: return w - 1;
+    case 2: return 0;
+    case 3: return w + 5;
+    case 4: return w - 5;
+    case 5: return below(8);
+    case 6: return w ^ 1u << below(32);
+    default: return odd_word();
+    }
+}
+
+/* Any word, mostly one in use. */
+static void damage_words(int which, uint32_t used)
+{
+    size_t n = lists[which].len;
+    if (n == 0)
+        return;
+    size_t i = used > 0 && used <= n && !one_in(4) ? below(used) : below((uint32_t)n);
+    set_word(which, i, nudge(word(which, i)));
+}
+
+static void damage_heap(void)
+{
+    size_t n = lists[L_HEAP].len;
+    if (n == 0)
+        return;
+    uint32_t mark = word(L_HEAP, 0);
+    switch (below(4)) {
+    case 0:
+        set_word(L_HEAP, 0, nudge(mark));
+        break;
+    case 1:
+        if (n > 1)
+            set_word(L_HEAP, 1, one_in(2) ? below(12) : nudge(word(L_HEAP, 1)));
+        break;
+    default:
+        damage_words(L_HEAP, mark);
+        break;
+    }
+}
+
+/* The place of some record of this kind, or of any instruction for 0; 0 if none is met. */
+static uint32_t some_place(uint8_t kind)
+{
+    uint32_t found = 0, seen = 0;
+    const list *l = &lists[L_FILE];
+    for (size_t i = 0; i < l->len; i += 1 + body_of(l->ref[i]))
+        if ((kind == 0 ? l->ref[i] != 240 : l->ref[i] == kind) && one_in(++seen))
+            found = (uint32_t)i;
+    return found;
+}
+
+/* Damage that keeps close to what is sound. */
+static void damage_closely(uint32_t k)
+{
+    if (lists[L_REGS].len != 28)
+        return;
+    uint32_t records = reg(5) / 5;
+    if (k == 12) { /* lists that end just above their tops */
+        int which = (int)below(3);
+        if (reg(3 + (size_t)which) <= lists[L_MAIN + which].len)
+            relend(L_MAIN + which, reg(3 + (size_t)which) + below(6));
+    } else if (k == 13 && records > 1 && 5 * records <= lists[L_CTL].len) {
+        /* another call, another procedure, another handler */
+        size_t at = 5 * (size_t)(1 + below(records - 1));
+        if (one_in(2) && reg(1) > 1 && reg(1) <= records)
+            at = 5 * (size_t)(reg(1) - 1); /* the topmost frame */
+        switch (below(8)) {
+        case 0: case 1: case 2: case 3: set_word(L_CTL, at + 3, some_place(72) + 3); break;
+        case 4: case 5: set_word(L_CTL, at + 3, some_place(0) + 3); break;
+        case 6: set_word(L_CTL, at + 2, below(4)); break;
+        default: set_word(L_CTL, at, some_place(160)); break;
+        }
+    } else {
+        set_reg(0, some_place(0));
+    }
+}
+
+static void damage(void)
+{
+    uint32_t k = one_in(6) ? 13 : below(15);
+    damages[k]++;
+    switch (k) {
+    case 0: case 1: {
+        size_t i = below(7);
+        if (lists[L_REGS].len == 28)
+            set_reg(i, nudge(reg(i)));
+        break;
+    }
+    case 2: case 3:
+        damage_words(L_CTL, lists[L_REGS].len == 28 ? reg(5) : 0);
+        break;
+    case 4:
+        damage_words(L_MAIN, lists[L_REGS].len == 28 ? reg(3) : 0);
+        break;
+    case 5:
+        damage_words(L_PTR, lists[L_REGS].len == 28 ? reg(4) : 0);
+        break;
+    case 6: case 7:
+        damage_heap();
+        break;
+    case 8: {
+        static const size_t odd[4][6] = {
+            { 0, 1, 4096, 4097, 2, 3 }, { 0, 1, 4096, 4097, 2, 3 },
+            { 0, 4, 1280, 1281, 5, 6 }, { 0, 1, 16384, 16385, 2, 3 }
+        };
+        int which = (int)below(4);
+        size_t n = lists[L_MAIN + which].len;
+        size_t to = one_in(2) ? odd[which][below(6)] : one_in(2) ? n + 1 + below(9) : n - (n > 0);
+        relend(L_MAIN + which, to);
+        break;
+    }
+    case 9:
+        relend(L_REGS, one_in(2) ? 27 + 2 * below(2) : below(64));
+        break;
+    case 10:
+        relend(L_MAP, one_in(2) ? lists[L_MAP].len + below(100)
+               : lists[L_FILE].len * 3 - (lists[L_FILE].len > 0 ? below(4) : 0));
+        break;
+    case 12: case 13: case 14:
+        damage_closely(k);
+        break;
+    default:
+        if (lists[L_FILE].len > 0) {
+            size_t at = below((uint32_t)lists[L_FILE].len);
+            uint8_t b = one_in(2) ? known_kind() : (uint8_t)(lists[L_FILE].ref[at] + 1);
+            lists[L_FILE].ref[at] = lists[L_FILE].lib[at] = b;
+        }
+        break;
+    }
+}
+
+static uint32_t some_budget(void)
+{
+    switch (below(8)) {
+    case 0: return 0;
+    case 1: case 2: return 1;
+    case 3: return 2;
+    case 4: case 5: return below(20);
+    case 6: return below(200);
+    default: return 1000 + below(2000);
+    }
+}
+
+/* A run in pieces ends as a run in one piece. */
+static void run_again(const snapshot *ready, ref_reply last, uint32_t done)
+{
+    snapshot end = snap_take();
+    snap_restore(ready);
+    ref_reply r = both(RUN, one_in(2) ? UINT32_MAX : done + 1);
+    bool same = r.kind == last.kind && r.number == last.number && r.place == last.place
+        && r.steps == done;
+    for (int i = 0; i < LISTS; i++)
+        same = same && (end.len[i] == 0
+                        || memcmp(end.held[i], lists[i].ref, end.len[i] * width[i]) == 0);
+    if (!same) {
+        printf("\nA cut run ends otherwise than a whole one: seed %" PRIu64 " case %" PRIu64 "\n",
+               seed, case_no);
+        exit(1);
+    }
+    snap_free(&end);
+}
+
+static void one_case(void)
+{
+    chance = seed * 0x2545f4914f6cdd1du + case_no * 0x9e3779b97f4a7c15u;
+    chance ^= chance >> 29;
+    draw();
+    choose_file();
+    size_t n = lists[L_FILE].len;
+    size_t map_len = 3 * n;
+    if (one_in(4))
+        map_len += below(40);
+    else if (one_in(30))
+        map_len = below((uint32_t)map_len + 1);
+    else if (one_in(30) && map_len > 0)
+        map_len -= 1;
+    lend(L_MAP, map_len);
+    fill_junk(L_MAP);
+    ref_reply r = both(CHECK, 0);
+    bool valid = n > 0 && n <= 4096 && map_len >= 3 * n;
+    uint32_t heads = 0;
+    for (size_t i = 0; r.kind == REF_PASSED && i < n; i += 1 + body_of(lists[L_FILE].ref[i]))
+        heads += lists[L_FILE].ref[i] == 240;
+    edges[0] += n == 4096 && r.kind == REF_PASSED;
+    edges[1] += n == 4097;
+    edges[2] += heads == 64;
+    edges[3] += r.kind == REF_REFUSED && r.number == 4 && g.procs == 65;
+    edges[4] += n == 0;
+    if ((!strcmp(file_sort, "valid") || !strcmp(file_sort, "long"))
+        && r.kind != REF_PASSED && valid && g.n == n) {
+        printf("\nThe generator's file is refused as %" PRIu32 " at %" PRIu32 ": seed %" PRIu64
+               " case %" PRIu64 "\n", r.number, r.place, seed, case_no);
+        exit(1);
+    }
+
+    uint32_t x = n > 6 ? lists[L_FILE].ref[5] : 1, y = n > 6 ? lists[L_FILE].ref[6] : 1;
+    lend(L_MAIN, around(x == 0 ? 1 : x, 4096, 80));
+    lend(L_PTR, around(y == 0 ? 1 : y, 4096, 60));
+    lend(L_CTL, around(5, 1280, one_in(4) ? 300 : 60));
+    lend(L_HEAP, around(2, 16384, one_in(10) ? 2000 : one_in(2) ? 60 : 400));
+    lend(L_REGS, one_in(60) ? below(60) : 28);
+    fill_junk(L_MAIN);
+    fill_junk(L_PTR);
+    fill_junk(L_CTL);
+    fill_junk(L_REGS);
+    fill_heap();
+    if (one_in(20))
+        damage_heap();
+    if (one_in(10))
+        both(RUN, some_budget()); /* never started */
+    r = both(START, 0);
+    if (r.kind != REF_READY) {
+        both(RUN, some_budget());
+        return;
+    }
+
+    snapshot ready = snap_take();
+    bool whole = true; /* no damage kept so far */
+    uint32_t done = 0, turns = 1 + below(8);
+    bool single = one_in(4);
+    if (single)
+        turns += 20;
+    for (uint32_t i = 0; i < turns; i++) {
+        if (one_in(3)) {
+            snapshot s = snap_take();
+            uint32_t hits = one_in(5) ? 2 : 1;
+            for (uint32_t k = 0; k < hits; k++)
+                damage();
+            r = both(RUN, some_budget());
+            if (one_in(10))
+                both(START, 0);
+            if (one_in(4) && r.kind != REF_REFUSED)
+                whole = false;
+            else
+                snap_restore(&s);
+            snap_free(&s);
+        }
+        r = both(RUN, single && !one_in(6) ? 1 : some_budget());
+        done += r.steps;
+        if (r.kind == REF_FINISHED || r.kind == REF_UNCAUGHT) {
+            if (whole)
+                run_again(&ready, r, done);
+            both(RUN, some_budget()); /* and once more from there */
+            if (one_in(2)) {
+                damage();
+                both(RUN, some_budget());
+            }
+            break;
+        }
+        if (r.kind == REF_REFUSED)
+            break;
+    }
+    snap_free(&ready);
+}
+
+/* ---- the table ---- */
+
+static void table(void)
+{
+    static const char *const kind_name[] = {
+        "passed", "ready", "finished", "spent", "uncaught", "refused"
+    };
+    static const char *const made_name[] = {
+        "valid", "damaged", "cut short", "random", "records", "long", "many procedures"
+    };
+    static const char *const damage_name[] = {
+        "registers", "registers", "control words", "control words", "main words",
+        "pointer words", "heap words", "heap words", "a length", "register length",
+        "map length", "file byte", "lists cut at their tops", "another call or handler",
+        "another place"
+    };
+    printf("files:");
+    for (int i = 0; i < 7; i++)
+        printf(" %s %" PRIu64 "%s", made_name[i], made[i], i < 6 ? "," : "\n");
+    printf("4,096 bytes and passed: %" PRIu64 ", 4,097 bytes: %" PRIu64 ", 0 bytes: %" PRIu64
+           ", 64 procedures and passed: %" PRIu64 ", 65 procedures refused as 4: %" PRIu64 "\n",
+           edges[0], edges[1], edges[4], edges[2], edges[3]);
+    printf("damage between calls:");
+    for (int i = 0; i < 15; i++) {
+        bool twice = i + 1 < 15 && !strcmp(damage_name[i], damage_name[i + 1]);
+        printf(" %s %" PRIu64 "%s", damage_name[i], damages[i] + (twice ? damages[i + 1] : 0),
+               i < 14 ? "," : "\n");
+        i += twice;
+    }
+    printf("%-12s %12s %12s %12s\n", "answer", "check", "start", "run");
+    for (int k = 0; k < 5; k++)
+        printf("%-12s %12" PRIu64 " %12" PRIu64 " %12" PRIu64 "\n", kind_name[k],
+               answers[0][k], answers[1][k], answers[2][k]);
+    for (int k = 1; k <= 12; k++)
+        printf("refused %-4d %12" PRIu64 " %12" PRIu64 " %12" PRIu64 "\n", k,
+               refusals[0][k], refusals[1][k], refusals[2][k]);
+    printf("uncaught codes:");
+    for (int k = 1; k <= 5; k++)
+        printf(" %d: %" PRIu64 ",", k, raised[k]);
+    printf(" others: %" PRIu64 "\n", raised[6]);
+    printf("single steps by code:");
+    for (int k = 1; k < 256; k++)
+        if (stepped[k] > 0)
+            printf(" %d: %" PRIu64, k, stepped[k]);
+    printf("\ncalls: %" PRIu64 ", steps: %" PRIu64 "\n", calls, steps_total);
+}
+
+int main(int argc, char **argv)
+{
+    seed = argc > 1 ? strtoull(argv[1], NULL, 10) : 1;
+    uint64_t cases = argc > 2 ? strtoull(argv[2], NULL, 10) : 10000;
+    uint64_t first = argc > 3 ? strtoull(argv[3], NULL, 10) : 0;
+    clock_t begun = clock();
+    for (int i = 0; i < LISTS; i++)
+        lend(i, 0);
+    for (case_no = first; case_no < first + cases; case_no++) {
+        one_case();
+        if ((case_no + 1 - first) % 50000 == 0) {
+            printf("%" PRIu64 " cases, %" PRIu64 " calls, no difference\n",
+                   case_no + 1 - first, calls);
+            fflush(stdout);
+        }
+    }
+    table();
+    printf("seed %" PRIu64 ": %" PRIu64 " cases, 0 differences, %.1f seconds\n", seed, cases,
+           (double)(clock() - begun) / CLOCKS_PER_SEC);
+    for (int i = 0; i < LISTS; i++) {
+        free(lists[i].ref);
+        free(lists[i].room);
+    }
+    if (have_before)
+        snap_free(&before_call);
+    return 0;
+}

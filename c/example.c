@@ -1,0 +1,176 @@
+/*
+ * A small controller: loads a code file (or a built-in sample), checks it,
+ * starts it and runs it stroke by stroke, a budget of 100 steps each. Prints
+ * what the panel would show.
+ *   example [FILE]
+ */
+#include "yalgovim.h"
+
+#include <inttypes.h>
+#include <stdbool.h>
+#include <stdio.h>
+#include <string.h>
+
+enum { STROKE = 100, STROKES = 50 };
+
+/* Lent to every call; static, as on a controller without allocation. */
+static uint8_t file[YALGOVIM_FILE_MAX + 1];
+static uint16_t map[YALGOVIM_MAP_MAX];
+static uint32_t main_stack[256], ptr_stack[256], ctl_stack[250], heap[1024];
+static uint8_t registers[YALGOVIM_REGISTERS];
+
+#define LENGTH(list) (sizeof(list) / sizeof *(list))
+
+/*
+ * The sample: needles used in turn. A view (count, needle) hangs on the root;
+ * 88 times the count goes up and the needle is count rem 6; the answer is the
+ * last needle. A handler gives -1 if anything goes wrong.
+ */
+static const uint8_t sample[] = {
+    /*  0 */ 240, 0, 0, 1, 0, 4, 2,
+    /*  7 */ 160, 0, 59,          /* handler at 59 */
+    /* 10 */ 54, 0, 54, 0,        /* count, needle */
+    /* 14 */ 36, 0, 2, 0, 0,      /* form: words 2 and 3 */
+    /* 19 */ 59,                  /* setRoot */
+    /* 20 */ 58, 30, 0, 2,        /* count */
+    /* 24 */ 54, 1, 140,          /* + 1 */
+    /* 27 */ 20, 0, 0,            /* twice */
+    /* 30 */ 58, 32, 0, 2,        /* back into the view */
+    /* 34 */ 54, 6, 145,          /* rem 6 */
+    /* 37 */ 58, 32, 0, 3,        /* the needle */
+    /* 41 */ 58, 30, 0, 2,
+    /* 45 */ 54, 88, 195,         /* count < 88 */
+    /* 48 */ 4, 0, 31,            /* again from 20 */
+    /* 51 */ 58, 30, 0, 3,
+    /* 55 */ 161,
+    /* 56 */ 1, 0, 7,             /* to 66 */
+    /* 59 */ 64, 0, 1, 0, 0, 54, 255,
+    /* 66 */ 73
+};
+
+static const char *refusal_words(uint32_t number)
+{
+    static const char *const words[] = {
+        "",
+        "the file is empty or longer than 4,096 bytes",
+        "the lent map is too short for the file",
+        "not a known code, a record cut short, or no procedure at the file's begin",
+        "a procedure's head is wrong: its counts, its number, or nothing behind it",
+        "a target or a procedure that there is not",
+        "never reached, or runs past its procedure's end",
+        "pops too much, pushes too much, or names a word that is not there",
+        "returns with other than its results, or closes a handler that is not open",
+        "leads to a place that is reached with other depths or handlers",
+        "a lent list is too short or too long",
+        "the heap is damaged",
+        "the registers, stacks or control records are damaged"
+    };
+    return number < LENGTH(words) ? words[number] : "unknown refusal";
+}
+
+static const char *exception_words(uint32_t code)
+{
+    switch (code) {
+    case 1: return "a number out of range, or a division by zero";
+    case 2: return "an object was needed and there was none";
+    case 3: return "the object has no such word";
+    case 4: return "the heap is full";
+    case 5: return "a stack is full";
+    default: return "raised by the routine itself";
+    }
+}
+
+/* The seven registers, most significant byte first. */
+static uint32_t reg(size_t i)
+{
+    const uint8_t *b = registers + 4 * i;
+    return (uint32_t)b[0] << 24 | (uint32_t)b[1] << 16 | (uint32_t)b[2] << 8 | b[3];
+}
+
+static int32_t whole(uint32_t w)
+{
+    return w <= INT32_MAX ? (int32_t)w : (int32_t)(w - 0x80000000u) + INT32_MIN;
+}
+
+static void show_refusal(const char *when, yalgovim_reply r)
+{
+    printf("%s: REFUSED %" PRIu32, when, r.number);
+    if (r.number >= 3 && r.number <= 9)
+        printf(" at byte %zu", r.place);
+    if (r.number == 11)
+        printf(" at heap word %zu", r.place);
+    printf(": %s\n", refusal_words(r.number));
+}
+
+static size_t load(int argc, char **argv)
+{
+    if (argc < 2) {
+        memcpy(file, sample, sizeof sample);
+        return sizeof sample;
+    }
+    FILE *f = fopen(argv[1], "rb");
+    if (f == NULL) {
+        perror(argv[1]);
+        return SIZE_MAX;
+    }
+    size_t n = fread(file, 1, sizeof file, f); /* one byte more than allowed */
+    bool bad = ferror(f) != 0;
+    fclose(f);
+    if (bad) {
+        fprintf(stderr, "%s: not read\n", argv[1]);
+        return SIZE_MAX;
+    }
+    return n;
+}
+
+int main(int argc, char **argv)
+{
+    size_t n = load(argc, argv);
+    if (n == SIZE_MAX)
+        return 2;
+    yalgovim_reply r = yalgovim_check(file, n, map, LENGTH(map));
+    if (r.kind != YALGOVIM_PASSED) {
+        show_refusal("check", r);
+        return 1;
+    }
+    printf("check: passed, %zu bytes\n", n);
+
+    heap[0] = 2; /* an empty heap */
+    r = yalgovim_start(file, n, map, LENGTH(map), main_stack, LENGTH(main_stack),
+                       ptr_stack, LENGTH(ptr_stack), ctl_stack, LENGTH(ctl_stack),
+                       heap, LENGTH(heap), registers, sizeof registers);
+    if (r.kind != YALGOVIM_READY) {
+        show_refusal("start", r);
+        return 1;
+    }
+    printf("start: ready\n");
+
+    uint64_t steps = 0;
+    for (unsigned stroke = 1; stroke <= STROKES; stroke++) {
+        r = yalgovim_run(file, n, map, LENGTH(map), main_stack, LENGTH(main_stack),
+                         ptr_stack, LENGTH(ptr_stack), ctl_stack, LENGTH(ctl_stack),
+                         heap, LENGTH(heap), registers, sizeof registers, STROKE);
+        steps += r.steps;
+        printf("stroke %u: ", stroke);
+        switch (r.kind) {
+        case YALGOVIM_SPENT:
+            printf("running, at byte %" PRIu32 ", %" PRIu64 " steps\n", reg(0), steps);
+            break;
+        case YALGOVIM_FINISHED:
+            printf("FINISHED after %" PRIu64 " steps, results:", steps);
+            for (uint32_t i = 0; i < reg(3); i++)
+                printf(" %" PRId32, whole(main_stack[i]));
+            printf("\n");
+            return 0;
+        case YALGOVIM_UNCAUGHT:
+            printf("STOPPED by exception %" PRId32 " at byte %zu after %" PRIu64 " steps: %s\n",
+                   whole(r.number), r.place, steps, exception_words(r.number));
+            return 1;
+        default:
+            show_refusal("run", r);
+            return 1;
+        }
+    }
+    printf("STOPPED by the controller: not finished after %d strokes\n", STROKES);
+    return 1;
+}

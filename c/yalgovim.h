@@ -1,0 +1,100 @@
+/*
+ * The two-stack routine machine, as firmware reaches it: check, start, run.
+ *
+ * Every list is lent for the length of one call: a pointer, then its length
+ * in elements. The lists of one call must not overlap. An empty list still
+ * needs a pointer that is not NULL and is aligned for its elements. Any
+ * lengths and any contents may be lent: what does not fit is refused.
+ * Nothing is allocated and nothing is kept between calls.
+ *
+ *   file       the code file, 1 to 4,096 bytes; never written
+ *   map        three numbers for each byte of the file, or more; written by
+ *              every call that is not refused as 1 or 2: the first
+ *              3 x file_len numbers, and none behind them. Each call makes
+ *              it anew, so it need not be kept from one call to the next.
+ *   main       main stack, 1 to 4,096 words, at least procedure 0's x
+ *   ptr        pointer stack, 1 to 4,096 words, at least procedure 0's y
+ *   ctl        control stack, 5 to 1,280 words, five for each record
+ *   heap       2 to 16,384 words; an empty one is 2, 0, 0, ... (firmware
+ *              writes that once, before the first start)
+ *   registers  exactly 28 bytes: place, frame record, innermost handler
+ *              record, tops of main, pointer and control stack, state
+ *              (0 running, 1 finished); four bytes each, most significant
+ *              first
+ *
+ * A refusal writes nothing but the map: 1 and 2 leave it as it was, 3 to 9
+ * fill its first 3 x file_len numbers with 65,535, 10 to 12 leave the
+ * finished map.
+ */
+#ifndef YALGOVIM_H
+#define YALGOVIM_H
+
+#include <stddef.h>
+#include <stdint.h>
+
+#ifdef __cplusplus
+extern "C" {
+#endif
+
+enum {
+    YALGOVIM_PASSED = 0,   /* check: the file keeps the rules */
+    YALGOVIM_READY = 1,    /* start: registers and first frame are written */
+    YALGOVIM_FINISHED = 2, /* run: procedure 0's results remain */
+    YALGOVIM_SPENT = 3,    /* run: the budget is used up; run on */
+    YALGOVIM_UNCAUGHT = 4, /* run: an exception that no handler caught */
+    YALGOVIM_REFUSED = 5   /* any: numbers 1 to 12 */
+};
+
+enum {
+    YALGOVIM_FILE_MAX = 4096,
+    YALGOVIM_MAP_MAX = 3 * YALGOVIM_FILE_MAX,
+    YALGOVIM_MAIN_MAX = 4096,
+    YALGOVIM_PTR_MAX = 4096,
+    YALGOVIM_CTL_MAX = 1280,
+    YALGOVIM_HEAP_MAX = 16384,
+    YALGOVIM_REGISTERS = 28
+};
+
+typedef struct {
+    uint32_t kind;   /* one of YALGOVIM_PASSED to YALGOVIM_REFUSED */
+    uint32_t number; /* of a refusal; the code of an uncaught exception; else 0 */
+    size_t place;    /* of either: offset in the file, for 11 index in the heap; else 0 */
+    uint32_t steps;  /* done by this run: finished, spent, uncaught; else 0 */
+} yalgovim_reply;
+
+/* Tests 1 to 9. Passed or refused. */
+yalgovim_reply yalgovim_check(const uint8_t *file, size_t file_len,
+                              uint16_t *map, size_t map_len);
+
+/*
+ * Tests 1 to 12 (12: the register list's length alone). When ready, the three
+ * stacks are zeroed all over, the first frame stands in the control stack and
+ * the registers name procedure 0's first instruction. The heap is read only.
+ */
+yalgovim_reply yalgovim_start(const uint8_t *file, size_t file_len,
+                              uint16_t *map, size_t map_len,
+                              uint32_t *main, size_t main_len,
+                              uint32_t *ptr, size_t ptr_len,
+                              uint32_t *ctl, size_t ctl_len,
+                              const uint32_t *heap, size_t heap_len,
+                              uint8_t *registers, size_t registers_len);
+
+/*
+ * Tests 1 to 12, then does at most budget steps. Stacks, heap and registers
+ * hold the state after them; hand them to the next run as they are. After
+ * uncaught they are as before the instruction at fault.
+ */
+yalgovim_reply yalgovim_run(const uint8_t *file, size_t file_len,
+                            uint16_t *map, size_t map_len,
+                            uint32_t *main, size_t main_len,
+                            uint32_t *ptr, size_t ptr_len,
+                            uint32_t *ctl, size_t ctl_len,
+                            uint32_t *heap, size_t heap_len,
+                            uint8_t *registers, size_t registers_len,
+                            uint32_t budget);
+
+#ifdef __cplusplus
+}
+#endif
+
+#endif
