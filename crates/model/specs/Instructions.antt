@@ -13,7 +13,7 @@ use Rattle.model.specs.Control.{Machine, Rec, recOf, recordWords, mainBa
 use Rattle.model.specs.declared.Value.{Value}
 use Rattle.model.specs.declared.Value.the-variants.{Word, Outside}
 use Rattle.model.specs.declared.Into.{Into}
-use Rattle.model.specs.declared.Into.the-variants.{Nothing, Main, Pointer, Heap, View, Frame, Return, Handler, Close}
+use Rattle.model.specs.declared.Into.the-variants.{Nothing, Main, Pointer, Heap, Drop, DropMain, DropPointer, View, Frame, Return, Handler, Close}
 use Rattle.model.specs.declared.Put.{Put}
 use Rattle.model.specs.declared.Plan.{Plan}
 use Rattle.model.specs.declared.Plan.the-variants.{Write, Overflow, NilObject, BadField, HeapFull, NoRoom, Thrown}
@@ -74,9 +74,9 @@ basicPlan m q (literal w) = write Main q (mtop m + 1) (ptop m) (mtop m) w
 basicPlan m q nil = write Pointer q (mtop m) (ptop m + 1) (ptop m) 0
 basicPlan m q root = write Pointer q (mtop m) (ptop m + 1) (ptop m) (rootOf (m .heap))
 basicPlan m q setRoot = write Heap q (mtop m) (ptop m - 1) 1 (ptrWord m 1)
-basicPlan m q (retract keepMain k n) = write Main q (mtop m - k) (ptop m - n) (mtop m - k - 1) (mainWord m 1)
-basicPlan m q (retract keepPtr k n) = write Pointer q (mtop m - k) (ptop m - n) (ptop m - n - 1) (ptrWord m 1)
-basicPlan m q (retract keepNone k n) = write Nothing q (mtop m - k) (ptop m - n) 0 0
+basicPlan m q (retract keepMain k n) = write DropMain q (mtop m - k) (ptop m - n) (mtop m - k - 1) (mainWord m 1)
+basicPlan m q (retract keepPtr k n) = write DropPointer q (mtop m - k) (ptop m - n) (ptop m - n - 1) (ptrWord m 1)
+basicPlan m q (retract keepNone k n) = write Drop q (mtop m - k) (ptop m - n) 0 0
 basicPlan m q (binary o) =
     onValue (operate o (mainWord m 2) (mainWord m 1)) (λ w. write Main q (mtop m - 1) (ptop m) (mtop m - 2) w)
 basicPlan m q samePtr = write Main q (mtop m + 1) (ptop m - 2) (mtop m) (bit (eqb (ptrWord m 2) (ptrWord m 1)))

@@ -13,7 +13,7 @@ use Rattle.model.specs.Control.{Machine, machine, Rec, rec, recOf, putRe
 use Rattle.model.specs.Instructions.{planAt, mainWord}
 use Rattle.model.specs.declared.Regs.{Regs}
 use Rattle.model.specs.declared.Into.{Into}
-use Rattle.model.specs.declared.Into.the-variants.{Nothing, Main, Pointer, Heap, View, Frame, Return, Handler, Close}
+use Rattle.model.specs.declared.Into.the-variants.{Nothing, Main, Pointer, Heap, Drop, DropMain, DropPointer, View, Frame, Return, Handler, Close}
 use Rattle.model.specs.declared.Put.{Put}
 use Rattle.model.specs.declared.Plan.{Plan}
 use Rattle.model.specs.declared.Plan.the-variants.{Write, Overflow, NilObject, BadField, HeapFull, NoRoom, Thrown}
@@ -30,6 +30,16 @@ ptrCut p m = cut (p .ptop) (m .ptr)
 -- the registers after an instruction that leaves the control stack as it is
 abbrev pub onward : Put → Machine → Regs
 onward p m = regs (p .place) (m .regs .frame) (m .regs .handler) (p .mtop) (p .ptop) (m .regs .ctop) (m .regs .state)
+
+-- the stacks are cut; then a word of the main stack is written, or of the pointer stack
+abbrev pub cutOnly : Put → Machine → Machine
+cutOnly p m = machine (onward p m) (mainCut p m) (ptrCut p m) (m .ctl) (m .heap)
+
+abbrev pub mainSet : Put → Machine → Machine
+mainSet p m = machine (onward p m) (set (mainCut p m) (p .at) (p .word)) (ptrCut p m) (m .ctl) (m .heap)
+
+abbrev pub ptrSet : Put → Machine → Machine
+ptrSet p m = machine (onward p m) (mainCut p m) (set (ptrCut p m) (p .at) (p .word)) (m .ctl) (m .heap)
 
 -- 36: the words and pointers that are popped, "lowest first"
 abbrev pub formedFrom : Put → Machine → List ℕ
@@ -86,10 +96,13 @@ closed p m =
 
 -- what a plan writes
 unfoldable pub applyInto : List ℕ → Into → Put → Machine → Machine
-applyInto f Nothing p m = machine (onward p m) (mainCut p m) (ptrCut p m) (m .ctl) (m .heap)
-applyInto f Main p m = machine (onward p m) (set (mainCut p m) (p .at) (p .word)) (ptrCut p m) (m .ctl) (m .heap)
-applyInto f Pointer p m = machine (onward p m) (mainCut p m) (set (ptrCut p m) (p .at) (p .word)) (m .ctl) (m .heap)
+applyInto f Nothing p m = cutOnly p m
+applyInto f Main p m = mainSet p m
+applyInto f Pointer p m = ptrSet p m
 applyInto f Heap p m = machine (onward p m) (mainCut p m) (ptrCut p m) (m .ctl) (set (m .heap) (p .at) (p .word))
+applyInto f Drop p m = cutOnly p m
+applyInto f DropMain p m = mainSet p m
+applyInto f DropPointer p m = ptrSet p m
 applyInto f View p m =
     machine (onward p m) (mainCut p m) (set (ptrCut p m) (p .at) (p .word)) (m .ctl) (formedFrom p m)
 applyInto f Frame p m = called f p m

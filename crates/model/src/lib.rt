@@ -23,6 +23,9 @@ pub enum Into {
     Main, // a word of the main stack
     Pointer, // a word of the pointer stack
     Heap, // a word of the heap
+    Drop, // nothing; words of both stacks go, as many as the instruction says
+    DropMain, // a word of the main stack, set aside while words of both stacks go
+    DropPointer, // the same with a word of the pointer stack
     View, // a new object, and its index on the pointer stack
     Frame, // a frame's record on the control stack
     Return, // takes the running frame's record away
@@ -30,7 +33,8 @@ pub enum Into {
     Close, // takes the innermost handler's record away
 }
 
-// The writes of an instruction: both stacks are cut to their new tops, then one word is written.
+// The writes of an instruction. Both stacks are cut to their new tops, then one word is written; what opens or closes a record of the
+// control stack leaves both stacks as they are.
 pub struct Put {
     pub into: Into,
     pub place: usize, // the next place

@@ -70,6 +70,9 @@ module _ (f map : List ℕ) (m : Machine) (os : List ℕ) (i j : ℕ) where
   Written into.Nothing put = Unit {0}
   Written into.Main put = put .at < put .mtop
   Written into.Pointer put = (put .at < put .ptop) × Pointer os (put .word)
+  Written into.Drop put = Unit {0}
+  Written into.DropMain put = put .at < put .mtop
+  Written into.DropPointer put = (put .at < put .ptop) × Pointer os (put .word)
   Written into.Heap put = Heap (set (m .heap) (put .at) (put .word)) os
   Written into.View put = (put .at < put .ptop) × (put .word ≡ markOf (m .heap)) × Formed (m .heap) os (formedFrom put m)
   Written into.Frame put = ⊥

@@ -12,7 +12,7 @@ use Rattle.model.specs.File.{insAt, return}
 use Rattle.model.specs.Heap.{Heap, Pointer}
 use Rattle.model.specs.Control.{Machine, machine, records, recordWords, recOf}
 use Rattle.model.specs.Instructions.{planAt}
-use Rattle.model.specs.Step.{next, uncaught, onward, mainCut, ptrCut, finished, returned, applyInto, applied, caught, raised, settle, step}
+use Rattle.model.specs.Step.{next, uncaught, onward, mainCut, ptrCut, cutOnly, mainSet, ptrSet, finished, returned, applyInto, applied, caught, raised, settle, step}
 use Rattle.model.specs.declared.Into.{Into}
 use Rattle.model.specs.declared.Into.the-variants as into
 use Rattle.model.specs.declared.Put.{Put}
@@ -83,18 +83,30 @@ module _ (f map : List ℕ) (L : CodeLaws f map) (m : Machine) (os : List ℕ) (
     pointers-cut : Each (Pointer os) (ptrCut put m)
     pointers-cut = cut-each (Pointer os) (put .ptop) (m .ptr) (inl refl) (R .words .pointers)
 
-    kept-plain : (d : Into) → Written f map m os i j d put → Kept f map m (applyInto f d put m)
-    unfolding applyInto
-    kept-plain into.Nothing W = onto os _ _ _ K refl (length-cut _ (m .main)) (length-cut _ (m .ptr)) main-cut ptr-cut pointers-cut
-    kept-plain into.Main W =
+    kept-cut : Kept f map m (cutOnly put m)
+    kept-cut = onto os _ _ _ K refl (length-cut _ (m .main)) (length-cut _ (m .ptr)) main-cut ptr-cut pointers-cut
+
+    kept-main : put .at < put .mtop → Kept f map m (mainSet put m)
+    kept-main h =
         onto os _ _ _ K refl (simp (length-set, length-cut)) (length-cut _ (m .ptr))
-        (set-zero _ (mainCut put m) (put .at) (put .word) W main-cut)
+        (set-zero _ (mainCut put m) (put .at) (put .word) h main-cut)
         ptr-cut
         pointers-cut
-    kept-plain into.Pointer W =
+
+    kept-ptr : put .at < put .ptop → Pointer os (put .word) → Kept f map m (ptrSet put m)
+    kept-ptr h w =
         onto os _ _ _ K refl (length-cut _ (m .main)) (simp (length-set, length-cut)) main-cut
-        (set-zero _ (ptrCut put m) (put .at) (put .word) (W .0) ptr-cut)
-        (set-each (Pointer os) (ptrCut put m) (put .at) (put .word) (W .1) pointers-cut)
+        (set-zero _ (ptrCut put m) (put .at) (put .word) h ptr-cut)
+        (set-each (Pointer os) (ptrCut put m) (put .at) (put .word) w pointers-cut)
+
+    kept-plain : (d : Into) → Written f map m os i j d put → Kept f map m (applyInto f d put m)
+    unfolding applyInto
+    kept-plain into.Nothing W = kept-cut
+    kept-plain into.Main W = kept-main W
+    kept-plain into.Pointer W = kept-ptr (W .0) (W .1)
+    kept-plain into.Drop W = kept-cut
+    kept-plain into.DropMain W = kept-main W
+    kept-plain into.DropPointer W = kept-ptr (W .0) (W .1)
     kept-plain into.Heap W =
         onto os _ _ _ W (length-set (m .heap) _ _) (length-cut _ (m .main)) (length-cut _ (m .ptr)) main-cut ptr-cut pointers-cut
     kept-plain into.View W =
