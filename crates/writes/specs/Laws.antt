@@ -1,22 +1,22 @@
 -- What the code leaves of a list is what the model says: records pushed and taken away, a view formed.
-use Prim.Native.Nat.{ℕ, suc, _+_, _-_, _*_, _/_}
-use mathlib.Core.Path.{_≡_, ap, sym}
+use Prim.Native.Nat.{ℕ, suc, _+_, _-_, _*_, _/_, _≤_}
+use mathlib.Core.Path.{_≡_, ap, sym, subst, _∙_}
 use mathlib.Core.List.{List, [], _∷_}
 use native.Mathlib.Omega.{arith}
 use native.Mathlib.Numerals.{add-one}
 use lib.ListN.{length, set}
 use lib.Seq.{sets, slice, length-slice}
-use borrow.Author.Tests.{eq-eqb, ne-eqb}
 use Rattle.model.specs.Words.{wordAt, cut}
 use Rattle.model.specs.File.{operand, after}
 use Rattle.model.specs.Heap.{markOf, formed}
 use Rattle.model.specs.Control.{Machine, machine, rec, recAt, putRec, regs, recordWords}
-use Rattle.model.specs.Step.{mainCut, ptrCut, called, opened, closed}
+use Rattle.model.specs.Step.{mainCut, ptrCut, called, returned, opened, closed}
 use Rattle.model.specs.declared.Regs.{Regs}
+use Rattle.model.specs.declared.Into.{Into}
 use Rattle.model.specs.declared.Into.the-variants as into
 use Rattle.model.specs.declared.Put.{Put}
-use Rattle.writes.specs.Lists.{sets-append}
-use Rattle.writes.specs.Asks.{Pushes, Room, onwards, cutOnly, plainly, left}
+use Rattle.writes.specs.Lists.{Topped, sets-append, cut-zeros}
+use Rattle.writes.specs.Asks.{Pushes, Room, Fits, Plain, onwards, plainly}
 
 put-top : (l : List ℕ) (t k a b c d e : ℕ) → t ≡ recordWords * k → sets l t (a ∷ b ∷ c ∷ d ∷ e ∷ []) ≡ putRec l k (rec a b c d e)
 unfolding putRec
@@ -36,21 +36,23 @@ module _ (r : Regs) (put : Put) (ctl ctl′ main ptr heap : List ℕ) where
   open-writes P e =
       rw (e, put-top ctl (r .ctop) (r .ctop / 5) (r .place) (r .mtop) (r .ptop) (r .frame) (r .handler) (P .whole), add-one (r .ctop / 5))
 
-  pub close-writes : (outer : ℕ) → outer ≡ wordAt ctl (5 * (r .handler - 1) + 4) → ctl′ ≡ cut (r .ctop - 5) ctl →
+  -- a record taken away: its words are zeroed
+  record-zeroed : (t : ℕ) → Topped t ctl → 5 ≤ t → ctl′ ≡ sets ctl (t - 5) (0 ∷ 0 ∷ 0 ∷ 0 ∷ 0 ∷ []) → ctl′ ≡ cut (t - 5) ctl
+  record-zeroed t T h e = e ∙ cut-zeros 5 (t - 5) ctl (λ i k. T .zero i (omega arith))
+
+  pub close-writes : (outer : ℕ) → Topped (r .ctop) ctl → 5 ≤ r .ctop → outer ≡ wordAt ctl (5 * (r .handler - 1) + 4) →
+      ctl′ ≡ sets ctl (r .ctop - 5) (0 ∷ 0 ∷ 0 ∷ 0 ∷ 0 ∷ []) →
       machine (regs (put .place) (r .frame) outer (r .mtop) (r .ptop) (r .ctop - 5) (r .state)) main ptr ctl′ heap
       ≡ closed put (machine r main ptr ctl heap)
   unfolding recAt
-  close-writes outer w e = rw (w, e)
+  close-writes outer T h w e = rw (w, record-zeroed (r .ctop) T h e)
 
-  pub leave-last : r .frame ≡ 1 → ctl′ ≡ cut 0 ctl →
-      machine (regs 0 0 0 (r .mtop) (r .ptop) 0 1) main ptr ctl′ heap ≡ left put (machine r main ptr ctl heap)
-  leave-last h e = rw (eq-eqb (r .frame) 1 h, e)
-
-  pub leave-writes : (caller : ℕ) → (r .frame ≡ 1 → ⊥) → caller ≡ wordAt ctl (5 * (r .frame - 1) + 4) → ctl′ ≡ cut (r .ctop - 5) ctl →
+  pub leave-writes : (caller : ℕ) → Topped (r .ctop) ctl → 5 ≤ r .ctop → caller ≡ wordAt ctl (5 * (r .frame - 1) + 4) →
+      ctl′ ≡ sets ctl (r .ctop - 5) (0 ∷ 0 ∷ 0 ∷ 0 ∷ 0 ∷ []) →
       machine (regs (put .place) caller (r .handler) (r .mtop) (r .ptop) (r .ctop - 5) (r .state)) main ptr ctl′ heap
-      ≡ left put (machine r main ptr ctl heap)
+      ≡ returned put (machine r main ptr ctl heap)
   unfolding recAt
-  leave-writes caller h w e = rw (ne-eqb (r .frame) 1 h, w, e)
+  leave-writes caller T h w e = rw (w, record-zeroed (r .ctop) T h e)
 
 -- the header, the pointers and the plain words, then the mark
 form-words : (h h₁ h₂ ps ws : List ℕ) (n k : ℕ) → n ≡ length ps → k ≡ length ws →
@@ -78,6 +80,10 @@ form-writes main ptr h h₁ h₂ r put e₁ e₂ R =
 
 -- a plain write: the stacks cut, and a word stored
 module _ (put : Put) (m : Machine) (main ptr : List ℕ) (em : main ≡ mainCut put m) (ep : ptr ≡ ptrCut put m) where
+  pub nothing-plainly : put .into ≡ into.Nothing →
+      machine (onwards put (m .regs)) main ptr (m .ctl) (m .heap) ≡ plainly (put .into) put m
+  nothing-plainly e = rw (e, em, ep)
+
   pub main-plainly : put .into ≡ into.Main →
       machine (onwards put (m .regs)) (set main (put .at) (put .word)) ptr (m .ctl) (m .heap) ≡ plainly (put .into) put m
   main-plainly e = rw (e, em, ep)
@@ -90,5 +96,7 @@ module _ (put : Put) (m : Machine) (main ptr : List ℕ) (em : main ≡ mainCut 
       machine (onwards put (m .regs)) main ptr (m .ctl) (set (m .heap) (put .at) (put .word)) ≡ plainly (put .into) put m
   heap-plainly e = rw (e, em, ep)
 
-  pub cut-plainly : machine (onwards put (m .regs)) main ptr (m .ctl) (m .heap) ≡ cutOnly put m
-  cut-plainly = rw (em, ep)
+-- what is asked of a write, where it goes being known
+module _ (lh : ℕ) (main ptr : List ℕ) (r : Regs) (put : Put) (P : Plain lh main ptr r put) where
+  pub fits-at : {i : Into} → put .into ≡ i → Fits i (length main) (length ptr) lh r put
+  fits-at e = subst (λ (i : Into). Fits i (length main) (length ptr) lh r put) e (P .fits)

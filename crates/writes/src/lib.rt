@@ -7,10 +7,10 @@ ghost use lib.Seq.{sets, slice};
 ghost use Rattle.model.specs.Words.{cut};
 ghost use Rattle.model.specs.File.{after};
 ghost use Rattle.model.specs.Heap.{formed};
-ghost use Rattle.model.specs.Control.{machine};
-ghost use Rattle.model.specs.Step.{called, opened, closed};
+ghost use Rattle.model.specs.Control.{Machine, machine};
+ghost use Rattle.model.specs.Step.{mainCut, ptrCut, called, finished, returned, opened, closed};
 ghost use Rattle.writes.specs.Lists.{Topped};
-ghost use Rattle.writes.specs.Asks.{Pushes, Room, Plain, left, onwards, plainly};
+ghost use Rattle.writes.specs.Asks.{Pushes, Room, Plain, Retract, Dropping, InMain, InPtr, onwards, plainly, tried, triedOn};
 use model::Into;
 use model::Put;
 use model::Regs;
@@ -27,7 +27,7 @@ fn clear(l: &mut [u32], new: usize, old: usize)
     }
 }
 
-// The stack cut to its new top. Mostly no word goes, or one.
+// The stack cut to its new top, however many words go.
 pub fn cut_to(l: &mut [u32], new: usize, old: usize)
     requires { ⌜ Topped old (now l) ⌝ }
     ensures { λ _. ⌜ now (l .exit) ≡ cut new (now (l .entry)) ⌝ }
@@ -35,12 +35,45 @@ pub fn cut_to(l: &mut [u32], new: usize, old: usize)
     if old <= new {
         return;
     }
-    let last = old - 1;
-    l[last] = 0;
-    if last == new {
+    clear(l, new, old);
+}
+
+// The same where at most one word goes, with no loop: a loop among the steps of a run takes the registers that these need.
+fn pop_one(l: &mut [u32], new: usize, old: usize)
+    requires { ⌜ Topped old (now l) × (old ≤ new + 1) ⌝ }
+    ensures { λ _. ⌜ now (l .exit) ≡ cut new (now (l .entry)) ⌝ }
+{
+    if old <= new {
         return;
     }
-    clear(l, new, last);
+    l[new] = 0;
+}
+
+// Where at most two go.
+fn pop_two(l: &mut [u32], new: usize, old: usize)
+    requires { ⌜ Topped old (now l) × (old ≤ new + 2) ⌝ }
+    ensures { λ _. ⌜ now (l .exit) ≡ cut new (now (l .entry)) ⌝ }
+{
+    if old <= new {
+        return;
+    }
+    let last = old - 1;
+    l[last] = 0;
+    l[new] = 0;
+}
+
+// Where at most four go.
+fn pop_four(l: &mut [u32], new: usize, old: usize)
+    requires { ⌜ Topped old (now l) × (new ≤ old) × (old ≤ new + 4) ⌝ }
+    ensures { λ _. ⌜ now (l .exit) ≡ cut new (now (l .entry)) ⌝ }
+{
+    if old - new <= 2 {
+        pop_two(l, new, old);
+        return;
+    }
+    let middle = old - 2;
+    pop_two(l, middle, old);
+    pop_two(l, new, middle);
 }
 
 // A word as a number.
@@ -106,28 +139,15 @@ pub fn call(file: &[u8], ctl: &mut [u32], regs: Regs, put: Put) -> Regs
     }
 }
 
-// 73: the frame's record goes; with the first frame's the run is finished.
+// 73: the frame's record goes.
 pub fn leave(ctl: &mut [u32], regs: Regs, put: Put) -> Regs
     requires { ⌜ Topped (regs .ctop) (now ctl) × (1 ≤ regs .frame) × (5 * regs .frame ≤ regs .ctop) ⌝ }
-    ensures { λ r. ⌜ ((main ptr heap : List ℕ) → machine r main ptr (now (ctl .exit)) heap ≡ left put (machine regs main ptr (now (ctl .entry)) heap)) ⌝ }
+    ensures { λ r. ⌜ ((main ptr heap : List ℕ) → machine r main ptr (now (ctl .exit)) heap ≡ returned put (machine regs main ptr (now (ctl .entry)) heap)) ⌝ }
 {
-    let frame = regs.frame;
     let top = regs.ctop;
-    if frame == 1 {
-        cut_to(ctl, 0, top);
-        return Regs {
-            place: 0,
-            frame: 0,
-            handler: 0,
-            mtop: regs.mtop,
-            ptop: regs.ptop,
-            ctop: 0,
-            state: 1,
-        };
-    }
-    let caller = load(ctl, 5 * (frame - 1) + 4);
+    let caller = load(ctl, 5 * (regs.frame - 1) + 4);
     let rest = top - 5;
-    cut_to(ctl, rest, top);
+    put_record(ctl, rest, 0, 0, 0, 0, 0);
     Regs {
         place: put.place,
         frame: caller,
@@ -136,6 +156,23 @@ pub fn leave(ctl: &mut [u32], regs: Regs, put: Put) -> Regs
         ptop: regs.ptop,
         ctop: rest,
         state: regs.state,
+    }
+}
+
+// 73 in the first frame: the run is finished.
+pub fn finish(ctl: &mut [u32], regs: Regs) -> Regs
+    requires { ⌜ Topped (regs .ctop) (now ctl) ⌝ }
+    ensures { λ r. ⌜ ((main ptr heap : List ℕ) → machine r main ptr (now (ctl .exit)) heap ≡ finished (machine regs main ptr (now (ctl .entry)) heap)) ⌝ }
+{
+    cut_to(ctl, 0, regs.ctop);
+    Regs {
+        place: 0,
+        frame: 0,
+        handler: 0,
+        mtop: regs.mtop,
+        ptop: regs.ptop,
+        ctop: 0,
+        state: 1,
     }
 }
 
@@ -174,7 +211,7 @@ pub fn close(ctl: &mut [u32], regs: Regs, put: Put) -> Regs
     let top = regs.ctop;
     let outer = load(ctl, 5 * (handler - 1) + 4);
     let under = top - 5;
-    cut_to(ctl, under, top);
+    put_record(ctl, under, 0, 0, 0, 0, 0);
     Regs {
         place: put.place,
         frame: regs.frame,
@@ -205,33 +242,81 @@ pub fn form(main: &[u32], ptr: &[u32], heap: &mut [u32], regs: Regs, put: Put)
     heap[0] = (mark + size) as u32;
 }
 
-// The stacks are cut, and a word is written into one of them or into the heap. Each arm cuts by itself: a plan made with a known `into`
-// then jumps to its arm, with no second jump by table after the cuts.
-pub fn plain(main: &mut [u32], ptr: &mut [u32], heap: &mut [u32], regs: Regs, put: Put)
-    requires { ⌜ Plain (length (now heap)) (now main) (now ptr) regs put ⌝ }
-    ensures { λ _. ⌜ ((ctl : List ℕ) → machine (onwards put regs) (now (main .exit)) (now (ptr .exit)) ctl (now (heap .exit)) ≡ plainly (put .into) put (machine regs (now (main .entry)) (now (ptr .entry)) ctl (now (heap .entry)))) ⌝ }
+// 60, 62 and 64: the word set aside is put back.
+fn put_back(main: &mut [u32], ptr: &mut [u32], put: Put)
+    requires { ⌜ Retract (put .into) × InMain (length (now main)) put × InPtr (length (now ptr)) put ⌝ }
+    ensures { λ _. ⌜ ((m : Machine) → now (main .entry) ≡ mainCut put m → now (ptr .entry) ≡ ptrCut put m → machine (onwards put (m .regs)) (now (main .exit)) (now (ptr .exit)) (m .ctl) (m .heap) ≡ plainly (put .into) put m) ⌝ }
 {
     let into = put.into;
     let at = put.at;
     match into {
-        Into::Main => {
-            cut_to(main, put.mtop, regs.mtop);
-            cut_to(ptr, put.ptop, regs.ptop);
+        Into::DropMain => {
             main[at] = put.word;
         }
-        Into::Pointer => {
-            cut_to(main, put.mtop, regs.mtop);
-            cut_to(ptr, put.ptop, regs.ptop);
+        Into::DropPointer => {
             ptr[at] = put.word;
         }
+        _ => {}
+    }
+}
+
+// 60, 62 and 64, however many words go.
+pub fn drop_all(main: &mut [u32], ptr: &mut [u32], regs: Regs, put: Put)
+    requires { ⌜ Dropping (now main) (now ptr) regs put ⌝ }
+    ensures { λ _. ⌜ ((ctl heap : List ℕ) → machine (onwards put regs) (now (main .exit)) (now (ptr .exit)) ctl heap ≡ plainly (put .into) put (machine regs (now (main .entry)) (now (ptr .entry)) ctl heap)) ⌝ }
+{
+    cut_to(main, put.mtop, regs.mtop);
+    cut_to(ptr, put.ptop, regs.ptop);
+    put_back(main, ptr, put);
+}
+
+// The same where at most four words of each stack go; where more would, nothing is done.
+fn drop_few(main: &mut [u32], ptr: &mut [u32], regs: Regs, put: Put) -> bool
+    requires { ⌜ Dropping (now main) (now ptr) regs put ⌝ }
+    ensures { λ r. ⌜ ((ctl heap : List ℕ) → machine (triedOn r put regs) (now (main .exit)) (now (ptr .exit)) ctl heap ≡ tried r (put .into) put (machine regs (now (main .entry)) (now (ptr .entry)) ctl heap)) ⌝ }
+{
+    if 4 < regs.mtop - put.mtop {
+        return false;
+    }
+    if 4 < regs.ptop - put.ptop {
+        return false;
+    }
+    pop_four(main, put.mtop, regs.mtop);
+    pop_four(ptr, put.ptop, regs.ptop);
+    put_back(main, ptr, put);
+    true
+}
+
+// The stacks are cut, and a word is written into one of them or into the heap; or nothing is done, where many words would be dropped.
+// Each arm pops by itself: a plan made with a known `into` then jumps to its arm, and an arm has no test of what its instructions never do.
+pub fn plain(main: &mut [u32], ptr: &mut [u32], heap: &mut [u32], regs: Regs, put: Put) -> bool
+    requires { ⌜ Plain (length (now heap)) (now main) (now ptr) regs put ⌝ }
+    ensures { λ r. ⌜ ((ctl : List ℕ) → machine (triedOn r put regs) (now (main .exit)) (now (ptr .exit)) ctl (now (heap .exit)) ≡ tried r (put .into) put (machine regs (now (main .entry)) (now (ptr .entry)) ctl (now (heap .entry)))) ⌝ }
+{
+    let into = put.into;
+    let at = put.at;
+    match into {
+        Into::Nothing => {
+            pop_one(main, put.mtop, regs.mtop);
+            true
+        }
+        Into::Main => {
+            pop_one(main, put.mtop, regs.mtop);
+            pop_two(ptr, put.ptop, regs.ptop);
+            main[at] = put.word;
+            true
+        }
+        Into::Pointer => {
+            pop_one(ptr, put.ptop, regs.ptop);
+            ptr[at] = put.word;
+            true
+        }
         Into::Heap => {
-            cut_to(main, put.mtop, regs.mtop);
-            cut_to(ptr, put.ptop, regs.ptop);
+            pop_one(main, put.mtop, regs.mtop);
+            pop_two(ptr, put.ptop, regs.ptop);
             heap[at] = put.word;
+            true
         }
-        _ => {
-            cut_to(main, put.mtop, regs.mtop);
-            cut_to(ptr, put.ptop, regs.ptop);
-        }
+        _ => drop_few(main, ptr, regs, put),
     }
 }

@@ -1,4 +1,5 @@
 -- `writes::close` meets its contract: the topmost record is zeroed, and the outer handler was read from it.
+use native.Mathlib.Omega.{arith}
 use Rattle.writes.specs.Laws.{close-writes}
 use borrow.Author.Needs.{needs}
 use Rattle.writes.proofs.close.Statement.{statement}
@@ -19,8 +20,8 @@ load-requires c κs = search needs
 sub-under : tie.Need-sub-under
 sub-under c = search needs
 
-cut-to-requires : tie.Need-cut-to-requires
-cut-to-requires c κs = search needs
+put-record-requires : tie.Need-put-record-requires
+put-record-requires c κs = search needs
 
 same-length : tie.Need-same-length
 same-length c = search needs
@@ -28,7 +29,7 @@ same-length c = search needs
 returns : tie.Need-returns
 returns c main ptr heap =
     let S = c .before .before .before .before .before .before .before in
-    close-writes (S .args .regs) (S .args .put) _ _ main ptr heap _ (c .before .before .before .before .load .ensures) (c .before .before .cut-to .ensures)
+    close-writes (S .args .regs) (S .args .put) _ _ main ptr heap _ (S .pre .0) (omega arith) (c .before .before .before .before .load .ensures) (c .before .before .put-record .ensures)
 
 pub close-spec : {M : Type 1} → statement M
 close-spec =
@@ -39,6 +40,6 @@ close-spec =
     add-load
     load-requires
     sub-under
-    cut-to-requires
+    put-record-requires
     same-length
     returns)

@@ -1,10 +1,10 @@
--- `writes::plain` meets its contract: an arm knows where the word goes, and there the stacks are cut before it is written.
+-- `writes::plain` meets its contract: an arm knows where the word goes, and there so many words go as the arm pops; the last arm is a retract's.
 use native.Mathlib.Omega.{arith}
 use Rattle.model.specs.Control.{machine}
 use Rattle.sound.specs.Lists.{length-cut}
-use Rattle.writes.specs.Laws.{main-plainly, ptr-plainly, heap-plainly, cut-plainly}
-use mathlib.Core.Path.{_∙_}
-use Rattle.writes.proofs.Tags.{cut-only}
+use Rattle.writes.specs.Lists.{cut-above}
+use Rattle.writes.specs.Laws.{nothing-plainly, main-plainly, ptr-plainly, heap-plainly, fits-at}
+use Rattle.writes.proofs.Tags.{dropping}
 use borrow.Author.Needs.{needs}
 use Rattle.writes.proofs.plain.Statement.{statement}
 use Rattle.writes.proofs.plain.Tie as tie
@@ -12,87 +12,95 @@ use Rattle.writes.proofs.plain.Tie as tie
 enum-told : tie.Need-enum-told
 enum-told c = search needs
 
-cut-to-requires : tie.Need-cut-to-requires
-cut-to-requires c κs = search needs
-
-cut-to-requires-2 : tie.Need-cut-to-requires-2
-cut-to-requires-2 c κs = search needs
-
-mul-main : tie.Need-mul-main
-mul-main c =
-    let S = c .before .before .before .before .before .before .before .before .before .before .before .before .before in
-    omega (arith, S .pre .in-main (c .before .before .before .before .before .before .before .before .enum-told .given .1))
-
-slice-write-main : tie.Need-slice-write-main
-slice-write-main c =
-    let S = c .before .before .before .before .before .before .before .before .before .before .before .before .before in
-    rw (c .before .before .before .before .before .before .cut-to .ensures, length-cut) (S .pre .in-main (c .before .before .before .before .before .before .before .before .enum-told .given .1))
+pop-one-requires : tie.Need-pop-one-requires
+pop-one-requires c κs =
+    let S = c .before .before .before .before .before .before in (S .pre .main-top, fits-at _ (S .args .main .now) (S .args .ptr .now) (S .args .regs) (S .args .put) (S .pre) (c .before .enum-told .given .1) .main)
 
 enum-told-2 : tie.Need-enum-told-2
 enum-told-2 c = search needs
 
-cut-to-requires-3 : tie.Need-cut-to-requires-3
-cut-to-requires-3 c κs = search needs
+pop-one-requires-2 : tie.Need-pop-one-requires-2
+pop-one-requires-2 c κs =
+    let S = c .before .before .before .before .before .before in (S .pre .main-top, fits-at _ (S .args .main .now) (S .args .ptr .now) (S .args .regs) (S .args .put) (S .pre) (c .before .enum-told2 .given .1) .1 .main)
 
-cut-to-requires-4 : tie.Need-cut-to-requires-4
-cut-to-requires-4 c κs = search needs
+pop-two-requires : tie.Need-pop-two-requires
+pop-two-requires c κs =
+    let S = c .before .before .before .before .before .before .before .before .before .before in (S .pre .ptr-top, fits-at _ (S .args .main .now) (S .args .ptr .now) (S .args .regs) (S .args .put) (S .pre) (c .before .before .before .before .before .enum-told2 .given .1) .1 .ptr)
 
-mul-ptr : tie.Need-mul-ptr
-mul-ptr c =
-    let S = c .before .before .before .before .before .before .before .before .before .before .before .before .before in
-    omega (arith, S .pre .in-ptr (c .before .before .before .before .before .before .before .before .enum-told2 .given .1))
+mul-main : tie.Need-mul-main
+mul-main c =
+    let S = c .before .before .before .before .before .before .before .before .before .before .before .before .before in omega (arith, fits-at _ (S .args .main .now) (S .args .ptr .now) (S .args .regs) (S .args .put) (S .pre) (c .before .before .before .before .before .before .before .before .enum-told2 .given .1) .0)
 
-slice-write-ptr : tie.Need-slice-write-ptr
-slice-write-ptr c =
-    let S = c .before .before .before .before .before .before .before .before .before .before .before .before .before in
-    rw (c .before .before .cut-to4 .ensures, length-cut) (S .pre .in-ptr (c .before .before .before .before .before .before .before .before .enum-told2 .given .1))
+slice-write-main : tie.Need-slice-write-main
+slice-write-main c =
+    let S = c .before .before .before .before .before .before .before .before .before .before .before .before .before in rw (c .before .before .before .before .before .before .pop-one2 .ensures, length-cut) (fits-at _ (S .args .main .now) (S .args .ptr .now) (S .args .regs) (S .args .put) (S .pre) (c .before .before .before .before .before .before .before .before .enum-told2 .given .1) .0)
 
 enum-told-3 : tie.Need-enum-told-3
 enum-told-3 c = search needs
 
-cut-to-requires-5 : tie.Need-cut-to-requires-5
-cut-to-requires-5 c κs = search needs
+pop-one-requires-3 : tie.Need-pop-one-requires-3
+pop-one-requires-3 c κs =
+    let S = c .before .before .before .before .before .before in (S .pre .ptr-top, fits-at _ (S .args .main .now) (S .args .ptr .now) (S .args .regs) (S .args .put) (S .pre) (c .before .enum-told3 .given .1) .1 .ptr)
 
-cut-to-requires-6 : tie.Need-cut-to-requires-6
-cut-to-requires-6 c κs = search needs
+mul-ptr : tie.Need-mul-ptr
+mul-ptr c =
+    let S = c .before .before .before .before .before .before .before .before .before in omega (arith, fits-at _ (S .args .main .now) (S .args .ptr .now) (S .args .regs) (S .args .put) (S .pre) (c .before .before .before .before .enum-told3 .given .1) .0)
+
+slice-write-ptr : tie.Need-slice-write-ptr
+slice-write-ptr c =
+    let S = c .before .before .before .before .before .before .before .before .before in rw (c .before .before .pop-one3 .ensures, length-cut) (fits-at _ (S .args .main .now) (S .args .ptr .now) (S .args .regs) (S .args .put) (S .pre) (c .before .before .before .before .enum-told3 .given .1) .0)
+
+enum-told-4 : tie.Need-enum-told-4
+enum-told-4 c = search needs
+
+pop-one-requires-4 : tie.Need-pop-one-requires-4
+pop-one-requires-4 c κs =
+    let S = c .before .before .before .before .before .before in (S .pre .main-top, fits-at _ (S .args .main .now) (S .args .ptr .now) (S .args .regs) (S .args .put) (S .pre) (c .before .enum-told4 .given .1) .1 .main)
+
+pop-two-requires-2 : tie.Need-pop-two-requires-2
+pop-two-requires-2 c κs =
+    let S = c .before .before .before .before .before .before .before .before .before .before in (S .pre .ptr-top, fits-at _ (S .args .main .now) (S .args .ptr .now) (S .args .regs) (S .args .put) (S .pre) (c .before .before .before .before .before .enum-told4 .given .1) .1 .ptr)
 
 mul-heap : tie.Need-mul-heap
 mul-heap c =
-    let S = c .before .before .before .before .before .before .before .before .before .before .before .before .before in
-    omega (arith, S .pre .in-heap (c .before .before .before .before .before .before .before .before .enum-told3 .given .1))
+    let S = c .before .before .before .before .before .before .before .before .before .before .before .before .before in omega (arith, fits-at _ (S .args .main .now) (S .args .ptr .now) (S .args .regs) (S .args .put) (S .pre) (c .before .before .before .before .before .before .before .before .enum-told4 .given .1) .0)
 
 slice-write-heap : tie.Need-slice-write-heap
 slice-write-heap c =
-    let S = c .before .before .before .before .before .before .before .before .before .before .before .before .before in
-    S .pre .in-heap (c .before .before .before .before .before .before .before .before .enum-told3 .given .1)
+    let S = c .before .before .before .before .before .before .before .before .before .before .before .before .before in fits-at _ (S .args .main .now) (S .args .ptr .now) (S .args .regs) (S .args .put) (S .pre) (c .before .before .before .before .before .before .before .before .enum-told4 .given .1) .0
 
-cut-to-requires-7 : tie.Need-cut-to-requires-7
-cut-to-requires-7 c κs = search needs
-
-cut-to-requires-8 : tie.Need-cut-to-requires-8
-cut-to-requires-8 c κs = search needs
+drop-few-requires : tie.Need-drop-few-requires
+drop-few-requires c κs =
+    let S = c .before .before .before .before .before .before in dropping _ (S .args .main .now) (S .args .ptr .now) (S .args .regs) (S .args .put) (S .pre) (c .before .before .match .keys5)
 
 same-length : tie.Need-same-length
 same-length c = search needs
 
-same-length-2 : tie.Need-same-length-2
-same-length-2 c = search needs
-
 returns : tie.Need-returns
 returns c ctl =
-    let S = c .before .before .before .before .before .before .before .before .before .before .before .before .before in
-    main-plainly (S .args .put) (machine (S .args .regs) (S .args .main .now) (S .args .ptr .now) ctl (S .args .heap .now)) _ _ (c .before .before .before .before .before .before .cut-to .ensures) (c .before .before .cut-to2 .ensures) (c .before .before .before .before .before .before .before .before .enum-told .given .1)
+    let S = c .before .before .before .before .before .before .before .before .before in
+    let u = fits-at _ (S .args .main .now) (S .args .ptr .now) (S .args .regs) (S .args .put) (S .pre) (c .before .before .before .before .enum-told .given .1) .ptr in
+    nothing-plainly (S .args .put) (machine (S .args .regs) (S .args .main .now) (S .args .ptr .now) ctl (S .args .heap .now)) _ _ (c .before .before .pop-one .ensures) (cut-above _ _ _ (omega arith) (S .pre .ptr-top)) (c .before .before .before .before .enum-told .given .1)
+
+same-length-2 : tie.Need-same-length-2
+same-length-2 c = search needs
 
 same-length-3 : tie.Need-same-length-3
 same-length-3 c = search needs
 
-same-length-4 : tie.Need-same-length-4
-same-length-4 c = search needs
-
 returns-2 : tie.Need-returns-2
 returns-2 c ctl =
     let S = c .before .before .before .before .before .before .before .before .before .before .before .before .before in
-    ptr-plainly (S .args .put) (machine (S .args .regs) (S .args .main .now) (S .args .ptr .now) ctl (S .args .heap .now)) _ _ (c .before .before .before .before .before .before .cut-to3 .ensures) (c .before .before .cut-to4 .ensures) (c .before .before .before .before .before .before .before .before .enum-told2 .given .1)
+    main-plainly (S .args .put) (machine (S .args .regs) (S .args .main .now) (S .args .ptr .now) ctl (S .args .heap .now)) _ _ (c .before .before .before .before .before .before .pop-one2 .ensures) (c .before .before .pop-two .ensures) (c .before .before .before .before .before .before .before .before .enum-told2 .given .1)
+
+same-length-4 : tie.Need-same-length-4
+same-length-4 c = search needs
+
+returns-3 : tie.Need-returns-3
+returns-3 c ctl =
+    let S = c .before .before .before .before .before .before .before .before .before in
+    let u = fits-at _ (S .args .main .now) (S .args .ptr .now) (S .args .regs) (S .args .put) (S .pre) (c .before .before .before .before .enum-told3 .given .1) .1 .main in
+    ptr-plainly (S .args .put) (machine (S .args .regs) (S .args .main .now) (S .args .ptr .now) ctl (S .args .heap .now)) _ _ (cut-above _ _ _ (omega arith) (S .pre .main-top)) (c .before .before .pop-one3 .ensures) (c .before .before .before .before .enum-told3 .given .1)
 
 same-length-5 : tie.Need-same-length-5
 same-length-5 c = search needs
@@ -103,10 +111,10 @@ same-length-6 c = search needs
 same-length-7 : tie.Need-same-length-7
 same-length-7 c = search needs
 
-returns-3 : tie.Need-returns-3
-returns-3 c ctl =
+returns-4 : tie.Need-returns-4
+returns-4 c ctl =
     let S = c .before .before .before .before .before .before .before .before .before .before .before .before .before in
-    heap-plainly (S .args .put) (machine (S .args .regs) (S .args .main .now) (S .args .ptr .now) ctl (S .args .heap .now)) _ _ (c .before .before .before .before .before .before .cut-to5 .ensures) (c .before .before .cut-to6 .ensures) (c .before .before .before .before .before .before .before .before .enum-told3 .given .1)
+    heap-plainly (S .args .put) (machine (S .args .regs) (S .args .main .now) (S .args .ptr .now) ctl (S .args .heap .now)) _ _ (c .before .before .before .before .before .before .pop-one4 .ensures) (c .before .before .pop-two2 .ensures) (c .before .before .before .before .before .before .before .before .enum-told4 .given .1)
 
 same-length-8 : tie.Need-same-length-8
 same-length-8 c = search needs
@@ -114,43 +122,42 @@ same-length-8 c = search needs
 same-length-9 : tie.Need-same-length-9
 same-length-9 c = search needs
 
-returns-4 : tie.Need-returns-4
-returns-4 c ctl =
-    let S = c .before .before .before .before .before .before .before .before .before .before .before .before in
-    cut-plainly (S .args .put) (machine (S .args .regs) (S .args .main .now) (S .args .ptr .now) ctl (S .args .heap .now)) _ _ (c .before .before .before .before .before .before .cut-to7 .ensures) (c .before .before .cut-to8 .ensures)
-    ∙ cut-only (S .args .put .into) (S .args .put) (machine (S .args .regs) (S .args .main .now) (S .args .ptr .now) ctl (S .args .heap .now)) (c .before .before .before .before .before .before .before .before .match .keys4)
+returns-5 : tie.Need-returns-5
+returns-5 c ctl =
+    let S = c .before .before .before .before .before .before .before .before .before .before .before in c .before .before .before .before .drop-few .ensures ctl (S .args .heap .now)
 
 pub plain-spec : {M : Type 1} → statement M
 plain-spec =
     tie.close
     (tie.spec
     enum-told
-    cut-to-requires
-    cut-to-requires-2
+    pop-one-requires
+    enum-told-2
+    pop-one-requires-2
+    pop-two-requires
     mul-main
     slice-write-main
-    enum-told-2
-    cut-to-requires-3
-    cut-to-requires-4
+    enum-told-3
+    pop-one-requires-3
     mul-ptr
     slice-write-ptr
-    enum-told-3
-    cut-to-requires-5
-    cut-to-requires-6
+    enum-told-4
+    pop-one-requires-4
+    pop-two-requires-2
     mul-heap
     slice-write-heap
-    cut-to-requires-7
-    cut-to-requires-8
+    drop-few-requires
     same-length
-    same-length-2
     returns
+    same-length-2
     same-length-3
-    same-length-4
     returns-2
+    same-length-4
+    returns-3
     same-length-5
     same-length-6
     same-length-7
-    returns-3
+    returns-4
     same-length-8
     same-length-9
-    returns-4)
+    returns-5)

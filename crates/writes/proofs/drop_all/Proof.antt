@@ -1,0 +1,42 @@
+-- `writes::drop_all` meets its contract: both stacks are cut, then the word set aside is put back.
+use Rattle.model.specs.Control.{machine}
+use Rattle.sound.specs.Lists.{length-cut}
+use borrow.Author.Needs.{needs}
+use Rattle.writes.proofs.drop_all.Statement.{statement}
+use Rattle.writes.proofs.drop_all.Tie as tie
+
+cut-to-requires : tie.Need-cut-to-requires
+cut-to-requires c κs = search needs
+
+cut-to-requires-2 : tie.Need-cut-to-requires-2
+cut-to-requires-2 c κs = search needs
+
+put-back-requires : tie.Need-put-back-requires
+put-back-requires c κs =
+    let S = c .before .before .before .before .before .before .before .before .before .before .before .before in (
+      S .pre .retract,
+      λ e. rw (c .before .before .before .before .before .before .before .before .cut-to .ensures, length-cut) (S .pre .in-main e),
+      λ e. rw (c .before .before .before .before .cut-to2 .ensures, length-cut) (S .pre .in-ptr e),
+    )
+
+same-length : tie.Need-same-length
+same-length c = search needs
+
+same-length-2 : tie.Need-same-length-2
+same-length-2 c = search needs
+
+returns : tie.Need-returns
+returns c ctl heap =
+    let S = c .before .before .before .before .before .before .before .before .before .before .before .before .before .before .before .before .before in
+    c .before .before .before .before .put-back .ensures (machine (S .args .regs) (S .args .main .now) (S .args .ptr .now) ctl heap) (c .before .before .before .before .before .before .before .before .before .before .before .before .before .cut-to .ensures) (c .before .before .before .before .before .before .before .before .before .cut-to2 .ensures)
+
+pub drop-all-spec : {M : Type 1} → statement M
+drop-all-spec =
+    tie.close
+    (tie.spec
+    cut-to-requires
+    cut-to-requires-2
+    put-back-requires
+    same-length
+    same-length-2
+    returns)
