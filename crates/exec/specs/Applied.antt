@@ -1,19 +1,24 @@
 -- A plan that may be applied gives what the functions for its lists ask for, and what they leave is what the model applies.
 use Prim.Native.Nat.{ℕ, _+_, _*_, _<_, _≤_}
-use mathlib.Core.Path.{_≡_, subst}
+use mathlib.Core.Path.{_≡_, refl, ap, sym, subst, _∙_}
+use mathlib.Core.Bool.{Bool, true, false, true≢false}
 use mathlib.Core.List.{List}
+use mathlib.Core.Logic.{⊎-elim}
 use native.Mathlib.Omega.{arith}
 use lib.ListN.{length, set}
+use borrow.Author.Tests.{eq-eqb, ne-eqb}
 use Rattle.model.specs.File.{after}
 use Rattle.model.specs.Control.{Machine, machine, recordWords}
-use Rattle.model.specs.Step.{mainCut, ptrCut, formedFrom, called, opened, closed, applyInto, applied}
+use Rattle.model.specs.Step.{mainCut, ptrCut, formedFrom, called, finished, returned, opened, closed, applyInto, applied}
 use Rattle.model.specs.declared.Regs.{Regs}
 use Rattle.model.specs.declared.Into.{Into}
 use Rattle.model.specs.declared.Into.the-variants as into
 use Rattle.model.specs.declared.Put.{Put}
 use Rattle.writes.specs.Lists.{Topped}
-use Rattle.writes.specs.Asks.{Pushes, Room, Plain, onwards, left}
-use Rattle.exec.specs.Applies.{Forms, Calls, Suits, Applies}
+use Rattle.writes.specs.Asks.{Pushes, Room, Plain, Retract, Dropping, onwards, plainly, triedOn}
+use Rattle.writes.specs.Asks.{tried as written}
+use Rattle.exec.specs.declared.Tried.{Tried}
+use Rattle.exec.specs.Applies.{FitsIn, Forms, Calls, Suits, Applies, Late, Lately, tried, appliedIf}
 
 -- by where it writes
 module _ (f : List ℕ) (put : Put) (m : Machine) (A : Applies f put m) where
@@ -50,7 +55,7 @@ module _ (f : List ℕ) (put : Put) (m : Machine) (A : Applies f put m) where
       Topped (m .regs .ctop) (m .ctl) × (1 ≤ m .regs .handler) × (5 * m .regs .handler ≤ m .regs .ctop)
   to-close e = (A .stands .ctl, suits e, A .stands .handler)
 
-  pub to-form : put .into ≡ into.View → Room (length (m .main)) (length (m .ptr)) (m .heap) (m .regs) put
+  to-form : put .into ≡ into.View → Room (length (m .main)) (length (m .ptr)) (m .heap) (m .regs) put
   to-form e =
       let F : Forms put m = suits e in
       record {
@@ -63,17 +68,36 @@ module _ (f : List ℕ) (put : Put) (m : Machine) (A : Applies f put m) where
         heap-most = A .stands .heap-most;
       }
 
-  pub to-view : put .into ≡ into.View → put .at < length (m .ptr)
+  to-view : put .into ≡ into.View → put .at < length (m .ptr)
   to-view e = let F : Forms put m = suits e in F .below
 
-  pub to-plain : Plain (length (m .heap)) (m .main) (m .ptr) (m .regs) put
-  to-plain =
+  pub to-plain : FitsIn (put .into) put m → Plain (length (m .heap)) (m .main) (m .ptr) (m .regs) put
+  to-plain F = record { main-top = A .stands .main; ptr-top = A .stands .ptr; fits = F }
+
+  -- a retract's word lies in its stack, and no more words go than there are
+  to-drop : Retract (put .into) → Dropping (m .main) (m .ptr) (m .regs) put
+  to-drop R =
       record {
+        retract = R;
         main-top = A .stands .main;
         ptr-top = A .stands .ptr;
-        in-main = λ e. suits e;
-        in-ptr = λ e. suits e;
-        in-heap = λ e. suits e;
+        drops =
+            ⊎-elim (λ e. suits {i = into.Drop} e)
+            (⊎-elim (λ e. suits {i = into.DropMain} e .1) (λ e. suits {i = into.DropPointer} e .1)) R;
+        in-main = λ e. suits {i = into.DropMain} e .0;
+        in-ptr = λ e. suits {i = into.DropPointer} e .0;
+      }
+
+  pub to-late : Late (put .into) (m .regs) → Lately put m
+  to-late L =
+      record {
+        late = L;
+        main = A .stands .main;
+        ptr = A .stands .ptr;
+        ctl = A .stands .ctl;
+        form = to-form;
+        below = to-view;
+        retract = to-drop;
       }
 
 -- what each of them leaves
@@ -82,9 +106,17 @@ module _ (f : List ℕ) (put : Put) (m : Machine) where
   unfolding applied applyInto
   call-applied e = rw e
 
-  pub leave-applied : put .into ≡ into.Return → left put m ≡ applied f put m
+  pub leave-applied : put .into ≡ into.Return → (m .regs .frame ≡ 1 → ⊥) → returned put m ≡ applied f put m
   unfolding applied applyInto
-  leave-applied e = rw e
+  leave-applied e u = rw (e, ne-eqb (m .regs .frame) 1 u)
+
+  pub finish-applied : put .into ≡ into.Return → m .regs .frame ≡ 1 → finished m ≡ applied f put m
+  unfolding applied applyInto
+  finish-applied e u = rw (e, eq-eqb (m .regs .frame) 1 u)
+
+  pub drop-applied : Retract (put .into) → plainly (put .into) put m ≡ applied f put m
+  unfolding applied applyInto
+  drop-applied R = ⊎-elim (λ e. rw e) (⊎-elim (λ e. rw e) (λ e. rw e)) R
 
   pub open-applied : put .into ≡ into.Handler → opened put m ≡ applied f put m
   unfolding applied applyInto
@@ -100,3 +132,45 @@ module _ (f : List ℕ) (put : Put) (m : Machine) where
       machine r main (set ptr (put .at) (put .word)) (m .ctl) heap ≡ applied f put m
   unfolding applied applyInto
   view-applied r main ptr heap e er em ep eh = rw (e, er, em, ep, eh)
+
+-- what `apply` tells of the state that it leaves: it is done, or left for later and all is as before
+module _ (f : List ℕ) (put : Put) (m : Machine) (main ptr ctl heap : List ℕ) where
+  abbrev Told : Tried → Type 0
+  Told t =
+      (machine (t .regs) main ptr ctl heap ≡ appliedIf (t .done) f put m)
+      × ((t .regs .state ≡ m .regs .state)
+      × (t .done ≡ false → Late (put .into) (m .regs)))
+
+  pub told-done : (t : Tried) (r : Regs) (m′ : Machine) → t ≡ tried true r → machine r main ptr ctl heap ≡ m′ →
+      m′ .regs .state ≡ m .regs .state → m′ ≡ applied f put m → Told t
+  told-done t r m′ e d k a = rw e (d ∙ a, (ap (λ (x : Machine). x .regs .state) d ∙ k, λ u. absurd (true≢false u)))
+
+  pub told-undone : (t : Tried) → t ≡ tried false (m .regs) → machine (m .regs) main ptr ctl heap ≡ m → Late (put .into) (m .regs) → Told t
+  told-undone t e d L = rw e (d, (refl, λ u. L))
+
+-- a plain write that is done, or left
+module _ (put : Put) (m : Machine) (main ptr heap : List ℕ) where
+  pub plain-done : (r : Bool) → machine (triedOn r put (m .regs)) main ptr (m .ctl) heap ≡ written r (put .into) put m → r ≡ true →
+      machine (onwards put (m .regs)) main ptr (m .ctl) heap ≡ plainly (put .into) put m
+  plain-done true e t = e
+  plain-done false e t = absurd (true≢false (sym t))
+
+  pub plain-undone : (r : Bool) → machine (triedOn r put (m .regs)) main ptr (m .ctl) heap ≡ written r (put .into) put m → r ≡ false →
+      machine (m .regs) main ptr (m .ctl) heap ≡ m
+  plain-undone true e t = absurd (true≢false t)
+  plain-undone false e t = e
+
+-- a plain write leaves the registers on
+pub plainly-state : (i : Into) (put : Put) (m : Machine) → plainly i put m .regs .state ≡ m .regs .state
+plainly-state into.Nothing put m = refl
+plainly-state into.Main put m = refl
+plainly-state into.Pointer put m = refl
+plainly-state into.Heap put m = refl
+plainly-state into.Drop put m = refl
+plainly-state into.DropMain put m = refl
+plainly-state into.DropPointer put m = refl
+plainly-state into.View put m = refl
+plainly-state into.Frame put m = refl
+plainly-state into.Return put m = refl
+plainly-state into.Handler put m = refl
+plainly-state into.Close put m = refl

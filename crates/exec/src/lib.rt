@@ -1,5 +1,6 @@
 // What a plan comes to: its writes applied, or its exception raised. Document 01's table of codes, and "A raise ..., all in one step".
 ghost use mathlib.Core.Path.{_≡_};
+ghost use mathlib.Core.Bool.{true, false};
 ghost use mathlib.Core.List.{List};
 ghost use Prim.Native.Nat.{ℕ, _+_, _*_, _<_, _≤_};
 ghost use lib.ListN.{length};
@@ -7,7 +8,7 @@ ghost use Rattle.model.specs.File.{operand, headOf};
 ghost use Rattle.model.specs.Control.{machine, recOf};
 ghost use Rattle.model.specs.Step.{applied, raised, settle};
 ghost use Rattle.writes.specs.Asks.{onwards};
-ghost use Rattle.exec.specs.Applies.{Applies};
+ghost use Rattle.exec.specs.Applies.{Applies, Late, Lately, Later, tried, appliedIf};
 ghost use Rattle.exec.specs.Ended.{Targets, Raises, Settles, ended, endedOf, guardAt, resumed, codeOf};
 use model::Into;
 use model::Plan;
@@ -36,7 +37,25 @@ fn onward(regs: Regs, put: Put) -> Regs
     }
 }
 
-// Applies the writes of a plan.
+// What applying a plan's writes comes to: the registers then, or that it is left to `apply_late`, nothing being touched.
+pub struct Tried {
+    pub done: bool,
+    pub regs: Regs,
+}
+
+fn done(regs: Regs) -> Tried
+    ensures { λ r. ⌜ r ≡ tried true regs ⌝ }
+{
+    Tried { done: true, regs }
+}
+
+fn undone(regs: Regs) -> Tried
+    ensures { λ r. ⌜ r ≡ tried false regs ⌝ }
+{
+    Tried { done: false, regs }
+}
+
+// Applies the writes of a plan, as far as they need no loop: the steps of a run that go through here keep their registers.
 pub fn apply(
     file: &[u8],
     main: &mut [u32],
@@ -45,18 +64,49 @@ pub fn apply(
     heap: &mut [u32],
     regs: Regs,
     put: Put,
-) -> Regs
+) -> Tried
     requires { ⌜ Applies (now file) put (machine regs (now main) (now ptr) (now ctl) (now heap)) ⌝ }
-    ensures { λ r. ⌜ machine r (now (main .exit)) (now (ptr .exit)) (now (ctl .exit)) (now (heap .exit)) ≡ applied (now (file .entry)) put (machine regs (now (main .entry)) (now (ptr .entry)) (now (ctl .entry)) (now (heap .entry))) ⌝ }
+    ensures state { λ r. ⌜ machine (r .regs) (now (main .exit)) (now (ptr .exit)) (now (ctl .exit)) (now (heap .exit)) ≡ appliedIf (r .done) (now (file .entry)) put (machine regs (now (main .entry)) (now (ptr .entry)) (now (ctl .entry)) (now (heap .entry))) ⌝ }
+    ensures running { λ r. ⌜ r .regs .state ≡ regs .state ⌝ }
+    ensures undone { λ r. ⌜ (r .done ≡ false → Late (put .into) regs) ⌝ }
+{
+    let into = put.into;
+    match into {
+        Into::Frame => done(writes::call(file, ctl, regs, put)),
+        Into::Return => {
+            if regs.frame == 1 {
+                return undone(regs);
+            }
+            done(writes::leave(ctl, regs, put))
+        }
+        Into::Handler => done(writes::open(ctl, regs, put)),
+        Into::Close => done(writes::close(ctl, regs, put)),
+        Into::View => undone(regs),
+        _ => {
+            if writes::plain(main, ptr, heap, regs, put) {
+                return done(onward(regs, put));
+            }
+            undone(regs)
+        }
+    }
+}
+
+// Applies what `apply` leaves: a new view, a retract of many words, the end of a run.
+fn apply_late(
+    main: &mut [u32],
+    ptr: &mut [u32],
+    ctl: &mut [u32],
+    heap: &mut [u32],
+    regs: Regs,
+    put: Put,
+) -> Regs
+    requires { ⌜ Lately put (machine regs (now main) (now ptr) (now ctl) (now heap)) ⌝ }
+    ensures { λ r. ⌜ ((f : List ℕ) → machine r (now (main .exit)) (now (ptr .exit)) (now (ctl .exit)) (now (heap .exit)) ≡ applied f put (machine regs (now (main .entry)) (now (ptr .entry)) (now (ctl .entry)) (now (heap .entry)))) ⌝ }
 {
     let into = put.into;
     let at = put.at;
     let next = onward(regs, put);
     match into {
-        Into::Frame => writes::call(file, ctl, regs, put),
-        Into::Return => writes::leave(ctl, regs, put),
-        Into::Handler => writes::open(ctl, regs, put),
-        Into::Close => writes::close(ctl, regs, put),
         Into::View => {
             writes::form(main, ptr, heap, regs, put);
             writes::cut_to(main, put.mtop, regs.mtop);
@@ -64,8 +114,9 @@ pub fn apply(
             ptr[at] = put.word;
             next
         }
+        Into::Return => writes::finish(ctl, regs),
         _ => {
-            writes::plain(main, ptr, heap, regs, put);
+            writes::drop_all(main, ptr, regs, put);
             next
         }
     }
@@ -174,7 +225,7 @@ pub fn code_of(plan: Plan, main: &[u32], mtop: usize) -> u32
     }
 }
 
-// What a plan comes to: its writes, or a raise.
+// What a plan comes to that `apply` left, or that is no write: a raise.
 pub fn step_with(
     file: &[u8],
     table: &[usize; 64],
@@ -185,14 +236,14 @@ pub fn step_with(
     regs: Regs,
     plan: Plan,
 ) -> Outcome
-    requires { ⌜ Settles (now file) (now table) (machine regs (now main) (now ptr) (now ctl) (now heap)) plan ⌝ }
+    requires { ⌜ Settles (now file) (now table) (machine regs (now main) (now ptr) (now ctl) (now heap)) plan × Later regs plan ⌝ }
     ensures { λ r. ⌜ ended r (now (main .exit)) (now (ptr .exit)) (now (ctl .exit)) (now (heap .exit)) ≡ endedOf (machine regs (now (main .entry)) (now (ptr .entry)) (now (ctl .entry)) (now (heap .entry))) (settle (now (file .entry)) (machine regs (now (main .entry)) (now (ptr .entry)) (now (ctl .entry)) (now (heap .entry))) plan) ⌝ }
 {
     let Plan::Write(put) = plan else {
         let code = code_of(plan, main, regs.mtop);
         return raise(file, table, main, ptr, ctl, regs, code);
     };
-    let next = apply(file, main, ptr, ctl, heap, regs, put);
+    let next = apply_late(main, ptr, ctl, heap, regs, put);
     Outcome {
         on: true,
         code: 0,

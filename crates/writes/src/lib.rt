@@ -1,5 +1,6 @@
 // The writes of a plan into one list or two: words popped and pushed, records of the control stack, a view in the heap.
 ghost use mathlib.Core.Path.{_≡_};
+ghost use mathlib.Core.Bool.{false};
 ghost use mathlib.Core.List.{List, [], _∷_};
 ghost use Prim.Native.Nat.{ℕ, _+_, _-_, _*_, _<_, _≤_};
 ghost use lib.ListN.{length, getD};
@@ -291,7 +292,8 @@ fn drop_few(main: &mut [u32], ptr: &mut [u32], regs: Regs, put: Put) -> bool
 // Each arm pops by itself: a plan made with a known `into` then jumps to its arm, and an arm has no test of what its instructions never do.
 pub fn plain(main: &mut [u32], ptr: &mut [u32], heap: &mut [u32], regs: Regs, put: Put) -> bool
     requires { ⌜ Plain (length (now heap)) (now main) (now ptr) regs put ⌝ }
-    ensures { λ r. ⌜ ((ctl : List ℕ) → machine (triedOn r put regs) (now (main .exit)) (now (ptr .exit)) ctl (now (heap .exit)) ≡ tried r (put .into) put (machine regs (now (main .entry)) (now (ptr .entry)) ctl (now (heap .entry)))) ⌝ }
+    ensures state { λ r. ⌜ ((ctl : List ℕ) → machine (triedOn r put regs) (now (main .exit)) (now (ptr .exit)) ctl (now (heap .exit)) ≡ tried r (put .into) put (machine regs (now (main .entry)) (now (ptr .entry)) ctl (now (heap .entry)))) ⌝ }
+    ensures undone { λ r. ⌜ (r ≡ false → Retract (put .into)) ⌝ }
 {
     let into = put.into;
     let at = put.at;

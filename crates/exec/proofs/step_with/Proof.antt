@@ -1,6 +1,7 @@
--- `exec::step_with` meets its contract: a write is applied, every other plan raises its code.
+-- `exec::step_with` meets its contract: a write that was left is applied, every other plan raises its code.
 use Rattle.model.specs.Control.{machine}
 use Rattle.model.specs.Step.{settle}
+use Rattle.exec.specs.Applied.{to-late}
 use Rattle.exec.specs.Ended.{endedOf, settle-raised}
 use Rattle.exec.proofs.Tags.{no-write}
 use borrow.Author.Needs.{needs}
@@ -13,12 +14,12 @@ enum-known-plan c = search needs
 code-of-requires : tie.Need-code-of-requires
 code-of-requires c κs =
     let S = c .before .before .before .before .before .before .before in
-    (S .pre .raises (no-write (S .args .plan) (c .before .match .keys2)) .main-top .fits, S .pre .thrown)
+    (S .pre .0 .raises (no-write (S .args .plan) (c .before .match .keys2)) .main-top .fits, S .pre .0 .thrown)
 
 raise-requires : tie.Need-raise-requires
 raise-requires c κs =
     let S = c .before .before .before .before .before .before .before .before .before .before .before in
-    S .pre .raises (no-write (S .args .plan) (c .before .before .before .before .before .match .keys2))
+    S .pre .0 .raises (no-write (S .args .plan) (c .before .before .before .before .before .match .keys2))
 
 same-length : tie.Need-same-length
 same-length c = search needs
@@ -35,10 +36,11 @@ returns c =
     rw (settle-raised (S .args .file .now) (machine (S .args .regs) (S .args .main .now) (S .args .ptr .now) (S .args .ctl .now) (S .args .heap .now)) (S .args .plan) (no-write (S .args .plan) (c .before .before .before .before .before .before .before .before .before .before .before .before .match .keys2)), ← c .before .before .before .before .before .before .before .before .before .before .code-of .ensures)
     (c .before .before .before .before .before .before .raise .ensures (S .args .heap .now))
 
-apply-requires : tie.Need-apply-requires
-apply-requires c κs =
+apply-late-requires : tie.Need-apply-late-requires
+apply-late-requires c κs =
     let S = c .before .before .before .before .before .before .before .before .before .before .before .before in
-    S .pre .writes _ (c .before .before .before .before .before .plan .given .1)
+    let e = c .before .before .before .before .before .plan .given .1 in
+    to-late (S .args .file .now) _ (machine (S .args .regs) (S .args .main .now) (S .args .ptr .now) (S .args .ctl .now) (S .args .heap .now)) (S .pre .0 .writes _ e) (S .pre .1 _ e)
 
 same-length-4 : tie.Need-same-length-4
 same-length-4 c = search needs
@@ -56,7 +58,7 @@ returns-2 : tie.Need-returns-2
 unfolding endedOf settle
 returns-2 c =
     let S = c .before .before .before .before .before .before .before .before .before .before .before .before .before .before .before .before .before .before .before .before .before in
-    rw (c .before .before .before .before .before .before .before .before .before .before .before .before .before .before .plan .given .1, ← c .before .before .before .before .before .before .before .before .apply .ensures)
+    rw (c .before .before .before .before .before .before .before .before .before .before .before .before .before .before .plan .given .1, ← c .before .before .before .before .before .before .before .before .apply-late .ensures (S .args .file .now))
 
 pub step-with-spec : {M : Type 1} → statement M
 step-with-spec =
@@ -69,7 +71,7 @@ step-with-spec =
     same-length-2
     same-length-3
     returns
-    apply-requires
+    apply-late-requires
     same-length-4
     same-length-5
     same-length-6

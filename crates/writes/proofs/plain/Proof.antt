@@ -1,4 +1,5 @@
 -- `writes::plain` meets its contract: an arm knows where the word goes, and there so many words go as the arm pops; the last arm is a retract's.
+use mathlib.Core.Bool.{true≢false}
 use native.Mathlib.Omega.{arith}
 use Rattle.model.specs.Control.{machine}
 use Rattle.sound.specs.Lists.{length-cut}
@@ -77,10 +78,10 @@ same-length : tie.Need-same-length
 same-length c = search needs
 
 returns : tie.Need-returns
-returns c ctl =
+returns c =
     let S = c .before .before .before .before .before .before .before .before .before in
     let u = fits-at _ (S .args .main .now) (S .args .ptr .now) (S .args .regs) (S .args .put) (S .pre) (c .before .before .before .before .enum-told .given .1) .ptr in
-    nothing-plainly (S .args .put) (machine (S .args .regs) (S .args .main .now) (S .args .ptr .now) ctl (S .args .heap .now)) _ _ (c .before .before .pop-one .ensures) (cut-above _ _ _ (omega arith) (S .pre .ptr-top)) (c .before .before .before .before .enum-told .given .1)
+    (λ ctl. nothing-plainly (S .args .put) (machine (S .args .regs) (S .args .main .now) (S .args .ptr .now) ctl (S .args .heap .now)) _ _ (c .before .before .pop-one .ensures) (cut-above _ _ _ (omega arith) (S .pre .ptr-top)) (c .before .before .before .before .enum-told .given .1), λ e. absurd (true≢false e))
 
 same-length-2 : tie.Need-same-length-2
 same-length-2 c = search needs
@@ -89,18 +90,18 @@ same-length-3 : tie.Need-same-length-3
 same-length-3 c = search needs
 
 returns-2 : tie.Need-returns-2
-returns-2 c ctl =
+returns-2 c =
     let S = c .before .before .before .before .before .before .before .before .before .before .before .before .before in
-    main-plainly (S .args .put) (machine (S .args .regs) (S .args .main .now) (S .args .ptr .now) ctl (S .args .heap .now)) _ _ (c .before .before .before .before .before .before .pop-one2 .ensures) (c .before .before .pop-two .ensures) (c .before .before .before .before .before .before .before .before .enum-told2 .given .1)
+    (λ ctl. main-plainly (S .args .put) (machine (S .args .regs) (S .args .main .now) (S .args .ptr .now) ctl (S .args .heap .now)) _ _ (c .before .before .before .before .before .before .pop-one2 .ensures) (c .before .before .pop-two .ensures) (c .before .before .before .before .before .before .before .before .enum-told2 .given .1), λ e. absurd (true≢false e))
 
 same-length-4 : tie.Need-same-length-4
 same-length-4 c = search needs
 
 returns-3 : tie.Need-returns-3
-returns-3 c ctl =
+returns-3 c =
     let S = c .before .before .before .before .before .before .before .before .before in
     let u = fits-at _ (S .args .main .now) (S .args .ptr .now) (S .args .regs) (S .args .put) (S .pre) (c .before .before .before .before .enum-told3 .given .1) .1 .main in
-    ptr-plainly (S .args .put) (machine (S .args .regs) (S .args .main .now) (S .args .ptr .now) ctl (S .args .heap .now)) _ _ (cut-above _ _ _ (omega arith) (S .pre .main-top)) (c .before .before .pop-one3 .ensures) (c .before .before .before .before .enum-told3 .given .1)
+    (λ ctl. ptr-plainly (S .args .put) (machine (S .args .regs) (S .args .main .now) (S .args .ptr .now) ctl (S .args .heap .now)) _ _ (cut-above _ _ _ (omega arith) (S .pre .main-top)) (c .before .before .pop-one3 .ensures) (c .before .before .before .before .enum-told3 .given .1), λ e. absurd (true≢false e))
 
 same-length-5 : tie.Need-same-length-5
 same-length-5 c = search needs
@@ -112,9 +113,9 @@ same-length-7 : tie.Need-same-length-7
 same-length-7 c = search needs
 
 returns-4 : tie.Need-returns-4
-returns-4 c ctl =
+returns-4 c =
     let S = c .before .before .before .before .before .before .before .before .before .before .before .before .before in
-    heap-plainly (S .args .put) (machine (S .args .regs) (S .args .main .now) (S .args .ptr .now) ctl (S .args .heap .now)) _ _ (c .before .before .before .before .before .before .pop-one4 .ensures) (c .before .before .pop-two2 .ensures) (c .before .before .before .before .before .before .before .before .enum-told4 .given .1)
+    (λ ctl. heap-plainly (S .args .put) (machine (S .args .regs) (S .args .main .now) (S .args .ptr .now) ctl (S .args .heap .now)) _ _ (c .before .before .before .before .before .before .pop-one4 .ensures) (c .before .before .pop-two2 .ensures) (c .before .before .before .before .before .before .before .before .enum-told4 .given .1), λ e. absurd (true≢false e))
 
 same-length-8 : tie.Need-same-length-8
 same-length-8 c = search needs
@@ -123,8 +124,9 @@ same-length-9 : tie.Need-same-length-9
 same-length-9 c = search needs
 
 returns-5 : tie.Need-returns-5
-returns-5 c ctl =
-    let S = c .before .before .before .before .before .before .before .before .before .before .before in c .before .before .before .before .drop-few .ensures ctl (S .args .heap .now)
+returns-5 c =
+    let S = c .before .before .before .before .before .before .before .before .before .before .before in
+    (λ ctl. c .before .before .before .before .drop-few .ensures ctl (S .args .heap .now), λ e. dropping _ (S .args .main .now) (S .args .ptr .now) (S .args .regs) (S .args .put) (S .pre) (c .before .before .before .before .before .before .before .match .keys5) .retract)
 
 pub plain-spec : {M : Type 1} → statement M
 plain-spec =
