@@ -176,13 +176,13 @@ fn retracts(file: &[u8], main: &[u32], ptr: &[u32], regs: Regs, kind: u8) -> Pla
     match kind {
         60 => {
             let top = regs.mtop - 1;
-            plans::writes(Into::Main, place + 5, m, q, m - 1, main[top])
+            plans::writes(Into::DropMain, place + 5, m, q, m - 1, main[top])
         }
         62 => {
             let top = regs.ptop - 1;
-            plans::writes(Into::Pointer, place + 5, m, q, q - 1, ptr[top])
+            plans::writes(Into::DropPointer, place + 5, m, q, q - 1, ptr[top])
         }
-        _ => plans::writes(Into::Nothing, place + 5, m, q, 0, 0),
+        _ => plans::writes(Into::Drop, place + 5, m, q, 0, 0),
     }
 }
 
