@@ -128,16 +128,16 @@ singles [] = []
 singles (n ∷ ns) = (n ∷ []) ∷ singles ns
 
 -- the codes of `plan_at`'s arms, the last arm's first, and those of `plan_other`'s
-abbrev pub usual : List ℕ
-usual =
+abbrev pub atCodes : List ℕ
+atCodes =
     204 ∷ 201 ∷ 198 ∷ 195 ∷ 146 ∷ 145 ∷ 144 ∷ 143 ∷ 142 ∷ 141 ∷ 140 ∷ 130 ∷ 54 ∷ 22 ∷ 20 ∷ 6 ∷ 5 ∷ 4 ∷ 3 ∷ 2 ∷ 1 ∷ []
 
-abbrev pub other : List ℕ
-other = 161 ∷ 160 ∷ 131 ∷ 73 ∷ 72 ∷ 64 ∷ 62 ∷ 60 ∷ 59 ∷ 58 ∷ 57 ∷ 56 ∷ 36 ∷ 33 ∷ 32 ∷ 31 ∷ 30 ∷ 23 ∷ 21 ∷ []
+abbrev pub otherCodes : List ℕ
+otherCodes = 161 ∷ 160 ∷ 131 ∷ 73 ∷ 72 ∷ 64 ∷ 62 ∷ 60 ∷ 59 ∷ 58 ∷ 57 ∷ 56 ∷ 36 ∷ 33 ∷ 32 ∷ 31 ∷ 30 ∷ 23 ∷ 21 ∷ []
 
 none-both : (ns ms : List ℕ) (k : ℕ) → NoneOf (singles ns) k → NoneOf (singles ms) k → NoneOf (singles (ns ++ ms)) k
 none-both [] ms k h g = g
 none-both (n ∷ ns) ms k h g = (none-both ns ms k (h .0) g, h .1)
 
-pub no-other : (f : List ℕ) (p k : ℕ) → NoneOf (singles other) k → NoneOf (singles usual) k → insOf f p k ≡ raise
-no-other f p k h g = ins-other (singles (other ++ usual)) tt f p k (none-both other usual k h g)
+pub no-other : (f : List ℕ) (p k : ℕ) → NoneOf (singles otherCodes) k → NoneOf (singles atCodes) k → insOf f p k ≡ raise
+no-other f p k h g = ins-other (singles (otherCodes ++ atCodes)) tt f p k (none-both otherCodes atCodes k h g)

@@ -15,7 +15,7 @@ ghost use Rattle.model.specs.Control.{machine, recOf};
 ghost use Rattle.model.specs.Instructions.{planAt};
 ghost use Rattle.heap.specs.Stores.{Lies};
 ghost use Rattle.plans.specs.Given.{planned, Body, Within, Record};
-ghost use Rattle.plan.specs.Kinds.{NoneOf, singles, usual};
+ghost use Rattle.plan.specs.Kinds.{NoneOf, singles, atCodes};
 ghost use Rattle.plan.specs.Ready.{Ready};
 
 // 20 and 22: word s of the frame.
@@ -218,7 +218,7 @@ fn plan_other(
     kind: u8,
 ) -> Plan
     requires { ⌜ Ready (now file) (now table) (machine regs (now main) (now ptr) (now ctl) (now heap))
-        × (model.byteAt (now file) (regs .place) ≡ kind) × NoneOf (singles usual) kind ⌝ }
+        × (model.byteAt (now file) (regs .place) ≡ kind) × NoneOf (singles atCodes) kind ⌝ }
     ensures { λ r. ⌜ r ≡ planAt (now (file .entry)) (machine regs (now (main .entry)) (now (ptr .entry)) (now (ctl .entry)) (now (heap .entry))) ⌝ }
 {
     match kind {

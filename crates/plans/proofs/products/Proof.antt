@@ -1,12 +1,11 @@
 -- `plans::products`: at each of the three codes the definition computes, and the operation is the one that `words` ensures.
-use mathlib.Core.Logic.{⊎-elim}
-use mathlib.Core.Path.{_≡_, _∙_}
+use mathlib.Core.Path.{_∙_}
 use mir.Syntax.{w64}
 use mir.ValLaws.{toZ-ofZ}
 use Rattle.model.specs.File.{insOf}
 use Rattle.model.specs.Instructions.{basicPlan, planOf}
 use Rattle.model.specs.Words.{operate}
-use Rattle.plans.specs.Given.{planned}
+use Rattle.plans.specs.Given.{planned, other}
 use borrow.Author.Needs.{needs}
 use Rattle.plans.proofs.products.Statement.{statement}
 use Rattle.plans.proofs.products.Tie as tie
@@ -65,8 +64,7 @@ returns-3 : tie.Need-returns-3
 unfolding planned planOf basicPlan insOf
 returns-3 c =
     λ f p q h.
-    let e : c .before .before .before .before .before .before .before .before .before .before .args .kind ≡ 145 = ⊎-elim (λ e. absurd (c .before .before .before .if1 .left e))
-    (⊎-elim (λ e. absurd (c .before .before .if2 .left e)) (λ e. e)) (c .before .before .before .before .before .before .before .before .before .before .pre .3) in
+    let e = other (other (c .before .before .before .before .before .before .before .before .before .before .pre .3) (c .before .before .before .if1 .left)) (c .before .before .if2 .left) in
     rw (c .result2 .ensures, e, c .before .rem .ensures)
 
 pub products-spec : {M : Type 1} → statement M

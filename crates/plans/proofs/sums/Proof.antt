@@ -1,12 +1,11 @@
 -- `plans::sums`: at each of the two codes the definition computes, and the operation is the one that `words` ensures.
-use mathlib.Core.Logic.{⊎-elim}
-use mathlib.Core.Path.{_≡_, _∙_}
+use mathlib.Core.Path.{_∙_}
 use mir.Syntax.{w64}
 use mir.ValLaws.{toZ-ofZ}
 use Rattle.model.specs.File.{insOf}
 use Rattle.model.specs.Instructions.{basicPlan, planOf}
 use Rattle.model.specs.Words.{operate}
-use Rattle.plans.specs.Given.{planned}
+use Rattle.plans.specs.Given.{planned, other}
 use borrow.Author.Needs.{needs}
 use Rattle.plans.proofs.sums.Statement.{statement}
 use Rattle.plans.proofs.sums.Tie as tie
@@ -56,7 +55,7 @@ unfolding planned planOf basicPlan insOf operate
 returns-2 c =
     λ f p q h.
     let z = c .before .minus in
-    let e : c .before .before .before .before .before .before .before .before .before .args .kind ≡ 142 = ⊎-elim (λ e. absurd (c .before .before .if1 .left e)) (λ e. e) (c .before .before .before .before .before .before .before .before .before .pre .3) in
+    let e = other (c .before .before .before .before .before .before .before .before .before .pre .3) (c .before .before .if1 .left) in
     rw (c .number2 .ensures, e, toZ-ofZ w64 _ (record { sfits = z .ok }) ∙ z .ensures)
 
 pub sums-spec : {M : Type 1} → statement M

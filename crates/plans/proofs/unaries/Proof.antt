@@ -1,12 +1,11 @@
 -- `plans::unaries`: at each of the two codes the definition computes, and the operation is the one that `words` ensures.
-use mathlib.Core.Logic.{⊎-elim}
-use mathlib.Core.Path.{_≡_, _∙_}
+use mathlib.Core.Path.{_∙_}
 use mir.Syntax.{w64}
 use mir.ValLaws.{toZ-ofZ}
 use Rattle.model.specs.File.{insOf}
 use Rattle.model.specs.Instructions.{basicPlan, planOf}
 use Rattle.model.specs.Words.{operate1}
-use Rattle.plans.specs.Given.{planned}
+use Rattle.plans.specs.Given.{planned, other}
 use borrow.Author.Needs.{needs}
 use Rattle.plans.proofs.unaries.Statement.{statement}
 use Rattle.plans.proofs.unaries.Tie as tie
@@ -46,7 +45,7 @@ returns-2 : tie.Need-returns-2
 unfolding planned planOf basicPlan insOf
 returns-2 c =
     λ f p q h.
-    let e : c .before .before .before .before .before .before .before .args .kind ≡ 146 = ⊎-elim (λ e. absurd (c .before .before .if1 .left e)) (λ e. e) (c .before .before .before .before .before .before .before .pre .3) in
+    let e = other (c .before .before .before .before .before .before .before .pre .3) (c .before .before .if1 .left) in
     rw (c .writes .ensures, e, ← (c .before .not .ensures))
 
 pub unaries-spec : {M : Type 1} → statement M
