@@ -13,10 +13,19 @@ ghost use Rattle.model.specs.Words.{wordAt};
 ghost use Rattle.model.specs.File as model;
 ghost use Rattle.model.specs.Control.{machine, recOf};
 ghost use Rattle.model.specs.Instructions.{planAt};
+ghost use Rattle.code.specs.Parts.{Small};
 ghost use Rattle.heap.specs.Stores.{Lies};
 ghost use Rattle.plans.specs.Given.{planned, Body, Within, Record};
 ghost use Rattle.plan.specs.Kinds.{NoneOf, singles, atCodes};
 ghost use Rattle.plan.specs.Ready.{Ready};
+
+// The index of word s of a frame, whose base is the control stack's word there.
+fn frame_word(file: &[u8], ctl: &[u32], place: usize, base: usize) -> usize
+    requires { ⌜ Body (now file) place 2 × (base < length (now ctl)) × (length (now ctl) ≤ 1280) ⌝ }
+    ensures { λ r. ⌜ Small 8589934592 (wordAt (now (ctl .entry)) base + model.operand (now (file .entry)) place) r ⌝ }
+{
+    plans::wide(ctl[base]) + code::operand(file, place)
+}
 
 // 20 and 22: word s of the frame.
 fn main_locals(file: &[u8], main: &[u32], ctl: &[u32], regs: Regs, kind: u8) -> Plan
@@ -26,8 +35,7 @@ fn main_locals(file: &[u8], main: &[u32], ctl: &[u32], regs: Regs, kind: u8) -> 
 {
     let place = regs.place;
     let top = regs.mtop;
-    let frame = 5 * (regs.frame - 1);
-    let at = plans::wide(ctl[frame]) + code::operand(file, place);
+    let at = frame_word(file, ctl, place, 5 * (regs.frame - 1));
     if kind == 20 {
         return plans::writes(Into::Main, place + 3, top + 1, regs.ptop, top, main[at]);
     }
@@ -43,8 +51,7 @@ fn ptr_locals(file: &[u8], ptr: &[u32], ctl: &[u32], regs: Regs, kind: u8) -> Pl
 {
     let place = regs.place;
     let top = regs.ptop;
-    let frame = 5 * (regs.frame - 1) + 1;
-    let at = plans::wide(ctl[frame]) + code::operand(file, place);
+    let at = frame_word(file, ctl, place, 5 * (regs.frame - 1) + 1);
     if kind == 21 {
         return plans::writes(Into::Pointer, place + 3, regs.mtop, top + 1, top, ptr[at]);
     }
