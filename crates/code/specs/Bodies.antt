@@ -1,49 +1,31 @@
--- Bounds of a body's length, for every number: each row of `bodies` is tested once (`few`), and a kind in no row is unknown.
-use mathlib.Core.Path.{_≡_, refl}
-use mathlib.Core.Bool.{Bool, true, false}
-use mathlib.Core.List.{List, [], _∷_}
-use mathlib.Core.Logic.{_⊎_, inl, inr, ⊎-elim}
-use Prim.Native.Nat.{ℕ, _+_, _<_, _≤_}
+-- The length of a body, as a match on the kind finds it: that all kinds of an arm have the arm's length is one computed test (`body-arm`),
+-- and that every kind of `bodies` has an arm another, by which all other kinds are unknown (`body-none`). A record has at least one byte.
+use mathlib.Core.Path.{_≡_, refl, sym}
+use mathlib.Core.List.{List, [], _∷_, map}
+use Prim.Native.Nat.{ℕ, _<_}
 use native.Mathlib.Omega.{arith}
-use lib.Dec.{T, leb, eqb, leb→le}
-use Rattle.model.specs.Choice.{if_then_else_}
-use Rattle.model.specs.File.{bodies, find, unknown, bodyOf, byteAt, after}
-use Rattle.code.specs.Table.{both, both-left, both-right}
+use lib.Dec.{T, eqb, eqb→eq}
+use borrow.Author.Tests.{ne-eqb}
+use Rattle.model.specs.File.{bodies, find, unknown, bodyOf, after}
+use Rattle.code.specs.Kinds.{OneOf, NoneOf, each?, every, passed, and-both, among, none-of}
+use Rattle.code.specs.Parts.{Small}
 
-abbrev few : List (ℕ × ℕ) → Bool
-few [] = true
-few (r ∷ rs) = both (leb (r .1) 6) (few rs)
+pub body-arm : (n : ℕ) → n < 256 → (ns : List ℕ) → T (each? (λ m. eqb n (bodyOf m)) ns) → (k : ℕ) → OneOf ns k → Small 256 (bodyOf k) n
+body-arm n s ns t k o = record {
+  is = eqb→eq n (bodyOf k) (every (λ m. T (eqb n (bodyOf m))) ns k (passed (λ m. eqb n (bodyOf m)) ns t) o);
+  small = s;
+}
 
-abbrev Length : ℕ → Type 0
-Length n = (n ≡ unknown) ⊎ (n ≤ 6)
+find-none : (nss : List (List ℕ)) (rs : List (ℕ × ℕ)) → T (each? (among nss) (map (λ r. r .0) rs)) → (k : ℕ) → NoneOf nss k → find rs k ≡ unknown
+find-none nss [] t k h = refl
+find-none nss (r ∷ rs) t k h =
+    let g = and-both (among nss (r .0)) (each? (among nss) (map (λ r. r .0) rs)) t in
+    rw (ne-eqb k (r .0) (none-of nss k h (r .0) (g .0))) (find-none nss rs (g .1) k h)
 
-either : (t : Bool) (m n : ℕ) → m ≤ 6 → Length n → Length (if t then m else n)
-either true m n h l = inr h
-either false m n h l = l
-
-found : (rs : List (ℕ × ℕ)) → T (few rs) → (k : ℕ) → Length (find rs k)
-found [] t k = inl refl
-found (r ∷ rs) t k =
-    either (eqb k (r .0)) (r .1) (find rs k)
-    (leb→le (r .1) 6 (both-left (leb (r .1) 6) (few rs) t))
-    (found rs (both-right (leb (r .1) 6) (few rs) t) k)
-
-few-bodies : T (few bodies)
-unfolding bodies
-few-bodies = tt
-
--- a kind is unknown, or its body has at most six bytes
-pub body-cases : (k : ℕ) → (bodyOf k ≡ unknown) ⊎ (bodyOf k ≤ 6)
+pub body-none : (nss : List (List ℕ)) → T (each? (among nss) (map (λ r. r .0) bodies)) → (k : ℕ) → NoneOf nss k → Small 256 (bodyOf k) unknown
 unfolding bodyOf
-body-cases k = found bodies few-bodies k
+body-none nss t k h = record { is = sym (find-none nss bodies t k h); small = omega arith }
 
-pub body-known : (k : ℕ) → (bodyOf k ≡ unknown → ⊥) → bodyOf k ≤ 6
-body-known k h = ⊎-elim (λ e. absurd (h e)) (λ l. l) (body-cases k)
-
-pub body-small : (k : ℕ) → bodyOf k < 256
-body-small k = ⊎-elim (λ e. omega arith) (λ l. omega arith) (body-cases k)
-
--- a record has at least one byte
 pub after-above : (f : List ℕ) (p : ℕ) → p < after f p
 unfolding after
 after-above f p = omega arith

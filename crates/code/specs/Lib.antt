@@ -1,4 +1,4 @@
 pub mod Parts
-pub mod Table
+pub mod Kinds
 pub mod Bodies
 pub mod Heads

@@ -2,7 +2,7 @@
 -- that is no other instruction's code stands for raise.
 use Prim.Native.Nat.{ℕ}
 use mathlib.Core.Bool.{Bool, true, false}
-use mathlib.Core.List.{List, [], _∷_}
+use mathlib.Core.List.{List, [], _∷_, _++_}
 use mathlib.Core.Logic.{_⊎_, inl, inr, ⊎-elim}
 use mathlib.Core.Path.{_≡_}
 use lib.Dec.{T, eqb, eqb→eq}
@@ -10,79 +10,75 @@ use borrow.Author.Tests.{ne-eqb}
 use Rattle.model.specs.Choice.{if_then_else_, member}
 use Rattle.model.specs.File.{raise, insOf}
 
--- as an arm tells it
+-- k is one of the numbers, as a match's arm tells it
 abbrev pub OneOf : List ℕ → ℕ → Type 0
 OneOf [] k = ⊥
 OneOf (n ∷ []) k = k ≡ n
 OneOf (n ∷ m ∷ ns) k = (k ≡ n) ⊎ OneOf (m ∷ ns) k
 
--- as the last arm tells it
+-- k is in none of the lists, as a match's last arm tells it; the last list is the first arm's
 abbrev pub NoneOf : List (List ℕ) → ℕ → Type 0
 NoneOf [] k = Unit {0}
 NoneOf (ns ∷ nss) k = NoneOf nss k × (OneOf ns k → ⊥)
 
+-- a statement at each of the numbers, and a test
 abbrev pub Every : (ℕ → Type 0) → List ℕ → Type 0
 Every P [] = Unit {0}
 Every P (n ∷ ns) = P n × Every P ns
+
+abbrev pub each? : (ℕ → Bool) → List ℕ → Bool
+each? t [] = true
+each? t (n ∷ ns) = if t n then each? t ns else false
 
 pub every : (P : ℕ → Type 0) (ns : List ℕ) (k : ℕ) → Every P ns → OneOf ns k → P k
 every P (n ∷ []) k h e = rw e (h .0)
 every P (n ∷ m ∷ ns) k h (inl e) = rw e (h .0)
 every P (n ∷ m ∷ ns) k h (inr o) = every P (m ∷ ns) k (h .1) o
 
-abbrev among : ℕ → List (List ℕ) → Bool
-among n [] = false
-among n (ns ∷ nss) = if member n ns then true else among n nss
+pub and-both : (t u : Bool) → T (if t then u else false) → T t × T u
+and-both true u h = (tt, h)
+and-both false u h = absurd h
 
-at-or-in : (t u : Bool) → T (if t then true else u) → T t ⊎ T u
-at-or-in true u h = inl tt
-at-or-in false u h = inr h
+pub passed : (t : ℕ → Bool) (ns : List ℕ) → T (each? t ns) → Every (λ n. T (t n)) ns
+passed t [] h = tt
+passed t (n ∷ ns) h = let g = and-both (t n) (each? t ns) h in (g .0, passed t ns (g .1))
 
-one-of : (ns : List ℕ) (n : ℕ) → T (member n ns) → OneOf ns n
+-- n is in one of the lists
+abbrev pub among : List (List ℕ) → ℕ → Bool
+among [] n = false
+among (ns ∷ nss) n = if member n ns then true else among nss n
+
+or-either : (t u : Bool) → T (if t then true else u) → T t ⊎ T u
+or-either true u h = inl tt
+or-either false u h = inr h
+
+pub one-of : (ns : List ℕ) (n : ℕ) → T (member n ns) → OneOf ns n
 one-of [] n t = t
-one-of (m ∷ []) n t = ⊎-elim (λ q. eqb→eq n m q) (λ r. absurd r) (at-or-in (eqb n m) false t)
+one-of (m ∷ []) n t = ⊎-elim (λ q. eqb→eq n m q) (λ r. absurd r) (or-either (eqb n m) false t)
 one-of (m ∷ l ∷ ns) n t =
-    ⊎-elim (λ q. inl (eqb→eq n m q)) (λ r. inr (one-of (l ∷ ns) n r)) (at-or-in (eqb n m) (member n (l ∷ ns)) t)
+    ⊎-elim (λ q. inl (eqb→eq n m q)) (λ r. inr (one-of (l ∷ ns) n r)) (or-either (eqb n m) (member n (l ∷ ns)) t)
 
-none-of : (nss : List (List ℕ)) (k : ℕ) → NoneOf nss k → (n : ℕ) → T (among n nss) → k ≡ n → ⊥
+pub none-of : (nss : List (List ℕ)) (k : ℕ) → NoneOf nss k → (n : ℕ) → T (among nss n) → k ≡ n → ⊥
 none-of [] k h n t e = t
 none-of (ns ∷ nss) k h n t e =
     ⊎-elim
     (λ q. h .1 (rw e (one-of ns n q)))
     (λ r. none-of nss k (h .0) n r e)
-    (at-or-in (member n ns) (among n nss) t)
+    (or-either (member n ns) (among nss n) t)
 
--- the codes of the arms, the last arm's first
-abbrev pub arms : List (List ℕ)
-arms =
-    (161 ∷ [])
-    ∷ (160 ∷ [])
-    ∷ (144 ∷ 146 ∷ [])
-    ∷ (141 ∷ 143 ∷ 145 ∷ [])
-    ∷ (140 ∷ 142 ∷ [])
-    ∷ (131 ∷ [])
-    ∷ (130 ∷ 195 ∷ 198 ∷ 201 ∷ 204 ∷ [])
-    ∷ (73 ∷ [])
-    ∷ (72 ∷ [])
-    ∷ (60 ∷ 62 ∷ 64 ∷ [])
-    ∷ (59 ∷ [])
-    ∷ (58 ∷ [])
-    ∷ (57 ∷ [])
-    ∷ (54 ∷ 56 ∷ [])
-    ∷ (36 ∷ [])
-    ∷ (31 ∷ 33 ∷ [])
-    ∷ (30 ∷ 32 ∷ [])
-    ∷ (21 ∷ 23 ∷ [])
-    ∷ (20 ∷ 22 ∷ [])
-    ∷ (4 ∷ 6 ∷ [])
-    ∷ (2 ∷ 5 ∷ [])
-    ∷ (1 ∷ 3 ∷ [])
+-- the codes of the instructions other than 162, in the order of the table
+abbrev pub codes : List ℕ
+codes =
+    1 ∷ 3 ∷ 2 ∷ 4 ∷ 5 ∷ 6 ∷ 20 ∷ 21 ∷ 22 ∷ 23 ∷ 30 ∷ 31 ∷ 32 ∷ 33 ∷ 36 ∷ 54 ∷ 56 ∷ 57 ∷ 58 ∷ 59
+    ∷ 60 ∷ 62 ∷ 64 ∷ 72 ∷ 73 ∷ 130 ∷ 131 ∷ 195 ∷ 198 ∷ 201 ∷ 204 ∷ 140 ∷ 141 ∷ 142 ∷ 143 ∷ 145 ∷ 144 ∷ 146 ∷ 160 ∷ 161
     ∷ []
 
-pub ins-other : (f : List ℕ) (p k : ℕ) → NoneOf arms k → insOf f p k ≡ raise
+pub ins-other : (nss : List (List ℕ)) → T (each? (among nss) codes) → (f : List ℕ) (p k : ℕ) → NoneOf nss k → insOf f p k ≡ raise
 unfolding insOf
-ins-other f p k h =
-    let out = none-of arms k h in
+ins-other nss t f p k h =
+    let out : (n : ℕ) → T (member n codes) → k ≡ n → ⊥ =
+    λ n m. none-of nss k h n (every (λ n. T (among nss n)) codes n (passed (among nss) codes t) (one-of codes n m))
+    in
     rw (
       ne-eqb k 1 (out 1 tt),
       ne-eqb k 3 (out 3 tt),
@@ -125,3 +121,23 @@ ins-other f p k h =
       ne-eqb k 160 (out 160 tt),
       ne-eqb k 161 (out 161 tt),
     )
+
+-- one arm for each code
+abbrev pub singles : List ℕ → List (List ℕ)
+singles [] = []
+singles (n ∷ ns) = (n ∷ []) ∷ singles ns
+
+-- the codes of `plan_at`'s arms, the last arm's first, and those of `plan_other`'s
+abbrev pub atCodes : List ℕ
+atCodes =
+    204 ∷ 201 ∷ 198 ∷ 195 ∷ 146 ∷ 145 ∷ 144 ∷ 143 ∷ 142 ∷ 141 ∷ 140 ∷ 130 ∷ 54 ∷ 22 ∷ 20 ∷ 6 ∷ 5 ∷ 4 ∷ 3 ∷ 2 ∷ 1 ∷ []
+
+abbrev pub otherCodes : List ℕ
+otherCodes = 161 ∷ 160 ∷ 131 ∷ 73 ∷ 72 ∷ 64 ∷ 62 ∷ 60 ∷ 59 ∷ 58 ∷ 57 ∷ 56 ∷ 36 ∷ 33 ∷ 32 ∷ 31 ∷ 30 ∷ 23 ∷ 21 ∷ []
+
+none-both : (ns ms : List ℕ) (k : ℕ) → NoneOf (singles ns) k → NoneOf (singles ms) k → NoneOf (singles (ns ++ ms)) k
+none-both [] ms k h g = g
+none-both (n ∷ ns) ms k h g = (none-both ns ms k (h .0) g, h .1)
+
+pub no-other : (f : List ℕ) (p k : ℕ) → NoneOf (singles otherCodes) k → NoneOf (singles atCodes) k → insOf f p k ≡ raise
+no-other f p k h g = ins-other (singles (otherCodes ++ atCodes)) tt f p k (none-both otherCodes atCodes k h g)

@@ -1,5 +1,6 @@
 // Document 01, the table of codes with their effects: what the instruction at the machine's place is about to do. Nothing is written
-// here. Codes of one family share a function; the match lists no neighbours in one arm, so that it is one jump by table.
+// here. Codes of one family share a function. Each code has its own arm, which passes the code as a constant, so that after inlining a
+// step asks for the code once, by one jump table.
 use model::Into;
 use model::Plan;
 use model::Regs;
@@ -12,9 +13,19 @@ ghost use Rattle.model.specs.Words.{wordAt};
 ghost use Rattle.model.specs.File as model;
 ghost use Rattle.model.specs.Control.{machine, recOf};
 ghost use Rattle.model.specs.Instructions.{planAt};
+ghost use Rattle.code.specs.Parts.{Small};
 ghost use Rattle.heap.specs.Stores.{Lies};
 ghost use Rattle.plans.specs.Given.{planned, Body, Within, Record};
+ghost use Rattle.plan.specs.Kinds.{NoneOf, singles, atCodes};
 ghost use Rattle.plan.specs.Ready.{Ready};
+
+// The index of word s of a frame, whose base is the control stack's word there.
+fn frame_word(file: &[u8], ctl: &[u32], place: usize, base: usize) -> usize
+    requires { ⌜ Body (now file) place 2 × (base < length (now ctl)) × (length (now ctl) ≤ 1280) ⌝ }
+    ensures { λ r. ⌜ Small 8589934592 (wordAt (now (ctl .entry)) base + model.operand (now (file .entry)) place) r ⌝ }
+{
+    plans::wide(ctl[base]) + code::operand(file, place)
+}
 
 // 20 and 22: word s of the frame.
 fn main_locals(file: &[u8], main: &[u32], ctl: &[u32], regs: Regs, kind: u8) -> Plan
@@ -24,8 +35,7 @@ fn main_locals(file: &[u8], main: &[u32], ctl: &[u32], regs: Regs, kind: u8) -> 
 {
     let place = regs.place;
     let top = regs.mtop;
-    let frame = 5 * (regs.frame - 1);
-    let at = plans::wide(ctl[frame]) + code::operand(file, place);
+    let at = frame_word(file, ctl, place, 5 * (regs.frame - 1));
     if kind == 20 {
         return plans::writes(Into::Main, place + 3, top + 1, regs.ptop, top, main[at]);
     }
@@ -41,8 +51,7 @@ fn ptr_locals(file: &[u8], ptr: &[u32], ctl: &[u32], regs: Regs, kind: u8) -> Pl
 {
     let place = regs.place;
     let top = regs.ptop;
-    let frame = 5 * (regs.frame - 1) + 1;
-    let at = plans::wide(ctl[frame]) + code::operand(file, place);
+    let at = frame_word(file, ctl, place, 5 * (regs.frame - 1) + 1);
     if kind == 21 {
         return plans::writes(Into::Pointer, place + 3, regs.mtop, top + 1, top, ptr[at]);
     }
@@ -176,13 +185,13 @@ fn retracts(file: &[u8], main: &[u32], ptr: &[u32], regs: Regs, kind: u8) -> Pla
     match kind {
         60 => {
             let top = regs.mtop - 1;
-            plans::writes(Into::Main, place + 5, m, q, m - 1, main[top])
+            plans::writes(Into::DropMain, place + 5, m, q, m - 1, main[top])
         }
         62 => {
             let top = regs.ptop - 1;
-            plans::writes(Into::Pointer, place + 5, m, q, q - 1, ptr[top])
+            plans::writes(Into::DropPointer, place + 5, m, q, q - 1, ptr[top])
         }
-        _ => plans::writes(Into::Nothing, place + 5, m, q, 0, 0),
+        _ => plans::writes(Into::Drop, place + 5, m, q, 0, 0),
     }
 }
 
@@ -204,6 +213,45 @@ fn same_ptr(ptr: &[u32], regs: Regs) -> Plan
     )
 }
 
+// The codes beyond `plan_at`'s, in a function of their own for its length; the two matches become one jump table.
+fn plan_other(
+    file: &[u8],
+    table: &[usize; 64],
+    main: &[u32],
+    ptr: &[u32],
+    ctl: &[u32],
+    heap: &[u32],
+    regs: Regs,
+    kind: u8,
+) -> Plan
+    requires { ⌜ Ready (now file) (now table) (machine regs (now main) (now ptr) (now ctl) (now heap))
+        × (model.byteAt (now file) (regs .place) ≡ kind) × NoneOf (singles atCodes) kind ⌝ }
+    ensures { λ r. ⌜ r ≡ planAt (now (file .entry)) (machine regs (now (main .entry)) (now (ptr .entry)) (now (ctl .entry)) (now (heap .entry))) ⌝ }
+{
+    match kind {
+        21 => ptr_locals(file, ptr, ctl, regs, 21),
+        23 => ptr_locals(file, ptr, ctl, regs, 23),
+        30 => plain_fields(file, main, ptr, heap, regs, 30),
+        31 => ptr_fields(file, ptr, heap, regs, 31),
+        32 => plain_fields(file, main, ptr, heap, regs, 32),
+        33 => ptr_fields(file, ptr, heap, regs, 33),
+        36 => forms(file, heap, regs),
+        56 => literals(file, regs, 56),
+        57 => plans::pushes(regs, 0),
+        58 => plans::pushes(regs, heap[1]),
+        59 => set_root(ptr, regs),
+        60 => retracts(file, main, ptr, regs, 60),
+        62 => retracts(file, main, ptr, regs, 62),
+        64 => retracts(file, main, ptr, regs, 64),
+        72 => plans::calls(file, table, main, ptr, ctl, regs),
+        73 => plans::leaves(ctl, regs),
+        131 => same_ptr(ptr, regs),
+        160 => plans::opens(ctl, regs),
+        161 => plans::writes(Into::Close, regs.place + 1, regs.mtop, regs.ptop, 0, 0),
+        _ => Plan::Thrown,
+    }
+}
+
 // The plan of the instruction at the machine's place; table holds the procedures' heads.
 pub fn plan_at(
     file: &[u8],
@@ -220,28 +268,27 @@ pub fn plan_at(
     let place = regs.place;
     let kind = file[place];
     match kind {
-        1 | 3 => plans::jumps(file, regs, kind),
-        2 | 5 => plans::on_false(file, main, regs, kind),
-        4 | 6 => plans::on_true(file, main, regs, kind),
-        20 | 22 => main_locals(file, main, ctl, regs, kind),
-        21 | 23 => ptr_locals(file, ptr, ctl, regs, kind),
-        30 | 32 => plain_fields(file, main, ptr, heap, regs, kind),
-        31 | 33 => ptr_fields(file, ptr, heap, regs, kind),
-        36 => forms(file, heap, regs),
-        54 | 56 => literals(file, regs, kind),
-        57 => plans::pushes(regs, 0),
-        58 => plans::pushes(regs, heap[1]),
-        59 => set_root(ptr, regs),
-        60 | 62 | 64 => retracts(file, main, ptr, regs, kind),
-        72 => plans::calls(file, table, main, ptr, ctl, regs),
-        73 => plans::leaves(ctl, regs),
-        130 | 195 | 198 | 201 | 204 => plans::compares(main, regs, kind),
-        131 => same_ptr(ptr, regs),
-        140 | 142 => plans::sums(main, regs, kind),
-        141 | 143 | 145 => plans::products(main, regs, kind),
-        144 | 146 => plans::unaries(main, regs, kind),
-        160 => plans::opens(ctl, regs),
-        161 => plans::writes(Into::Close, place + 1, regs.mtop, regs.ptop, 0, 0),
-        _ => Plan::Thrown,
+        1 => plans::jumps(file, regs, 1),
+        2 => plans::on_false(file, main, regs, 2),
+        3 => plans::jumps(file, regs, 3),
+        4 => plans::on_true(file, main, regs, 4),
+        5 => plans::on_false(file, main, regs, 5),
+        6 => plans::on_true(file, main, regs, 6),
+        20 => main_locals(file, main, ctl, regs, 20),
+        22 => main_locals(file, main, ctl, regs, 22),
+        54 => literals(file, regs, 54),
+        130 => plans::compares(main, regs, 130),
+        140 => plans::sums(main, regs, 140),
+        141 => plans::products(main, regs, 141),
+        142 => plans::sums(main, regs, 142),
+        143 => plans::products(main, regs, 143),
+        144 => plans::unaries(main, regs, 144),
+        145 => plans::products(main, regs, 145),
+        146 => plans::unaries(main, regs, 146),
+        195 => plans::compares(main, regs, 195),
+        198 => plans::compares(main, regs, 198),
+        201 => plans::compares(main, regs, 201),
+        204 => plans::compares(main, regs, 204),
+        _ => plan_other(file, table, main, ptr, ctl, heap, regs, kind),
     }
 }

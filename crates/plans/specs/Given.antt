@@ -2,6 +2,7 @@
 use Prim.Native.Nat.{ℕ, _+_, _-_, _*_, _<_, _≤_}
 use mathlib.Core.Bool.{true, false}
 use mathlib.Core.List.{List, [], _∷_}
+use mathlib.Core.Logic.{_⊎_, inl, inr}
 use mathlib.Core.Path.{_≡_, _∙_, ap}
 use lib.ListN.{length, getD}
 use borrow.Author.Tests.{eq-eqb, ne-eqb, le-leb, lt-leb}
@@ -51,6 +52,11 @@ unfoldable pub Binary : ℕ → ℕ → ℕ → Value → Type 0
 Binary k a b v =
     (f : List ℕ) (p : ℕ) (m : Machine) (q : ℕ) → mainWord m 2 ≡ a → mainWord m 1 ≡ b →
     onValue v (λ w. write Main q (mtop m - 1) (ptop m) (mtop m - 2) w) ≡ planOf f m q (insOf f p k)
+
+-- of two codes, the one that a test has left
+pub other : {A B : Type 0} → A ⊎ B → (A → ⊥) → B
+other (inl a) n = absurd (n a)
+other (inr b) n = b
 
 -- a word's truth
 pub is-true : (w : ℕ) → (w ≡ 0 → ⊥) → truth w ≡ true

@@ -9,6 +9,7 @@ ghost use mathlib.Core.Path.{_≡_};
 ghost use mathlib.Core.List.{List};
 ghost use mathlib.Core.Logic.{_⊎_};
 ghost use Prim.Native.Nat.{ℕ, _+_, _<_, _≤_};
+ghost use Rattle.model.specs.Words.{valueOf};
 ghost use Rattle.model.specs.Control.{machine};
 ghost use Rattle.model.specs.Instructions.{write, onValue};
 ghost use Rattle.code.specs.Parts.{Small};
@@ -27,7 +28,17 @@ pub fn writes(into: Into, place: usize, mtop: usize, ptop: usize, at: usize, wor
     })
 }
 
-// A result on the main stack, or exception 1.
+// A whole number's word on the main stack, or exception 1.
+fn number(z: i64, place: usize, mtop: usize, ptop: usize, at: usize) -> Plan
+    ensures { λ r. ⌜ r ≡ onValue (valueOf z) (λ w. write Into.Main place mtop ptop at w) ⌝ }
+{
+    if !words::fits(z) {
+        return Plan::Overflow;
+    }
+    writes(Into::Main, place, mtop, ptop, at, words::narrow(z))
+}
+
+// The same for a division, where 0 divides nothing.
 fn result(value: Value, place: usize, mtop: usize, ptop: usize, at: usize) -> Plan
     ensures { λ r. ⌜ r ≡ onValue value (λ w. write Into.Main place mtop ptop at w) ⌝ }
 {
@@ -207,36 +218,20 @@ pub fn compares(main: &[u32], regs: Regs, kind: u8) -> Plan
     writes(Into::Main, regs.place + 1, top, regs.ptop, at, word)
 }
 
-fn sum(kind: u8, a: u32, b: u32) -> Value
-    requires { ⌜ (kind ≡ 140) ⊎ (kind ≡ 142) ⌝ }
-    ensures { λ r. ⌜ Binary kind a b r ⌝ }
-{
-    if kind == 140 {
-        return words::plus(a, b);
-    }
-    words::minus(a, b)
-}
-
 // 140 and 142.
 pub fn sums(main: &[u32], regs: Regs, kind: u8) -> Plan
     requires { ⌜ (regs .place < 4096) × Within (now main) (regs .mtop) × (2 ≤ regs .mtop) × ((kind ≡ 140) ⊎ (kind ≡ 142)) ⌝ }
     ensures { λ r. ⌜ ((f p c h : List ℕ) → r ≡ planned f (machine regs (now (main .entry)) p c h) 1 kind) ⌝ }
 {
+    let place = regs.place + 1;
     let top = regs.mtop - 1;
     let at = regs.mtop - 2;
-    let value = sum(kind, main[at], main[top]);
-    result(value, regs.place + 1, top, regs.ptop, at)
-}
-
-fn product(kind: u8, a: u32, b: u32) -> Value
-    requires { ⌜ (kind ≡ 141) ⊎ ((kind ≡ 143) ⊎ (kind ≡ 145)) ⌝ }
-    ensures { λ r. ⌜ Binary kind a b r ⌝ }
-{
-    match kind {
-        141 => words::times(a, b),
-        143 => words::div(a, b),
-        _ => words::rem(a, b),
+    let a = main[at];
+    let b = main[top];
+    if kind == 140 {
+        return number(words::plus(a, b), place, top, regs.ptop, at);
     }
+    number(words::minus(a, b), place, top, regs.ptop, at)
 }
 
 // 141, 143 and 145.
@@ -244,10 +239,18 @@ pub fn products(main: &[u32], regs: Regs, kind: u8) -> Plan
     requires { ⌜ (regs .place < 4096) × Within (now main) (regs .mtop) × (2 ≤ regs .mtop) × ((kind ≡ 141) ⊎ ((kind ≡ 143) ⊎ (kind ≡ 145))) ⌝ }
     ensures { λ r. ⌜ ((f p c h : List ℕ) → r ≡ planned f (machine regs (now (main .entry)) p c h) 1 kind) ⌝ }
 {
+    let place = regs.place + 1;
     let top = regs.mtop - 1;
     let at = regs.mtop - 2;
-    let value = product(kind, main[at], main[top]);
-    result(value, regs.place + 1, top, regs.ptop, at)
+    let a = main[at];
+    let b = main[top];
+    if kind == 141 {
+        return number(words::times(a, b), place, top, regs.ptop, at);
+    }
+    if kind == 143 {
+        return result(words::div(a, b), place, top, regs.ptop, at);
+    }
+    result(words::rem(a, b), place, top, regs.ptop, at)
 }
 
 // 144 and 146.
@@ -259,7 +262,7 @@ pub fn unaries(main: &[u32], regs: Regs, kind: u8) -> Plan
     let at = regs.mtop - 1;
     let a = main[at];
     if kind == 144 {
-        return result(words::neg(a), place, regs.mtop, regs.ptop, at);
+        return number(words::neg(a), place, regs.mtop, regs.ptop, at);
     }
     writes(Into::Main, place, regs.mtop, regs.ptop, at, words::not(a))
 }

@@ -1,7 +1,7 @@
--- Whole numbers in the machine's bits: those of words fit 32 bits, their sums, differences and products 64, and the quotient of all but -2^31 by -1 fits 32.
+-- Whole numbers in the machine's bits: those of words fit 32 bits, their sums, differences, products and negatives 64, and the quotient of all but -2^31 by -1 fits 32.
 -- Each bound is one on `mag`, which is n of n and of -(n + 1).
 use Prim.Native.Nat.{ℕ, zero, suc, _+_, _-_, _*_, _/_, _%_, _^_, _<_, _≤_}
-use mathlib.Core.Bool.{Bool, true, false, true≢false}
+use mathlib.Core.Bool.{Bool, true, false, _&&_, true≢false}
 use mathlib.Core.Logic.{_⊎_, inl, inr, ⊎-elim}
 use mathlib.Core.Path.{_≡_, refl, sym, _∙_, ap}
 use lib.IntN.{ℤ, pos, negsuc, negℤ, _+ℤ_, _-ℤ_, _*ℤ_, subℕ, +ℤ-idl}
@@ -10,13 +10,13 @@ use lib.Dec.{ltb, lit<}
 use mir.Syntax.{Width, w32, w64}
 use mir.Val.{SFits, toZ, ofZ, sel, hbits}
 use mir.ValLaws.{toZ-ofZ, toZ-pos, toZ-neg, toZ-fits, ofZ-toZ, sfits-le}
-use borrow.Author.Tests.{lt-ltb, le-ltb, le-leb, lt-leb, ltb-true, ltb-false}
+use borrow.Author.Tests.{lt-ltb, le-ltb, le-leb, lt-leb, ltb-true, ltb-false, leb-true}
 use native.Mathlib.Decide.{decLt}
 use native.Mathlib.Nat.{div-le-self, div-lt-iff-lt-mul, mul-le-mul, le-trans, lt-of-le-of-lt}
 use native.Mathlib.Omega.{arith}
 use Rattle.model.specs.Choice.{if_then_else_}
 use Rattle.model.specs.Words.{signed, toWord, inRange, valueOf}
-use Rattle.model.specs.declared.Value.the-variants.{Word, Outside}
+use Rattle.model.specs.declared.Value.the-variants.{Word}
 
 pub split : (a b : ℕ) → (a < b) ⊎ (b ≤ a)
 split a b = elim (decLt a b) [ yes h ↦ inl h | no h ↦ inr (omega arith) ]
@@ -135,6 +135,10 @@ module _ {a b : ℕ} (f : a < 4294967296) (g : b < 4294967296) where
   product-fits =
       record { sfits = lt-of-le-of-lt (mag-times (signed a) (signed b)) (lt-of-le-of-lt (mul-le-mul (signed-fits a f .sfits) (signed-fits b g .sfits)) (lit< tt)) }
 
+-- as the machine negates: from 0
+pub negation-fits : (a : ℕ) → a < 4294967296 → SFits w64 (pos 0 -ℤ signed a)
+negation-fits a f = rw +ℤ-idl (record { sfits = omega (arith, signed-fits a f .sfits, mag-neg-one (signed a)) })
+
 -- -2^31 by -1 alone does not fit
 quot-fits : (x y : ℤ) → SFits w32 x → (x ≡ negsuc 2147483647 → ⊥) ⊎ (y ≡ negsuc 0 → ⊥) → SFits w32 (quotZ x y)
 quot-fits (pos a) (pos b) f h = record { sfits = omega (arith, f .sfits, div-le-self a b) }
@@ -167,36 +171,37 @@ pub remainder-by-one : (z : ℤ) → remZ z (negsuc 0) ≡ pos 0
 remainder-by-one (pos n) = ap pos (omega arith)
 remainder-by-one (negsuc n) = let e : suc n % 1 ≡ 0 = omega arith in rw e
 
-neg-fits : (z : ℤ) → SFits w32 z → (z ≡ negsuc 2147483647 → ⊥) → SFits w32 (negℤ z)
-neg-fits (pos n) f h = record { sfits = mag-neg-lt n 2147483648 (omega arith) (omega (arith, f .sfits)) }
-neg-fits (negsuc n) f h =
-    let k : n ≡ 2147483647 → ⊥ = λ e. h (ap negsuc e) in
-    record { sfits = omega (arith, f .sfits) }
+-- ---- the range of a word: what fits 32 bits
 
--- as the machine negates: from 0
-pub negation-fits : (a : ℕ) → a < 4294967296 → (a ≡ 2147483648 → ⊥) → SFits w32 (pos 0 -ℤ signed a)
-negation-fits a f h = rw +ℤ-idl (neg-fits (signed a) (signed-fits a f) (signed-other a (negsuc 2147483647) f h))
+pub in-range : (z : ℤ) → SFits w32 z → true ≡ inRange z
+unfolding inRange
+in-range (pos n) f = rw (le-leb n 2147483647 (omega (arith, f .sfits)))
+in-range (negsuc n) f = rw (le-leb n 2147483647 (omega (arith, f .sfits)))
 
--- ---- the value of a result: its word where it fits, Outside below and above
-
-word-value : (z : ℤ) → SFits w32 z → Word (toWord z) ≡ valueOf z
-unfolding valueOf inRange
-word-value (pos n) f = rw (le-leb n 2147483647 (omega (arith, f .sfits)))
-word-value (negsuc n) f = rw (le-leb n 2147483647 (omega (arith, f .sfits)))
-
-pub made : {r : ℕ} {z : ℤ} → SFits w32 z → r ≡ toWord z → Word r ≡ valueOf z
-made {r} {z} f e = ap Word e ∙ word-value z f
-
-pub low : (z : ℤ) → ltZ z (negsuc 2147483647) ≡ true → Outside ≡ valueOf z
-unfolding valueOf inRange
+pub low : (z : ℤ) → ltZ z (negsuc 2147483647) ≡ true → false ≡ inRange z
+unfolding inRange
 low (pos n) e = absurd (true≢false (sym e))
 low (negsuc n) e = rw (lt-leb n 2147483647 (ltb-true 2147483647 n e))
 
-pub high : (z : ℤ) → ltZ (pos 2147483647) z ≡ true → Outside ≡ valueOf z
-unfolding valueOf inRange
+pub high : (z : ℤ) → ltZ (pos 2147483647) z ≡ true → false ≡ inRange z
+unfolding inRange
 high (pos n) e = rw (lt-leb n 2147483647 (ltb-true 2147483647 n e))
 high (negsuc n) e = absurd (true≢false (sym e))
 
 pub between : (z : ℤ) → ltZ z (negsuc 2147483647) ≡ false → ltZ (pos 2147483647) z ≡ false → SFits w32 z
 between (pos n) d e = record { sfits = omega (arith, ltb-false 2147483647 n e) }
 between (negsuc n) d e = record { sfits = omega (arith, ltb-false 2147483647 n d) }
+
+left : (t : Bool) → (t && true) ≡ true → t ≡ true
+left true e = refl
+left false e = e
+
+pub range-fits : (z : ℤ) → inRange z ≡ true → SFits w32 z
+unfolding inRange
+range-fits (pos n) e = record { sfits = omega (arith, leb-true n 2147483647 e) }
+range-fits (negsuc n) e = record { sfits = omega (arith, leb-true n 2147483647 (left _ e)) }
+
+-- the value of a result that fits is its word
+pub made : {r : ℕ} {z : ℤ} → SFits w32 z → r ≡ toWord z → Word r ≡ valueOf z
+unfolding valueOf
+made {r} {z} f e = rw (← (in-range z f)) (ap Word e)

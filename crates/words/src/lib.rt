@@ -2,8 +2,10 @@
 // "div rounds towards zero and A = B × quotient + remainder".
 // A word becomes a signed number, is computed with, and becomes a word again.
 use model::Value;
+ghost use mathlib.Core.Bool.{true};
 ghost use mathlib.Core.Path.{_≡_};
-ghost use Rattle.model.specs.Words.{signed, toWord, valueOf, Op, operate, Op1, operate1};
+ghost use lib.IntN.{negℤ, _+ℤ_, _-ℤ_, _*ℤ_};
+ghost use Rattle.model.specs.Words.{signed, toWord, inRange, Op, operate, Op1, operate1};
 
 const LEAST: u32 = 2147483648; // the word of -2^31
 
@@ -38,35 +40,49 @@ fn word(z: i32) -> u32
     }
 }
 
-// a result: its word, or that it lies outside the range
-fn value(z: i64) -> Value
-    ensures { λ r. ⌜ r ≡ valueOf z ⌝ }
+// whether a result is a word's: the caller branches on it, where a Value would be asked twice
+pub fn fits(z: i64) -> bool
+    ensures { λ r. ⌜ r ≡ inRange z ⌝ }
 {
     if z < -2147483648 {
-        return Value::Outside;
+        return false;
     }
     if 2147483647 < z {
-        return Value::Outside;
+        return false;
     }
-    Value::Word(word(z as i32))
+    true
 }
 
-pub fn plus(a: u32, b: u32) -> Value
-    ensures { λ r. ⌜ r ≡ operate Op.plus a b ⌝ }
+// the word of a result that fits
+pub fn narrow(z: i64) -> u32
+    requires { ⌜ inRange z ≡ true ⌝ }
+    ensures { λ r. ⌜ r ≡ toWord z ⌝ }
 {
-    value(wide(a) + wide(b))
+    word(z as i32)
 }
 
-pub fn minus(a: u32, b: u32) -> Value
-    ensures { λ r. ⌜ r ≡ operate Op.minus a b ⌝ }
+pub fn plus(a: u32, b: u32) -> i64
+    ensures { λ r. ⌜ r ≡ signed a +ℤ signed b ⌝ }
 {
-    value(wide(a) - wide(b))
+    wide(a) + wide(b)
 }
 
-pub fn times(a: u32, b: u32) -> Value
-    ensures { λ r. ⌜ r ≡ operate Op.times a b ⌝ }
+pub fn minus(a: u32, b: u32) -> i64
+    ensures { λ r. ⌜ r ≡ signed a -ℤ signed b ⌝ }
 {
-    value(wide(a) * wide(b))
+    wide(a) - wide(b)
+}
+
+pub fn times(a: u32, b: u32) -> i64
+    ensures { λ r. ⌜ r ≡ signed a *ℤ signed b ⌝ }
+{
+    wide(a) * wide(b)
+}
+
+pub fn neg(a: u32) -> i64
+    ensures { λ r. ⌜ r ≡ negℤ (signed a) ⌝ }
+{
+    -wide(a)
 }
 
 // rounded towards zero; -2^31 by -1 is the one quotient outside the range
@@ -93,16 +109,6 @@ pub fn rem(a: u32, b: u32) -> Value
         return Value::Word(0);
     }
     Value::Word(word(whole(a) % whole(b)))
-}
-
-// -2^31 has no negative in the range
-pub fn neg(a: u32) -> Value
-    ensures { λ r. ⌜ r ≡ operate1 Op1.neg a ⌝ }
-{
-    if a == LEAST {
-        return Value::Outside;
-    }
-    Value::Word(word(-whole(a)))
 }
 
 pub fn not(a: u32) -> u32

@@ -8,7 +8,7 @@ use Rattle.model.specs.Checker.{basicEffect, handlerAt}
 use Rattle.code.specs.Bodies.{after-above}
 use Rattle.effects.specs.Shape.{shapeOf}
 use Rattle.effects.specs.Site.{room}
-use Rattle.effects.specs.Kinds.{Between, body-jumps, body-locals, body-blocks, ins-other}
+use Rattle.effects.specs.Kinds.{Between, body-jumps, body-locals, body-blocks, ins-outside}
 use Rattle.effects.proofs.shape_at.Statement.{statement}
 use Rattle.effects.proofs.shape_at.Tie as tie
 
@@ -156,7 +156,7 @@ returns-17 c =
     (λ t. inr (inr (inr (omega arith))))))
     (c .before .if1 .came)
     in
-    rw (c .effect11 .ensures, ins-other f p (byteAt f p) between (c .before .before .match .rest))
+    rw (c .effect11 .ensures, ins-outside f p (byteAt f p) between (c .before .before .match .rest))
 
 pub shape-at-spec : {M : Type 1} → statement M
 shape-at-spec =

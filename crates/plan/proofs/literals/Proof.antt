@@ -1,11 +1,9 @@
 -- `plan::literals`: at each of the two codes the definition computes.
-use mathlib.Core.Logic.{⊎-elim}
-use mathlib.Core.Path.{_≡_}
 use native.Mathlib.Omega.{arith}
 use borrow.Author.Needs.{needs}
 use Rattle.model.specs.File.{bodies, bodyOf, insOf}
 use Rattle.model.specs.Instructions.{basicPlan, planOf}
-use Rattle.plans.specs.Given.{planned}
+use Rattle.plans.specs.Given.{planned, other}
 use Rattle.plan.proofs.literals.Statement.{statement}
 use Rattle.plan.proofs.literals.Tie as tie
 
@@ -41,7 +39,7 @@ add-writes-4 c = search needs
 operand4-requires : tie.Need-operand4-requires
 unfolding bodyOf bodies
 operand4-requires c κs =
-    let e : c .before .before .args .kind ≡ 56 = ⊎-elim (λ e. absurd (c .if1 .left e)) (λ e. e) (c .before .before .pre .2) in
+    let e = other (c .before .before .pre .2) (c .if1 .left) in
     let b = rw e at (c .before .before .pre .0) in
     omega (arith, b .inside)
 
@@ -52,8 +50,7 @@ returns-2 : tie.Need-returns-2
 unfolding planned planOf basicPlan insOf bodyOf bodies
 returns-2 c =
     λ m p q h.
-    let e : c .before .before .before .before .args .kind ≡ 56 = ⊎-elim (λ e. absurd (c .before .before .if1 .left e)) (λ e. e)
-    (c .before .before .before .before .pre .2) in
+    let e = other (c .before .before .before .before .pre .2) (c .before .before .if1 .left) in
     rw (c .writes2 .ensures, e, c .before .operand4 .ensures .is)
 
 pub literals-spec : {M : Type 1} → statement M

@@ -1,6 +1,6 @@
 -- `plan::plain_fields`: at each of the two codes the definition computes; its tests of the object are the code's.
 use mathlib.Core.Logic.{⊎-elim}
-use mathlib.Core.Path.{_≡_, _∙_, sym}
+use mathlib.Core.Path.{_∙_, sym}
 use native.Mathlib.Omega.{arith}
 use borrow.Author.Needs.{needs}
 use borrow.Author.Tests.{eq-eqb, ne-eqb, not-true, not-false}
@@ -8,7 +8,7 @@ use Rattle.model.specs.File.{insOf}
 use Rattle.model.specs.Instructions.{basicPlan, planOf}
 use Rattle.heap.specs.Stores.{in-plain}
 use Rattle.plan.specs.Given.{not-nil, lies}
-use Rattle.plans.specs.Given.{planned}
+use Rattle.plans.specs.Given.{planned, other}
 use Rattle.plan.proofs.plain_fields.Statement.{statement}
 use Rattle.plan.proofs.plain_fields.Tie as tie
 
@@ -101,8 +101,7 @@ returns-3 c =
 sub-value : tie.Need-sub-value
 sub-value c =
     let pre = c .before .before .before .before .before .before .before .before .before .before .before .before .before .pre in
-    let e : c .before .before .before .before .before .before .before .before .before .before .before .before .before .args .kind ≡ 32 = ⊎-elim
-    (λ e. absurd (c .before .if3 .left e)) (λ e. e) (pre .6) in
+    let e = other (pre .6) (c .before .if3 .left) in
     omega (arith, pre .5 e)
 
 add-writes-3 : tie.Need-add-writes-3
@@ -114,8 +113,7 @@ mul-writes-2 c = search needs
 shared-slice-read-writes-2 : tie.Need-shared-slice-read-writes-2
 shared-slice-read-writes-2 c =
     let pre = c .before .before .before .before .before .before .before .before .before .before .before .before .before .before .pre in
-    let e : c .before .before .before .before .before .before .before .before .before .before .before .before .before .before .args .kind ≡ 32 = ⊎-elim
-    (λ e. absurd (c .before .before .if3 .left e)) (λ e. e) (pre .6) in
+    let e = other (pre .6) (c .before .before .if3 .left) in
     omega (arith, pre .5 e)
 
 writes-requires-2 : tie.Need-writes-requires-2
@@ -128,8 +126,7 @@ returns-4 c =
     let asked = c .before .before .before .before .before in
     let read = asked .before .before .before in
     let pre = c .before .before .before .before .before .before .before .before .before .before .before .before .before .before .before .pre in
-    let e : c .before .before .before .before .before .before .before .before .before .before .before .before .before .before .before .args .kind ≡ 32 = ⊎-elim
-    (λ e. absurd (c .before .before .before .if3 .left e)) (λ e. e) (pre .6) in
+    let e = other (pre .6) (c .before .before .before .if3 .left) in
     let n = not-nil (read .wide .ensures .is) (asked .before .before .if1 .left) in
     let t = rw (
       read .wide .ensures .is,

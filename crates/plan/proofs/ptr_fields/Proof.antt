@@ -1,6 +1,6 @@
 -- `plan::ptr_fields`: at each of the two codes the definition computes; its tests of the object are the code's.
 use mathlib.Core.Logic.{⊎-elim}
-use mathlib.Core.Path.{_≡_, _∙_, sym}
+use mathlib.Core.Path.{_∙_, sym}
 use native.Mathlib.Omega.{arith}
 use borrow.Author.Needs.{needs}
 use borrow.Author.Tests.{eq-eqb, ne-eqb, not-true, not-false}
@@ -8,7 +8,7 @@ use Rattle.model.specs.File.{insOf}
 use Rattle.model.specs.Instructions.{basicPlan, planOf}
 use Rattle.heap.specs.Stores.{in-ptrs}
 use Rattle.plan.specs.Given.{not-nil, lies}
-use Rattle.plans.specs.Given.{planned}
+use Rattle.plans.specs.Given.{planned, other}
 use Rattle.plan.proofs.ptr_fields.Statement.{statement}
 use Rattle.plan.proofs.ptr_fields.Tie as tie
 
@@ -96,8 +96,7 @@ returns-3 c =
 sub-value : tie.Need-sub-value
 sub-value c =
     let pre = c .before .before .before .before .before .before .before .before .before .before .before .before .pre in
-    let e : c .before .before .before .before .before .before .before .before .before .before .before .before .args .kind ≡ 33 = ⊎-elim
-    (λ e. absurd (c .before .if3 .left e)) (λ e. e) (pre .5) in
+    let e = other (pre .5) (c .before .if3 .left) in
     omega (arith, pre .4 e)
 
 add-writes-2 : tie.Need-add-writes-2
@@ -119,8 +118,7 @@ returns-4 c =
     let asked = c .before .before .before .before .before in
     let read = asked .before .before .before in
     let pre = c .before .before .before .before .before .before .before .before .before .before .before .before .before .before .pre in
-    let e : c .before .before .before .before .before .before .before .before .before .before .before .before .before .before .args .kind ≡ 33 = ⊎-elim
-    (λ e. absurd (c .before .before .before .if3 .left e)) (λ e. e) (pre .5) in
+    let e = other (pre .5) (c .before .before .before .if3 .left) in
     let n = not-nil (read .wide .ensures .is) (asked .before .before .if1 .left) in
     let t = rw (
       read .wide .ensures .is,

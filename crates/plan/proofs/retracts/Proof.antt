@@ -1,11 +1,9 @@
 -- `plan::retracts`: at each of the three codes the definition computes.
-use mathlib.Core.Logic.{⊎-elim}
-use mathlib.Core.Path.{_≡_}
 use native.Mathlib.Omega.{arith}
 use borrow.Author.Needs.{needs}
 use Rattle.model.specs.File.{insOf}
 use Rattle.model.specs.Instructions.{basicPlan, planOf}
-use Rattle.plans.specs.Given.{planned}
+use Rattle.plans.specs.Given.{planned, other}
 use Rattle.plan.proofs.retracts.Statement.{statement}
 use Rattle.plan.proofs.retracts.Tie as tie
 
@@ -108,8 +106,7 @@ unfolding planned planOf basicPlan insOf
 returns-3 c =
     λ p h.
     let n = c .before .match .rest in
-    let e : c .before .before .before .before .before .before .before .before .before .args .kind ≡ 64 = ⊎-elim (λ e. absurd (n .0 .1 e))
-    (⊎-elim (λ e. absurd (n .1 e)) (λ e. e)) (c .before .before .before .before .before .before .before .before .before .pre .7) in
+    let e = other (other (c .before .before .before .before .before .before .before .before .before .pre .7) (n .0 .1)) (n .1) in
     rw (
       c .writes3 .ensures,
       e,

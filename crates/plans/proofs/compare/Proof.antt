@@ -1,10 +1,8 @@
 -- `plans::compare`: at each of the five codes the definition computes, and the comparison is the one that `words` ensures.
-use mathlib.Core.Logic.{⊎-elim}
-use mathlib.Core.Path.{_≡_}
 use borrow.Author.Needs.{needs}
 use Rattle.model.specs.File.{insOf}
 use Rattle.model.specs.Instructions.{basicPlan, planOf}
-use Rattle.plans.specs.Given.{Binary}
+use Rattle.plans.specs.Given.{Binary, other}
 use Rattle.plans.proofs.compare.Statement.{statement}
 use Rattle.plans.proofs.compare.Tie as tie
 
@@ -44,10 +42,7 @@ unfolding Binary planOf basicPlan insOf
 returns-5 c =
     λ f p m q ea eb.
     let n = c .before .match .rest in
-    let e : c .before .before .args .kind ≡ 204 =
-    ⊎-elim (λ e. absurd (n .0 .0 .0 .1 e))
-    (⊎-elim (λ e. absurd (n .0 .0 .1 e)) (⊎-elim (λ e. absurd (n .0 .1 e)) (⊎-elim (λ e. absurd (n .1 e)) (λ e. e)))) (c .before .before .pre)
-    in
+    let e = other (other (other (other (c .before .before .pre) (n .0 .0 .0 .1)) (n .0 .0 .1)) (n .0 .1)) (n .1) in
     rw (e, ea, eb, ← (c .ge .ensures))
 
 pub compare-spec : {M : Type 1} → statement M

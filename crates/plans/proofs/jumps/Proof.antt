@@ -1,10 +1,8 @@
 -- `plans::jumps`: at each of the two codes the definition computes.
-use mathlib.Core.Logic.{⊎-elim}
-use mathlib.Core.Path.{_≡_}
 use borrow.Author.Needs.{needs}
 use Rattle.model.specs.File.{insOf}
 use Rattle.model.specs.Instructions.{planOf}
-use Rattle.plans.specs.Given.{planned}
+use Rattle.plans.specs.Given.{planned, other}
 use Rattle.plans.proofs.jumps.Statement.{statement}
 use Rattle.plans.proofs.jumps.Tie as tie
 
@@ -28,8 +26,7 @@ returns-2 : tie.Need-returns-2
 unfolding planned planOf insOf
 returns-2 c =
     λ m p q h.
-    let e : c .before .before .before .before .args .kind ≡ 3 = ⊎-elim (λ e. absurd (c .before .before .if1 .left e)) (λ e. e)
-    (c .before .before .before .before .pre .1) in
+    let e = other (c .before .before .before .before .pre .1) (c .before .before .if1 .left) in
     rw (c .writes2 .ensures, e, c .before .backwards .ensures .is)
 
 pub jumps-spec : {M : Type 1} → statement M

@@ -1,10 +1,9 @@
 -- `plans::on_true`: at each of the two codes the definition computes, but for its test of the word, which the code makes too.
 use mathlib.Core.Logic.{⊎-elim}
-use mathlib.Core.Path.{_≡_}
 use borrow.Author.Needs.{needs}
 use Rattle.model.specs.File.{insOf}
 use Rattle.model.specs.Instructions.{planOf}
-use Rattle.plans.specs.Given.{is-true, is-false, planned}
+use Rattle.plans.specs.Given.{is-true, is-false, planned, other}
 use Rattle.plans.proofs.on_true.Statement.{statement}
 use Rattle.plans.proofs.on_true.Tie as tie
 
@@ -57,8 +56,7 @@ returns-3 : tie.Need-returns-3
 unfolding planned planOf insOf
 returns-3 c =
     λ p q h.
-    let e : c .before .before .before .before .before .before .before .before .args .kind ≡ 6 = ⊎-elim
-    (λ e. absurd (c .before .before .if2 .left e)) (λ e. e) (c .before .before .before .before .before .before .before .before .pre .3) in
+    let e = other (c .before .before .before .before .before .before .before .before .pre .3) (c .before .before .if2 .left) in
     rw (c .writes3 .ensures, e, is-true _ (c .before .before .before .if1 .left), c .before .forwards .ensures .is)
 
 pub on-true-spec : {M : Type 1} → statement M

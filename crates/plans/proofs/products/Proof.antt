@@ -1,10 +1,17 @@
--- `plans::products`: by what `product` ensures of the two topmost words.
-use mathlib.Core.Path.{_∙_, refl}
+-- `plans::products`: at each of the three codes the definition computes, and the operation is the one that `words` ensures.
+use mathlib.Core.Path.{_∙_}
+use mir.Syntax.{w64}
+use mir.ValLaws.{toZ-ofZ}
+use Rattle.model.specs.File.{insOf}
+use Rattle.model.specs.Instructions.{basicPlan, planOf}
+use Rattle.model.specs.Words.{operate}
+use Rattle.plans.specs.Given.{planned, other}
 use borrow.Author.Needs.{needs}
-use Rattle.model.specs.Control.{machine}
-use Rattle.plans.specs.Given.{Binary, planned}
 use Rattle.plans.proofs.products.Statement.{statement}
 use Rattle.plans.proofs.products.Tie as tie
+
+add-place : tie.Need-add-place
+add-place c = search needs
 
 sub-top : tie.Need-sub-top
 sub-top c = search needs
@@ -12,42 +19,71 @@ sub-top c = search needs
 sub-at : tie.Need-sub-at
 sub-at c = search needs
 
-mul-product : tie.Need-mul-product
-mul-product c = search needs
+mul-a : tie.Need-mul-a
+mul-a c = search needs
 
-shared-slice-read-product : tie.Need-shared-slice-read-product
-shared-slice-read-product c = search needs
+shared-slice-read-a : tie.Need-shared-slice-read-a
+shared-slice-read-a c = search needs
 
-mul-product-2 : tie.Need-mul-product-2
-mul-product-2 c = search needs
+mul-b : tie.Need-mul-b
+mul-b c = search needs
 
-shared-slice-read-product-2 : tie.Need-shared-slice-read-product-2
-shared-slice-read-product-2 c = search needs
+shared-slice-read-b : tie.Need-shared-slice-read-b
+shared-slice-read-b c = search needs
 
-product-requires : tie.Need-product-requires
-product-requires c κs = search needs
+times-requires : tie.Need-times-requires
+times-requires c κs = search needs
 
-add-result : tie.Need-add-result
-add-result c = search needs
+number-requires : tie.Need-number-requires
+number-requires c κs = search needs
+
+returns : tie.Need-returns
+unfolding planned planOf basicPlan insOf operate
+returns c =
+    λ f p q h.
+    let z = c .before .times in
+    rw (c .number .ensures, c .before .before .if1 .taken, toZ-ofZ w64 _ (record { sfits = z .ok }) ∙ z .ensures)
+
+div-requires : tie.Need-div-requires
+div-requires c κs = search needs
 
 result-requires : tie.Need-result-requires
 result-requires c κs = search needs
 
-returns : tie.Need-returns
-unfolding planned Binary
-returns c = λ f p q h. c .result .ensures ∙ c .before .before .product .ensures f _ (machine _ _ p q h) _ refl refl
+returns-2 : tie.Need-returns-2
+unfolding planned planOf basicPlan insOf
+returns-2 c = λ f p q h. rw (c .result .ensures, c .before .before .if2 .taken, c .before .div .ensures)
+
+rem-requires : tie.Need-rem-requires
+rem-requires c κs = search needs
+
+result-requires-2 : tie.Need-result-requires-2
+result-requires-2 c κs = search needs
+
+returns-3 : tie.Need-returns-3
+unfolding planned planOf basicPlan insOf
+returns-3 c =
+    λ f p q h.
+    let e = other (other (c .before .before .before .before .before .before .before .before .before .before .pre .3) (c .before .before .before .if1 .left)) (c .before .before .if2 .left) in
+    rw (c .result2 .ensures, e, c .before .rem .ensures)
 
 pub products-spec : {M : Type 1} → statement M
 products-spec =
     tie.close
     (tie.spec
+    add-place
     sub-top
     sub-at
-    mul-product
-    shared-slice-read-product
-    mul-product-2
-    shared-slice-read-product-2
-    product-requires
-    add-result
+    mul-a
+    shared-slice-read-a
+    mul-b
+    shared-slice-read-b
+    times-requires
+    number-requires
+    returns
+    div-requires
     result-requires
-    returns)
+    returns-2
+    rem-requires
+    result-requires-2
+    returns-3)

@@ -1,10 +1,17 @@
--- `plans::sums`: by what `sum` ensures of the two topmost words.
-use mathlib.Core.Path.{_∙_, refl}
+-- `plans::sums`: at each of the two codes the definition computes, and the operation is the one that `words` ensures.
+use mathlib.Core.Path.{_∙_}
+use mir.Syntax.{w64}
+use mir.ValLaws.{toZ-ofZ}
+use Rattle.model.specs.File.{insOf}
+use Rattle.model.specs.Instructions.{basicPlan, planOf}
+use Rattle.model.specs.Words.{operate}
+use Rattle.plans.specs.Given.{planned, other}
 use borrow.Author.Needs.{needs}
-use Rattle.model.specs.Control.{machine}
-use Rattle.plans.specs.Given.{Binary, planned}
 use Rattle.plans.proofs.sums.Statement.{statement}
 use Rattle.plans.proofs.sums.Tie as tie
+
+add-place : tie.Need-add-place
+add-place c = search needs
 
 sub-top : tie.Need-sub-top
 sub-top c = search needs
@@ -12,42 +19,59 @@ sub-top c = search needs
 sub-at : tie.Need-sub-at
 sub-at c = search needs
 
-mul-sum : tie.Need-mul-sum
-mul-sum c = search needs
+mul-a : tie.Need-mul-a
+mul-a c = search needs
 
-shared-slice-read-sum : tie.Need-shared-slice-read-sum
-shared-slice-read-sum c = search needs
+shared-slice-read-a : tie.Need-shared-slice-read-a
+shared-slice-read-a c = search needs
 
-mul-sum-2 : tie.Need-mul-sum-2
-mul-sum-2 c = search needs
+mul-b : tie.Need-mul-b
+mul-b c = search needs
 
-shared-slice-read-sum-2 : tie.Need-shared-slice-read-sum-2
-shared-slice-read-sum-2 c = search needs
+shared-slice-read-b : tie.Need-shared-slice-read-b
+shared-slice-read-b c = search needs
 
-sum-requires : tie.Need-sum-requires
-sum-requires c κs = search needs
+plus-requires : tie.Need-plus-requires
+plus-requires c κs = search needs
 
-add-result : tie.Need-add-result
-add-result c = search needs
-
-result-requires : tie.Need-result-requires
-result-requires c κs = search needs
+number-requires : tie.Need-number-requires
+number-requires c κs = search needs
 
 returns : tie.Need-returns
-unfolding planned Binary
-returns c = λ f p q h. c .result .ensures ∙ c .before .before .sum .ensures f _ (machine _ _ p q h) _ refl refl
+unfolding planned planOf basicPlan insOf operate
+returns c =
+    λ f p q h.
+    let z = c .before .plus in
+    rw (c .number .ensures, c .before .before .if1 .taken, toZ-ofZ w64 _ (record { sfits = z .ok }) ∙ z .ensures)
+
+minus-requires : tie.Need-minus-requires
+minus-requires c κs = search needs
+
+number-requires-2 : tie.Need-number-requires-2
+number-requires-2 c κs = search needs
+
+returns-2 : tie.Need-returns-2
+unfolding planned planOf basicPlan insOf operate
+returns-2 c =
+    λ f p q h.
+    let z = c .before .minus in
+    let e = other (c .before .before .before .before .before .before .before .before .before .pre .3) (c .before .before .if1 .left) in
+    rw (c .number2 .ensures, e, toZ-ofZ w64 _ (record { sfits = z .ok }) ∙ z .ensures)
 
 pub sums-spec : {M : Type 1} → statement M
 sums-spec =
     tie.close
     (tie.spec
+    add-place
     sub-top
     sub-at
-    mul-sum
-    shared-slice-read-sum
-    mul-sum-2
-    shared-slice-read-sum-2
-    sum-requires
-    add-result
-    result-requires
-    returns)
+    mul-a
+    shared-slice-read-a
+    mul-b
+    shared-slice-read-b
+    plus-requires
+    number-requires
+    returns
+    minus-requires
+    number-requires-2
+    returns-2)

@@ -1,10 +1,12 @@
 -- `plans::unaries`: at each of the two codes the definition computes, and the operation is the one that `words` ensures.
-use mathlib.Core.Logic.{⊎-elim}
-use mathlib.Core.Path.{_≡_}
-use borrow.Author.Needs.{needs}
+use mathlib.Core.Path.{_∙_}
+use mir.Syntax.{w64}
+use mir.ValLaws.{toZ-ofZ}
 use Rattle.model.specs.File.{insOf}
 use Rattle.model.specs.Instructions.{basicPlan, planOf}
-use Rattle.plans.specs.Given.{planned}
+use Rattle.model.specs.Words.{operate1}
+use Rattle.plans.specs.Given.{planned, other}
+use borrow.Author.Needs.{needs}
 use Rattle.plans.proofs.unaries.Statement.{statement}
 use Rattle.plans.proofs.unaries.Tie as tie
 
@@ -23,12 +25,15 @@ shared-slice-read-a c = search needs
 neg-requires : tie.Need-neg-requires
 neg-requires c κs = search needs
 
-result-requires : tie.Need-result-requires
-result-requires c κs = search needs
+number-requires : tie.Need-number-requires
+number-requires c κs = search needs
 
 returns : tie.Need-returns
-unfolding planned planOf basicPlan insOf
-returns c = λ f p q h. rw (c .result .ensures, c .before .before .if1 .taken, c .before .neg .ensures)
+unfolding planned planOf basicPlan insOf operate1
+returns c =
+    λ f p q h.
+    let z = c .before .neg in
+    rw (c .number .ensures, c .before .before .if1 .taken, toZ-ofZ w64 _ (record { sfits = z .ok }) ∙ z .ensures)
 
 not-requires : tie.Need-not-requires
 not-requires c κs = search needs
@@ -40,8 +45,7 @@ returns-2 : tie.Need-returns-2
 unfolding planned planOf basicPlan insOf
 returns-2 c =
     λ f p q h.
-    let e : c .before .before .before .before .before .before .before .args .kind ≡ 146 = ⊎-elim
-    (λ e. absurd (c .before .before .if1 .left e)) (λ e. e) (c .before .before .before .before .before .before .before .pre .3) in
+    let e = other (c .before .before .before .before .before .before .before .pre .3) (c .before .before .if1 .left) in
     rw (c .writes .ensures, e, ← (c .before .not .ensures))
 
 pub unaries-spec : {M : Type 1} → statement M
@@ -53,7 +57,7 @@ unaries-spec =
     mul-a
     shared-slice-read-a
     neg-requires
-    result-requires
+    number-requires
     returns
     not-requires
     writes-requires

@@ -1,8 +1,6 @@
--- `words::plus` meets its contract: the sum of two words' whole numbers fits 64 bits, and `value` gives its value.
-use mathlib.Core.Path.{_∙_, ap}
+-- `words::plus` meets its contract: the sum of two words' whole numbers fits 64 bits.
 use lib.IntN.{_+ℤ_}
 use mir.Syntax.{w64}
-use Rattle.model.specs.Words.{valueOf, operate}
 use Rattle.words.proofs.Bounds.{result-fits, result-read, sum-fits}
 use borrow.Author.Needs.{needs}
 use Rattle.words.proofs.plus.Statement.{statement}
@@ -14,23 +12,19 @@ wide-requires c κs = search needs
 wide-requires-2 : tie.Need-wide-requires-2
 wide-requires-2 c κs = search needs
 
-add-value : tie.Need-add-value
-add-value c =
+add-result : tie.Need-add-result
+add-result c =
     let x = c .before .wide in
     let y = c .wide2 in
     let s = c .before .before .fits in
     result-fits w64 _+ℤ_ (x .ok) (y .ok) (x .ensures) (y .ensures) (sum-fits (s .a .fits) (s .b .fits))
 
-value-requires : tie.Need-value-requires
-value-requires c κs = search needs
-
 returns : tie.Need-returns
-unfolding operate
 returns c =
-    let x = c .before .before .wide in
-    let y = c .before .wide2 in
-    let s = c .before .before .before .fits in
-    c .value .ensures ∙ ap valueOf (result-read w64 _+ℤ_ (x .ok) (y .ok) (x .ensures) (y .ensures) (sum-fits (s .a .fits) (s .b .fits)))
+    let x = c .before .wide in
+    let y = c .wide2 in
+    let s = c .before .before .fits in
+    result-read w64 _+ℤ_ (x .ok) (y .ok) (x .ensures) (y .ensures) (sum-fits (s .a .fits) (s .b .fits))
 
 pub plus-spec : {M : Type 1} → statement M
-plus-spec = tie.close (tie.spec wide-requires wide-requires-2 add-value value-requires returns)
+plus-spec = tie.close (tie.spec wide-requires wide-requires-2 add-result returns)

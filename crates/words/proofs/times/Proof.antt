@@ -1,8 +1,6 @@
--- `words::times` meets its contract: the product of two words' whole numbers fits 64 bits, and `value` gives its value.
-use mathlib.Core.Path.{_∙_, ap}
+-- `words::times` meets its contract: the product of two words' whole numbers fits 64 bits.
 use lib.IntN.{_*ℤ_}
 use mir.Syntax.{w64}
-use Rattle.model.specs.Words.{valueOf, operate}
 use Rattle.words.proofs.Bounds.{result-fits, result-read, product-fits}
 use borrow.Author.Needs.{needs}
 use Rattle.words.proofs.times.Statement.{statement}
@@ -14,23 +12,19 @@ wide-requires c κs = search needs
 wide-requires-2 : tie.Need-wide-requires-2
 wide-requires-2 c κs = search needs
 
-mul-value : tie.Need-mul-value
-mul-value c =
+mul-result : tie.Need-mul-result
+mul-result c =
     let x = c .before .wide in
     let y = c .wide2 in
     let s = c .before .before .fits in
     result-fits w64 _*ℤ_ (x .ok) (y .ok) (x .ensures) (y .ensures) (product-fits (s .a .fits) (s .b .fits))
 
-value-requires : tie.Need-value-requires
-value-requires c κs = search needs
-
 returns : tie.Need-returns
-unfolding operate
 returns c =
-    let x = c .before .before .wide in
-    let y = c .before .wide2 in
-    let s = c .before .before .before .fits in
-    c .value .ensures ∙ ap valueOf (result-read w64 _*ℤ_ (x .ok) (y .ok) (x .ensures) (y .ensures) (product-fits (s .a .fits) (s .b .fits)))
+    let x = c .before .wide in
+    let y = c .wide2 in
+    let s = c .before .before .fits in
+    result-read w64 _*ℤ_ (x .ok) (y .ok) (x .ensures) (y .ensures) (product-fits (s .a .fits) (s .b .fits))
 
 pub times-spec : {M : Type 1} → statement M
-times-spec = tie.close (tie.spec wide-requires wide-requires-2 mul-value value-requires returns)
+times-spec = tie.close (tie.spec wide-requires wide-requires-2 mul-result returns)
