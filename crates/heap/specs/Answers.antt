@@ -41,10 +41,6 @@ pub table-same : (h os : List ℕ) (t : List Bool) (is : List ℕ) → Marks os 
 unfolding markedAt
 table-same h os t is M = bad-same (pointerAt h os) (markedAt t h) is (λ i. sym (marked-pointer os t (wordAt h i) M))
 
-told-or : (a : HeapAudit) (b : Audit) → told (orAudit a b) ≡ orElse a (told b)
-told-or Clean b = refl
-told-or (Fault i) b = refl
-
 pub audited-mark : (h : List ℕ) (t : List Bool) (mark b : ℕ) → Small b (markOf h) mark → (mark < 2) ⊎ (length h < mark) → Audited h (Fault 0) t
 audited-mark h t mark b S e = record {
   is = rw (heap-mark-fault h (go e));
