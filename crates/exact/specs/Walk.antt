@@ -150,6 +150,24 @@ pub upTo-none : (p : ℕ) (hs : List ℕ) → ((h : ℕ) → Mem h hs → p < h)
 upTo-none p [] w = refl
 upTo-none p (h ∷ hs) w = rw (lt-leb h p (w h (inl refl))) (upTo-none p hs (λ g m. w g (inr m)))
 
+-- head j lies at or before q, or behind it
+pub upTo-least : (q : ℕ) (hs : List ℕ) (j : ℕ) → Rising hs → j < length hs → getD hs j 0 ≤ q → suc j ≤ upTo q hs
+upTo-least q [] j r l b = absurd (omega arith)
+upTo-least q (h ∷ hs) zero r l b = rw (le-leb h q b) (omega arith)
+upTo-least q (h ∷ hs) (suc j) r l b =
+    let a = r .0 (getD hs j 0) (getD-in hs j 0 (omega arith)) in
+    let w = upTo-least q hs j (r .1) (omega arith) b in
+    rw (le-leb h q (omega arith)) (omega arith)
+
+pub upTo-less : (q : ℕ) (hs : List ℕ) (j : ℕ) → Rising hs → j < length hs → q < getD hs j 0 → upTo q hs ≤ j
+upTo-less q [] j r l b = absurd (omega arith)
+upTo-less q (h ∷ hs) zero r l b = rw (lt-leb h q b, upTo-none q hs (λ g i. let a = r .0 g i in omega arith)) (omega arith)
+upTo-less q (h ∷ hs) (suc j) r l b = go (leb h q) (upTo-less q hs j (r .1) (omega arith) b)
+  where
+    go : (t : Bool) → upTo q hs ≤ j → (if t then suc (upTo q hs) else upTo q hs) ≤ suc j
+    go true w = omega arith
+    go false w = omega arith
+
 -- q is at or behind head n, and before the next one
 pub upTo-at : (q : ℕ) (hs : List ℕ) (n : ℕ) → Rising hs → n < length hs → getD hs n 0 ≤ q →
     ((h : ℕ) → Mem h hs → getD hs n 0 < h → q < h) → upTo q hs ≡ suc n

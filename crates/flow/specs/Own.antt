@@ -1,52 +1,21 @@
 -- A place is an instruction of the procedure with head h and end e exactly when it lies between them and the map shows that an
 -- instruction starts there: heads rise, so that the procedure of a place is told by the heads around it.
-use Prim.Native.Nat.{ℕ, zero, suc, _+_, _-_, _*_, _<_, _≤_}
-use mathlib.Core.Bool.{Bool, true, false, true≢false, not, _&&_}
-use mathlib.Core.List.{List, [], _∷_}
+use Prim.Native.Nat.{ℕ, suc, _-_, _*_, _<_, _≤_}
+use mathlib.Core.Bool.{Bool, true, false, not, _&&_}
+use mathlib.Core.List.{List}
 use mathlib.Core.Logic.{_⊎_, inl, inr}
-use mathlib.Core.Path.{_≡_, refl, ap, sym, _∙_, subst}
-use native.Mathlib.Decide.{ℕ-discrete, decLt}
+use mathlib.Core.Path.{_≡_, refl, sym}
+use native.Mathlib.Decide.{decLt}
 use native.Mathlib.Omega.{arith}
-use lib.Dec.{ltb, leb, eqb}
+use lib.Dec.{ltb, eqb}
 use lib.ListN.{length, getD}
-use borrow.Author.Tests.{lt-ltb, le-ltb, eq-eqb, ne-eqb, le-leb, lt-leb, leb-true, leb-false}
-use Rattle.model.specs.Choice.{if_then_else_, Mem, member}
-use Rattle.model.specs.File.{byteAt, instructions, heads, procs, headOf, procAt, upTo, recordsOf, starts, after, headKind}
+use borrow.Author.Tests.{lt-ltb, le-ltb, eq-eqb, ne-eqb}
+use Rattle.model.specs.Choice.{if_then_else_, member}
+use Rattle.model.specs.File.{byteAt, instructions, heads, procs, headOf, procAt, upTo, recordsOf, starts, headKind}
 use Rattle.model.specs.Checker.{none, Known, own}
 use Rattle.exact.specs.Pass.{Rising}
-use Rattle.exact.specs.Walk.{in-member, member-in, instruction-below, heads-rise, head-in, ins-in, getD-in, walk, walk-above, after-above, proc-below}
+use Rattle.exact.specs.Walk.{member-in, instruction-below, heads-rise, head-in, ins-in, getD-in, walk, walk-above, after-above, upTo-most, upTo-least, upTo-less}
 use Rattle.scan.specs.Marks.{Shows, starts-here}
-
--- heads up to a place, in a rising list
-upTo-least : (q : ℕ) (hs : List ℕ) (j : ℕ) → Rising hs → j < length hs → getD hs j 0 ≤ q → suc j ≤ upTo q hs
-upTo-least q [] j r l b = absurd (omega arith)
-upTo-least q (h ∷ hs) zero r l b = rw (le-leb h q b) (omega arith)
-upTo-least q (h ∷ hs) (suc j) r l b =
-    let a = r .0 (getD hs j 0) (getD-in hs j 0 (omega arith)) in
-    let w = upTo-least q hs j (r .1) (omega arith) b in
-    rw (le-leb h q (omega arith)) (omega arith)
-
-upTo-zero : (q : ℕ) (hs : List ℕ) → ((h : ℕ) → Mem h hs → q < h) → upTo q hs ≡ 0
-upTo-zero q [] w = refl
-upTo-zero q (h ∷ hs) w = rw (lt-leb h q (w h (inl refl))) (upTo-zero q hs (λ g i. w g (inr i)))
-
-upTo-less : (q : ℕ) (hs : List ℕ) (j : ℕ) → Rising hs → j < length hs → q < getD hs j 0 → upTo q hs ≤ j
-upTo-less q [] j r l b = absurd (omega arith)
-upTo-less q (h ∷ hs) zero r l b =
-    rw (lt-leb h q b, upTo-zero q hs (λ g i. let a = r .0 g i in omega arith)) (omega arith)
-upTo-less q (h ∷ hs) (suc j) r l b = go (leb h q) (upTo-less q hs j (r .1) (omega arith) b)
-  where
-    go : (t : Bool) → upTo q hs ≤ j → (if t then suc (upTo q hs) else upTo q hs) ≤ suc j
-    go true w = omega arith
-    go false w = omega arith
-
-upTo-all : (q : ℕ) (hs : List ℕ) → upTo q hs ≤ length hs
-upTo-all q [] = omega arith
-upTo-all q (h ∷ hs) = go (leb h q) (upTo-all q hs)
-  where
-    go : (t : Bool) → upTo q hs ≤ length hs → (if t then suc (upTo q hs) else upTo q hs) ≤ suc (length hs)
-    go true w = omega arith
-    go false w = omega arith
 
 -- where procedure n ends: at the next head, or with the file
 unfoldable pub endOf : List ℕ → ℕ → ℕ
@@ -92,7 +61,7 @@ module _ (f ps : List ℕ) (e : recordsOf f ≡ starts ps) where
           let c : q < getD (heads f) (suc n) 0 = rw (lt-ltb (suc n) (length (heads f)) h) at b in
           let w = upTo-less q (heads f) (suc n) r h c in
           omega (arith, low)
-      go (no h) = let w = upTo-all q (heads f) in omega (arith, low)
+      go (no h) = let w = upTo-most q (heads f) in omega (arith, low)
 
   -- and nothing else: a place before the head, or from the end on, is another procedure's
   beside : (n q : ℕ) → n < procs f → q < length f → (q < headOf f n) ⊎ (endOf f (suc n) ≤ q) → 0 < n ⊎ (headOf f 0 ≤ q) → procAt f q ≡ n → ⊥

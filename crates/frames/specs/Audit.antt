@@ -1,6 +1,6 @@
 -- The audit in parts: the tests of the registers, the records, and the words of the three stacks are `sound?`; and zeros above a top,
 -- read from the top on.
-use Prim.Native.Nat.{ℕ, zero, suc, _+_, _-_, _*_, _/_, _<_, _≤_}
+use Prim.Native.Nat.{ℕ, _+_, _-_, _*_, _/_, _<_, _≤_}
 use mathlib.Core.Bool.{Bool, true, false}
 use mathlib.Core.List.{List, [], _∷_, _++_}
 use mathlib.Core.Path.{_≡_, refl, ap, sym, _∙_}
@@ -144,9 +144,3 @@ module _ (l : List ℕ) (i : ℕ) where
 
   pub zeros-more : i < length l → getD l i 0 ≡ 0 → zeros (drop i l) ≡ zeros (drop (i + 1) l)
   zeros-more h z = rw (drop-cons l i 0 h, eq-eqb (getD l i 0) 0 z, add-one i)
-
-pub zeros-end : (l : List ℕ) (i : ℕ) → length l ≤ i → zeros (drop i l) ≡ true
-zeros-end [] zero h = refl
-zeros-end [] (suc i) h = refl
-zeros-end (w ∷ l) zero h = absurd (omega arith)
-zeros-end (w ∷ l) (suc i) h = zeros-end l i (omega arith)

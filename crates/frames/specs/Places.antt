@@ -6,17 +6,16 @@ use mathlib.Core.List.{List, [], _∷_}
 use mathlib.Core.Path.{_≡_, refl, ap, sym, _∙_}
 use native.Mathlib.Decide.{ℕ-discrete, decLt}
 use native.Mathlib.Omega.{arith}
-use lib.Dec.{ltb, leb, eqb}
+use lib.Dec.{ltb, eqb}
 use lib.ListN.{length, getD}
-use borrow.Author.Tests.{lt-ltb, le-ltb, le-leb, lt-leb, eq-eqb, ne-eqb, eqb-true}
+use borrow.Author.Tests.{lt-ltb, le-ltb, eq-eqb, ne-eqb, eqb-true}
 use Rattle.model.specs.Choice.{if_then_else_, Mem, member}
 use Rattle.model.specs.File.{byteAt, headKind, isHead, select, instructions, heads, procs, headOf, procAt, upTo, recordsOf, starts, paramsMain, paramsPtr, resultsMain, resultsPtr, mostMain, mostPtr}
 use Rattle.model.specs.Checker.{none, State}
 use Rattle.model.specs.Sound.{mainAt, isIns}
 use Rattle.model.specs.Calls.{pass, verdictOf}
 use Rattle.model.specs.Claim.{Bytes}
-use Rattle.exact.specs.Pass.{Rising}
-use Rattle.exact.specs.Walk.{member-in, in-member, getD-in, upTo-none, upTo-most, heads-rise, first-head, head-in, ins-in, Walk, walk, walk-above, after-head, instruction-below, procs-some, proc-below}
+use Rattle.exact.specs.Walk.{member-in, in-member, getD-in, upTo-most, upTo-least, upTo-less, heads-rise, first-head, head-in, ins-in, Walk, walk, walk-above, after-head, instruction-below, procs-some, proc-below}
 use Rattle.exact.specs.Exact.{passed-as, passed-shape, passed-rest}
 use Rattle.code.specs.declared.Head.{Head}
 use Rattle.code.specs.Heads.{HeadIs, procHead, head-of}
@@ -52,24 +51,6 @@ passed-ready f map₀ map table k B e P =
         let n : Mem p (instructions f) → ⊥ = λ m. true≢false (sym (in-member p (instructions f) m) ∙ w) in
         let s = ap (λ (x : State). x .main) (passed-rest f map₀ B map e p l n) in
         rw w (eq-eqb (mainAt map p) none s)
-
--- heads up to a place, in a rising list
-upTo-least : (q : ℕ) (hs : List ℕ) (j : ℕ) → Rising hs → j < length hs → getD hs j 0 ≤ q → suc j ≤ upTo q hs
-upTo-least q [] j r l b = absurd (omega arith)
-upTo-least q (h ∷ hs) zero r l b = rw (le-leb h q b) (omega arith)
-upTo-least q (h ∷ hs) (suc j) r l b =
-    let a = r .0 (getD hs j 0) (getD-in hs j 0 (omega arith)) in
-    let w = upTo-least q hs j (r .1) (omega arith) b in
-    rw (le-leb h q (omega arith)) (omega arith)
-
-upTo-less : (q : ℕ) (hs : List ℕ) (j : ℕ) → Rising hs → j < length hs → q < getD hs j 0 → upTo q hs ≤ j
-upTo-less q [] j r l b = absurd (omega arith)
-upTo-less q (h ∷ hs) zero r l b = rw (lt-leb h q b, upTo-none q hs (λ g i. let a = r .0 g i in omega arith)) (omega arith)
-upTo-less q (h ∷ hs) (suc j) r l b = go (leb h q) (upTo-less q hs j (r .1) (omega arith) b)
-  where
-    go : (t : Bool) → upTo q hs ≤ j → (if t then suc (upTo q hs) else upTo q hs) ≤ suc j
-    go true w = omega arith
-    go false w = omega arith
 
 -- past a list's end
 pub beyond : (l : List ℕ) (i d : ℕ) → length l ≤ i → getD l i d ≡ d

@@ -455,7 +455,7 @@ fn words_right(main: &[u32], ptr: &[u32], ctl: &[u32], marks: &[bool; 16384], re
     if !zeros_from(ctl, regs.ctop) {
         return false;
     }
-    heap::audit_pointers(ptr, marks)
+    heap::audit_pointers(ptr, regs.ptop, marks)
 }
 
 // The registers of a running state: the tops fit the records and the map.

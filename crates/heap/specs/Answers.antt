@@ -1,21 +1,22 @@
 -- The answers of the audit, from what its parts answer: `heapOf` is the walk, then the root, the pointer words and the free words, and
 -- the table of marks tells the pointers of the objects that the walk found.
-use Prim.Native.Nat.{ℕ, zero, suc, _-_, _<_}
+use Prim.Native.Nat.{ℕ, zero, suc, _-_, _<_, _≤_}
 use mathlib.Core.Path.{_≡_, refl, sym, _∙_}
 use mathlib.Core.Bool.{Bool, true, false, not}
 use mathlib.Core.List.{List, [], _∷_}
 use mathlib.Core.Logic.{_⊎_, inl, inr}
 use native.Mathlib.Omega.{arith}
-use lib.ListN.{length}
-use borrow.Author.Tests.{not-true, not-false}
-use Rattle.model.specs.Choice.{if_then_else_}
+use lib.Dec.{eqb}
+use lib.ListN.{length, drop}
+use borrow.Author.Tests.{eqb-true, not-true, not-false}
+use Rattle.model.specs.Choice.{if_then_else_, if-both}
 use Rattle.model.specs.Words.{wordAt}
 use Rattle.model.specs.Heap.{Heap, markOf, firstObject, Objects, Audit, fault, clean, range, pointerWords, isPointer, objectsIn, heapOf, objectsOf}
-use Rattle.model.specs.Sound.{pointers}
+use Rattle.model.specs.Sound.{pointers, zeros}
 use Rattle.heap.specs.declared.HeapAudit.{HeapAudit}
 use Rattle.heap.specs.declared.HeapAudit.the-variants.{Clean, Fault}
 use Rattle.heap.specs.First.{firstBad, walked, freeWords, told, orElse, orAudit, pointerAt, zeroAt, bad-append}
-use Rattle.heap.specs.Audited.{heap-clean, clean-heap, heap-judged, heap-walk-fault, heap-mark-fault, walk-shows}
+use Rattle.heap.specs.Audited.{heap-clean, clean-heap, heap-judged, heap-walk-fault, heap-mark-fault, walk-shows, pointer-is}
 use Rattle.heap.specs.Table.{Small, Marks, isMarked, markedAt, marked-pointer, Range, found, Walked, Audited}
 
 -- the walk found the objects
@@ -39,10 +40,6 @@ bad-same P Q (i ∷ is) f = rw (f i, bad-same P Q is f)
 pub table-same : (h os : List ℕ) (t : List Bool) (is : List ℕ) → Marks os t → firstBad (pointerAt h os) is ≡ firstBad (markedAt t h) is
 unfolding markedAt
 table-same h os t is M = bad-same (pointerAt h os) (markedAt t h) is (λ i. sym (marked-pointer os t (wordAt h i) M))
-
-told-or : (a : HeapAudit) (b : Audit) → told (orAudit a b) ≡ orElse a (told b)
-told-or Clean b = refl
-told-or (Fault i) b = refl
 
 pub audited-mark : (h : List ℕ) (t : List Bool) (mark b : ℕ) → Small b (markOf h) mark → (mark < 2) ⊎ (length h < mark) → Audited h (Fault 0) t
 audited-mark h t mark b S e = record {
@@ -125,30 +122,50 @@ passes-later P Q i (suc n) f = rw (f i) (go (Q i) (passes-later P Q (suc i) n f)
     go true e = e
     go false e = refl
 
-pub words-pointers : (os l : List ℕ) → pointers os l ≡ passes (firstBad (pointerAt l os) (range 0 (length l)))
+-- words that are 0 are pointers
+zeros-pointers : (os l : List ℕ) → zeros l ≡ true → pointers os l ≡ true
+zeros-pointers os [] e = refl
+zeros-pointers os (v ∷ l) e =
+    let b = if-both (eqb v 0) (zeros l) e in
+    rw (pointer-is os v (inl (eqb-true v 0 (b .0)))) (zeros-pointers os l (b .1))
+
+-- a list passes where its first n words do, if the others are 0
+pub words-pointers : (os l : List ℕ) (n : ℕ) → n ≤ length l → zeros (drop n l) ≡ true →
+    pointers os l ≡ passes (firstBad (pointerAt l os) (range 0 n))
 unfolding firstBad
-words-pointers os [] = refl
-words-pointers os (v ∷ l) =
-    go (isPointer os v) (words-pointers os l ∙ sym (passes-later (pointerAt (v ∷ l) os) (pointerAt l os) 0 (length l) (λ j. refl)))
+words-pointers os l zero h z = zeros-pointers os l z
+words-pointers os [] (suc n) h z = absurd (omega arith)
+words-pointers os (v ∷ l) (suc n) h z =
+    go (isPointer os v) (words-pointers os l n (omega arith) z ∙ sym (passes-later (pointerAt (v ∷ l) os) (pointerAt l os) 0 n (λ j. refl)))
   where
-    go : (t : Bool) → pointers os l ≡ passes (firstBad (pointerAt (v ∷ l) os) (range 1 (length l))) →
-        (if t then pointers os l else false) ≡ passes (if t then firstBad (pointerAt (v ∷ l) os) (range 1 (length l)) else Fault 0)
+    go : (t : Bool) → pointers os l ≡ passes (firstBad (pointerAt (v ∷ l) os) (range 1 n)) →
+        (if t then pointers os l else false) ≡ passes (if t then firstBad (pointerAt (v ∷ l) os) (range 1 n) else Fault 0)
     go true e = e
     go false e = refl
 
-pub pointers-told : (l : List ℕ) (t : List Bool) (a : HeapAudit) → a ≡ firstBad (markedAt t l) (range 0 (length l - 0)) →
-    (os : List ℕ) → Marks os t → passes a ≡ pointers os l
-pointers-told l t a e os M =
-    let z : length l - 0 ≡ length l = omega arith in
-    rw (e, z, ← (table-same l os t (range 0 (length l)) M)) (sym (words-pointers os l))
+pub zeros-end : (l : List ℕ) (i : ℕ) → length l ≤ i → zeros (drop i l) ≡ true
+zeros-end [] zero h = refl
+zeros-end [] (suc i) h = refl
+zeros-end (w ∷ l) zero h = absurd (omega arith)
+zeros-end (w ∷ l) (suc i) h = zeros-end l i (omega arith)
 
-pub pointers-clean : (l : List ℕ) (t : List Bool) (a : HeapAudit) → a ≡ firstBad (markedAt t l) (range 0 (length l - 0)) → a ≡ Clean →
-    (os : List ℕ) → Marks os t → true ≡ pointers os l
-pointers-clean l t a e f os M = rw f at (pointers-told l t a e os M)
+-- the first n words are those below the top, or all
+module _ (l : List ℕ) (t : List Bool) (top n : ℕ) (N : (n ≤ length l) × ((n ≡ top) ⊎ (n ≡ length l))) (a : HeapAudit)
+    (e : a ≡ firstBad (markedAt t l) (range 0 (n - 0))) (os : List ℕ) (M : Marks os t) (z : zeros (drop top l) ≡ true) where
+  above : (n ≡ top) ⊎ (n ≡ length l) → zeros (drop n l) ≡ true
+  above (inl f) = rw f z
+  above (inr f) = zeros-end l n (omega arith)
 
-pub pointers-fault : (l : List ℕ) (t : List Bool) (a : HeapAudit) (q : ℕ) → a ≡ firstBad (markedAt t l) (range 0 (length l - 0)) → a ≡ Fault q →
-    (os : List ℕ) → Marks os t → false ≡ pointers os l
-pointers-fault l t a q e f os M = rw f at (pointers-told l t a e os M)
+  pointers-told : passes a ≡ pointers os l
+  pointers-told =
+      let d : n - 0 ≡ n = omega arith in
+      rw (e, d, ← (table-same l os t (range 0 n) M)) (sym (words-pointers os l n (N .0) (above (N .1))))
+
+  pub pointers-clean : a ≡ Clean → true ≡ pointers os l
+  pointers-clean f = rw f at pointers-told
+
+  pub pointers-fault : (q : ℕ) → a ≡ Fault q → false ≡ pointers os l
+  pointers-fault q f = rw f at pointers-told
 
 -- What the audit's answer shows
 

@@ -1,6 +1,5 @@
 -- The audit is the statement: `heapOf` answers the objects exactly of a sound heap (`heap-clean`, `clean-heap`), and otherwise a word
--- of a heap that is not sound (`fault-is-fault`). The walk finds the only objects that there can be, and each later test is a
--- field of `Heap`.
+-- that is at fault (`fault-is-fault`). The walk finds the only objects that there can be, and each later test is a field of `Heap`.
 use Prim.Native.Nat.{ℕ, zero, suc, _+_, _-_, _<_, _≤_}
 use mathlib.Core.Path.{_≡_, refl, sym, _∙_}
 use mathlib.Core.Bool.{Bool, true, false, not, _&&_, _||_, true≢false}
@@ -10,14 +9,14 @@ use native.Mathlib.Decide.{decLt}
 use native.Mathlib.Omega.{arith}
 use lib.Dec.{eqb, leb, ltb}
 use lib.ListN.{length, List·getD-eq-default}
-use borrow.Author.Tests.{eq-eqb, eqb-true, leb-true, leb-false, le-leb, lt-leb, ltb-false, le-ltb, not-false}
+use borrow.Author.Tests.{eq-eqb, eqb-true, eqb-false, leb-true, leb-false, le-leb, lt-leb, ltb-true, ltb-false, le-ltb, not-true, not-false}
 use Rattle.model.specs.Choice.{if_then_else_, Mem, member}
 use Rattle.model.specs.Words.{wordAt}
-use Rattle.model.specs.Heap.{markOf, rootOf, firstObject, kindAt, ptrsAt, sizeAt, viewKind, Object, Objects, Pointer, Heap, Audit, fault, clean, andObject, badHeader, badSize, walk, isPointer, range, pointerWords, zerosFirst, judge, heapOf, objectsOf}
+use Rattle.model.specs.Heap.{markOf, rootOf, firstObject, kindAt, ptrsAt, sizeAt, viewKind, Object, Objects, Pointer, Heap, Audit, fault, clean, andObject, badHeader, badSize, walk, isPointer, range, pointerWords, zerosFirst, judge, heapOf}
 use Rattle.heap.specs.declared.HeapAudit.{HeapAudit}
 use Rattle.heap.specs.declared.HeapAudit.the-variants.{Clean, Fault}
 use Rattle.heap.specs.First.{firstBad, walked, freeWords, orAudit, pointerAt, zeroAt, pointers-first, zeros-first, all-good, none-bad, bad-in, range-mem, mem-range, mem-append, mem-more, mem-right}
-use Rattle.heap.specs.Objects.{object-of}
+use Rattle.heap.specs.Faults.{Broken, bad-header, bad-size, Inside, AtFault, bad-mark, bad-object, bad-pointer, bad-free}
 
 -- The walk
 
@@ -51,6 +50,27 @@ pub size-below : (h : List ℕ) (q mark : ℕ) → badHeader h q mark ≡ false 
 unfolding badHeader
 size-below h q mark e = leb-false mark (q + 1) (or-false (not (eqb (kindAt h q) viewKind)) (leb mark (q + 1)) e .1)
 
+or-true : (s t : Bool) → s || t ≡ true → (s ≡ true) ⊎ (t ≡ true)
+or-true true t e = inl refl
+or-true false t e = inr e
+
+header-bad : (h : List ℕ) (q mark : ℕ) → badHeader h q mark ≡ true → (kindAt h q ≡ viewKind → ⊥) ⊎ (mark ≤ q + 1)
+unfolding badHeader
+header-bad h q mark e = go (or-true (not (eqb (kindAt h q) viewKind)) (leb mark (q + 1)) e)
+  where
+    go : (not (eqb (kindAt h q) viewKind) ≡ true) ⊎ (leb mark (q + 1) ≡ true) → (kindAt h q ≡ viewKind → ⊥) ⊎ (mark ≤ q + 1)
+    go (inl f) = inl (eqb-false (kindAt h q) viewKind (not-true (eqb (kindAt h q) viewKind) f))
+    go (inr f) = inr (leb-true mark (q + 1) f)
+
+size-bad : (h : List ℕ) (q mark : ℕ) → badSize h q mark ≡ true → (sizeAt h q < 2 + ptrsAt h q) ⊎ (mark < q + sizeAt h q)
+unfolding badSize
+size-bad h q mark e = go (or-true (ltb (sizeAt h q) (2 + ptrsAt h q)) (ltb mark (q + sizeAt h q)) e)
+  where
+    go : (ltb (sizeAt h q) (2 + ptrsAt h q) ≡ true) ⊎ (ltb mark (q + sizeAt h q) ≡ true) →
+        (sizeAt h q < 2 + ptrsAt h q) ⊎ (mark < q + sizeAt h q)
+    go (inl f) = inl (ltb-true (sizeAt h q) (2 + ptrsAt h q) f)
+    go (inr f) = inr (ltb-true mark (q + sizeAt h q) f)
+
 pub objects-walk : (n : ℕ) (h : List ℕ) (q mark : ℕ) (os : List ℕ) → Objects h q mark os → mark ≤ q + n → walk n h q mark ≡ clean os
 unfolding walk
 objects-walk zero h q mark [] W l = refl
@@ -70,10 +90,11 @@ objects-walk (suc n) h q mark (o ∷ os) W l =
 -- what an answer of the walk shows
 abbrev Shows : List ℕ → ℕ → ℕ → Audit → Type 0
 Shows h q mark (clean os) = Objects h q mark os
-Shows h q mark (fault p) = p < mark
+Shows h q mark (fault p) = Broken h q mark p
 
 shows-more : (h : List ℕ) (q mark : ℕ) (r : Audit) → Object h q mark → Shows h (q + sizeAt h q) mark r → Shows h q mark (andObject q r)
-shows-more h q mark (fault p) O s = s
+shows-more h q mark (fault p) O (bad-header os R l b) = bad-header (q ∷ os) (refl, O, R) l b
+shows-more h q mark (fault p) O (bad-size os o R e l b) = bad-size (q ∷ os) o (refl, O, R) e l b
 shows-more h q mark (clean os) O s = (refl, O, s)
 
 pub walk-shows : (n : ℕ) (h : List ℕ) (q mark : ℕ) → q ≤ mark → mark ≤ q + n → Shows h q mark (walk n h q mark)
@@ -85,8 +106,8 @@ walk-shows (suc n) h q mark a b = go (leb mark q) refl (badHeader h q mark) refl
         (q + sizeAt h q ≤ mark → mark ≤ q + sizeAt h q + n → Shows h (q + sizeAt h q) mark (walk n h (q + sizeAt h q) mark)) →
         Shows h q mark (if s then clean [] else if t then fault q else if u then fault (q + 1) else andObject q (walk n h (q + sizeAt h q) mark))
     go true e t f u g rest = omega (arith, leb-true mark q e)
-    go false e true f u g rest = leb-false mark q e
-    go false e false f true g rest = size-below h q mark f
+    go false e true f u g rest = bad-header [] refl (leb-false mark q e) (header-bad h q mark f)
+    go false e false f true g rest = bad-size [] q refl refl (size-below h q mark f) (size-bad h q mark g)
     go false e false f false g rest =
         let O = good-object h q mark f g in
         let i = O .holds in
@@ -128,15 +149,10 @@ pointer-is os v (inr i) = go (eqb v 0)
     go true = refl
     go false = mem-member v os i
 
--- where pointers stand in objects
-record Inside (h os : List ℕ) (i : ℕ) : Type 0 where
-  q : ℕ
-  k : ℕ
-  mem : Mem q os
-  from : 2 ≤ k
-  to : k < 2 + ptrsAt h q
-  is : i ≡ q + k
+not-pointer : (os : List ℕ) (v : ℕ) → isPointer os v ≡ false → Pointer os v → ⊥
+not-pointer os v e p = true≢false (sym (pointer-is os v p) ∙ e)
 
+-- where pointers stand in objects
 words-inside : (h os : List ℕ) (i : ℕ) → Mem i (pointerWords h os) → Inside h os i
 unfolding pointerWords
 words-inside h (q ∷ os) i m = go (mem-append i (range (q + 2) (ptrsAt h q)) (pointerWords h os) m) (words-inside h os i)
@@ -205,7 +221,7 @@ clean-heap h os H =
 -- what an answer of the audit shows
 abbrev Says : List ℕ → Audit → Type 0
 Says h (clean os) = Heap h os
-Says h (fault q) = 2 ≤ length h → q < length h
+Says h (fault q) = AtFault h q
 
 heap-says : (h : List ℕ) → Says h (heapOf h)
 unfolding zeroAt
@@ -229,26 +245,27 @@ heap-says h = go (decLt (markOf h) firstObject) (decLt (length h) (markOf h))
         free : (i : ℕ) → markOf h ≤ i → ((j : ℕ) → Mem j (freeWords h) → zeroAt h j ≡ true) → Dec (i < length h) → wordAt h i ≡ 0
         free i a zeros (yes b) = eqb-true (wordAt h i) 0 (zeros i (mem-range (markOf h) (length h - markOf h) i a (omega arith)))
         free i a zeros (no b) = let c : length h ≤ i = omega arith in List·getD-eq-default h 0 c
-    pointers os l g W Clean e (Fault q) f = λ t.
-        let r = range-mem (markOf h) (length h - markOf h) q (bad-in (zeroAt h) (freeWords h) q f) in omega arith
-    pointers os l g W (Fault q) e b f = λ t. place (bad-in (pointerAt h os) (1 ∷ pointerWords h os) q e) t
+    pointers os l g W Clean e (Fault q) f =
+        let b = bad-in (zeroAt h) (freeWords h) q f in
+        let r = range-mem (markOf h) (length h - markOf h) q (b .0) in
+        bad-free (r .0) (omega arith) (eqb-false (wordAt h q) 0 (b .1))
+    pointers os l g W (Fault q) e c f =
+        let b = bad-in (pointerAt h os) (1 ∷ pointerWords h os) q e in
+        bad-pointer os g W (place (b .0)) (not-pointer os (wordAt h q) (b .1))
       where
-        place : Mem q (1 ∷ pointerWords h os) → 2 ≤ length h → q < length h
-        place (inl e) t = omega arith
-        place (inr m) t =
-            let r = words-inside h os q m in
-            let O = object-of h firstObject (markOf h) os (r .q) W (r .mem) .1 in
-            omega (arith, O .holds, O .ends, r .to, r .is)
+        place : Mem q (1 ∷ pointerWords h os) → (q ≡ 1) ⊎ Inside h os q
+        place (inl e) = inl e
+        place (inr m) = inr (words-inside h os q m)
 
     after-walk : firstObject ≤ markOf h → markOf h ≤ length h → (r : Audit) → walked h ≡ r → Shows h firstObject (markOf h) r → Says h (heapOf h)
-    after-walk l g (fault q) e s = rw (heap-walk-fault h q l g e) (λ t. omega arith)
+    after-walk l g (fault q) e s = rw (heap-walk-fault h q l g e) (bad-object g s)
     after-walk l g (clean os) e s =
         rw (heap-judged h os l g e)
         (pointers os l g s (firstBad (pointerAt h os) (1 ∷ pointerWords h os)) refl (firstBad (zeroAt h) (freeWords h)) refl)
 
     go : Dec (markOf h < firstObject) → Dec (length h < markOf h) → Says h (heapOf h)
-    go (yes a) b = rw (heap-mark-fault h (inl a)) (λ t. omega arith)
-    go (no a) (yes b) = rw (heap-mark-fault h (inr b)) (λ t. omega arith)
+    go (yes a) b = rw (heap-mark-fault h (inl a)) (bad-mark refl (inl a))
+    go (no a) (yes b) = rw (heap-mark-fault h (inr b)) (bad-mark refl (inr b))
     go (no a) (no b) =
         let l : firstObject ≤ markOf h = omega arith in
         let g : markOf h ≤ length h = omega arith in
@@ -257,13 +274,5 @@ heap-says h = go (decLt (markOf h) firstObject) (decLt (length h) (markOf h))
 pub heap-clean : (h os : List ℕ) → heapOf h ≡ clean os → Heap h os
 heap-clean h os e = rw e at (heap-says h)
 
-pub objects-are : (h os : List ℕ) → Heap h os → objectsOf h ≡ os
-unfolding objectsOf
-objects-are h os H = rw (clean-heap h os H)
-
-pub fault-is-fault : (h : List ℕ) (q : ℕ) → heapOf h ≡ fault q → ((os : List ℕ) → Heap h os → ⊥) × (2 ≤ length h → q < length h)
-fault-is-fault h q e =
-    (λ os H. never os (clean-heap h os H), rw e at (heap-says h))
-  where
-    never : (os : List ℕ) → heapOf h ≡ clean os → ⊥
-    never os f = let z : _≡_ {A = ℕ} 0 1 = cc in omega arith
+pub fault-is-fault : (h : List ℕ) (q : ℕ) → heapOf h ≡ fault q → AtFault h q
+fault-is-fault h q e = rw e at (heap-says h)

@@ -1,5 +1,6 @@
 pub mod First
 pub mod Objects
+pub mod Faults
 pub mod Audited
 pub mod Table
 pub mod Turns

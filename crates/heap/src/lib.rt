@@ -2,11 +2,13 @@
 // The audit walks the objects and marks in a table where they start; a pointer is then looked up there.
 ghost use mathlib.Core.Path.{_≡_};
 ghost use Prim.Native.Nat.{ℕ, _+_, _-_, _≤_, _<_};
+ghost use mathlib.Core.Bool.{true};
 ghost use mathlib.Core.List.{List, []};
+ghost use mathlib.Core.Logic.{_⊎_};
 ghost use lib.Dec.{eqb};
-ghost use lib.ListN.{length};
+ghost use lib.ListN.{length, drop};
 ghost use Rattle.model.specs.Heap.{markOf, kindAt, ptrsAt, sizeAt, viewKind, inPtrs, inPlain, Objects, range, pointerWords};
-ghost use Rattle.model.specs.Sound.{pointers};
+ghost use Rattle.model.specs.Sound.{pointers, zeros};
 ghost use Rattle.heap.specs.First.{firstBad, zeroAt, freeWords};
 ghost use Rattle.heap.specs.Table.{Small, Marks, isMarked, markedAt, found, Range, judged, Walked, Audited};
 
@@ -201,11 +203,18 @@ pub fn audit_heap(heap: &[u32], marks: &mut [bool; 16384]) -> HeapAudit
     free_zero(heap)
 }
 
-// Every word of the pointer stack is a pointer of the heap whose marks these are.
-pub fn audit_pointers(ptr: &[u32], marks: &[bool; 16384]) -> bool
-    ensures { λ r. ⌜ ((os : List ℕ) → Marks os (now (marks .entry)) → r ≡ pointers os (now (ptr .entry))) ⌝ }
+fn least(a: usize, b: usize) -> usize
+    ensures { λ r. ⌜ (r ≤ b) × ((r ≡ a) ⊎ (r ≡ b)) ⌝ }
 {
-    let a = bad_pointer(ptr, marks, 0, ptr.len());
+    if a < b { a } else { b }
+}
+
+// Every word of the pointer stack is a pointer of the heap whose marks these are, if those from `top` on are 0.
+pub fn audit_pointers(ptr: &[u32], top: usize, marks: &[bool; 16384]) -> bool
+    ensures { λ r. ⌜ ((os : List ℕ) → Marks os (now (marks .entry)) → zeros (drop top (now (ptr .entry))) ≡ true → r ≡ pointers os (now (ptr .entry))) ⌝ }
+{
+    let end = least(top, ptr.len());
+    let a = bad_pointer(ptr, marks, 0, end);
     match a {
         HeapAudit::Clean => true,
         HeapAudit::Fault(i) => false,

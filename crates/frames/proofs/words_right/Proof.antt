@@ -28,7 +28,9 @@ audit-pointers-requires : tie.Need-audit-pointers-requires
 audit-pointers-requires c κs = search needs
 
 returns-4 : tie.Need-returns-4
-returns-4 c = λ heap K. rest-last _ _ (sym (c .before .before .before .before .before .before .zeros-from .ensures) ∙ not-false _ (c .before .before .before .before .before .if1 .left)) (sym (c .before .before .before .before .zeros-from2 .ensures) ∙ not-false _ (c .before .before .before .if2 .left)) (sym (c .before .before .zeros-from3 .ensures) ∙ not-false _ (c .before .if3 .left)) (c .audit-pointers .ensures _ K)
+returns-4 c = λ heap K.
+    let above = sym (c .before .before .before .before .zeros-from2 .ensures) ∙ not-false _ (c .before .before .before .if2 .left) in
+    rest-last _ _ (sym (c .before .before .before .before .before .before .zeros-from .ensures) ∙ not-false _ (c .before .before .before .before .before .if1 .left)) above (sym (c .before .before .zeros-from3 .ensures) ∙ not-false _ (c .before .if3 .left)) (c .audit-pointers .ensures _ K above)
 
 pub words-right-spec : {M : Type 1} → statement M
 words-right-spec =
