@@ -1,4 +1,4 @@
--- A run from its state on: what is left of the budget decides what the whole run comes to, and soundness is kept.
+-- A run from its state on: what is left of the budget decides what the whole run comes to, and soundness is kept. Steps add up.
 use Prim.Native.Nat.{ℕ, zero, suc, _+_, _-_, _<_, _≤_}
 use mathlib.Core.Bool.{Bool, true, false}
 use mathlib.Core.List.{List}
@@ -12,9 +12,15 @@ use Rattle.model.specs.Instructions.{planAt}
 use Rattle.model.specs.Step.{Stepped, next, uncaught, settle, step, Ran, ran, runOn}
 use Rattle.safe.specs.Alive.{Alive, alive-step}
 use Rattle.exec.specs.Ended.{ended, endedOf, went-on, went-off}
+use Rattle.exec.specs.Applies.{Late, Later, appliedIf}
+use Rattle.exec.specs.declared.Tried.{Tried}
 use Rattle.exec.specs.declared.Outcome.{Outcome}
 use Rattle.model.specs.declared.Regs.{Regs}
+use Rattle.run.specs.declared.Ended.{Ended}
+use Rattle.run.specs.declared.Pause.{Pause}
+use Rattle.model.specs.declared.Put.{Put}
 use Rattle.model.specs.declared.Plan.{Plan}
+use Rattle.model.specs.declared.Plan.the-variants.{Write}
 use Rattle.model.specs.declared.Answer.{Answer}
 use Rattle.model.specs.declared.Answer.the-variants.{Passed, Ready, Finished, Spent, Uncaught, Refused}
 
@@ -30,73 +36,137 @@ pub record Alike (m m₀ : Machine) : Type 0 where
   pub ctl : length (m .ctl) ≡ length (m₀ .ctl)
   pub heap : length (m .heap) ≡ length (m₀ .heap)
 
--- after some steps of a budget
-pub record Going (f table : List ℕ) (budget : ℕ) (m₀ : Machine) (steps : ℕ) (m : Machine) : Type 0 where
-  pub few : steps ≤ budget
-  pub same : runOn f budget 0 m₀ ≡ runOn f (budget - steps) steps m
-  pub runs : Runs f table m
-  pub alike : Alike m m₀
+abbrev pub endedWith : Answer → Regs → Ended
+endedWith a r = record { answer = a; regs = r }
 
-module _ (f table : List ℕ) (budget : ℕ) (m₀ : Machine) where
-  pub going-start : Runs f table m₀ → Going f table budget m₀ 0 m₀
-  going-start R =
+abbrev pub pausedAt : Plan → Regs → ℕ → Pause
+pausedAt p r n = record { plan = p; regs = r; left = n }
+
+-- with n steps left the machine is at m, and with n′ left at m′: the rest of the run is the same, however many steps were done before
+pub record Going (f table : List ℕ) (n : ℕ) (m : Machine) (n′ : ℕ) (m′ : Machine) : Type 0 where
+  pub less : n′ ≤ n
+  pub same : (k : ℕ) → runOn f n k m ≡ runOn f n′ (k + (n - n′)) m′
+  pub runs : Runs f table m′
+  pub alike : Alike m′ m
+
+-- a plan that is settled apart: it is that of the next instruction, and it raises or is late
+pub record Stopped (f : List ℕ) (m : Machine) (plan : Plan) : Type 0 where
+  pub is : plan ≡ planAt f m
+  pub late : Later (m .regs) plan
+
+-- where the steps pause: at such a plan, or with no step left
+pub record Paused (f table : List ℕ) (n : ℕ) (m : Machine) (n′ : ℕ) (m′ : Machine) (plan : Plan) : Type 0 where
+  pub going : Going f table n m n′ m′
+  pub on? : m′ .regs .state ≡ 1 → ⊥
+  pub stopped : 0 < n′ → Stopped f m′ plan
+
+-- no plan writes, or the write was not done: the plan is settled apart
+pub stopped-raise : (f : List ℕ) (m : Machine) (plan : Plan) → plan ≡ planAt f m → ((put : Put) → plan ≡ Write put → ⊥) → Stopped f m plan
+stopped-raise f m plan e never = record { is = e; late = λ put u. absurd (never put u) }
+
+pub stopped-late : (f : List ℕ) (m : Machine) (put : Put) → Write put ≡ planAt f m → Late (put .into) (m .regs) → Stopped f m (Write put)
+stopped-late f m put e L = record { is = e; late = λ put′ u. subst (λ (p : Put). Late (p .into) (m .regs)) (write-one put put′ u) L }
+  where
+    write-one : (p q : Put) → Write p ≡ Write q → p ≡ q
+    write-one p q u = cc
+
+module _ (f table : List ℕ) where
+  pub going-start : (n : ℕ) (m : Machine) → Runs f table m → Going f table n m n m
+  going-start n m R =
       record {
-        few = omega arith;
-        same = (let z : budget ≡ budget - 0 = omega arith in ap (λ (n : ℕ). runOn f n 0 m₀) z);
+        less = omega arith;
+        same = λ k. let e : k ≡ k + (n - n) = omega arith in ap (λ (i : ℕ). runOn f n i m) e;
         runs = R;
         alike = record { main = refl; ptr = refl; ctl = refl; heap = refl };
       }
 
-  module _ (steps : ℕ) (m : Machine) (G : Going f table budget m₀ steps m) where
-    finished-at : (n : ℕ) → m .regs .state ≡ 1 → runOn f n steps m ≡ ran (Finished steps) m
+  pub going-trans : (n : ℕ) (m : Machine) (n′ : ℕ) (m′ : Machine) (n″ : ℕ) (m″ : Machine) → Going f table n m n′ m′ →
+      Going f table n′ m′ n″ m″ → Going f table n m n″ m″
+  going-trans n m n′ m′ n″ m″ G H =
+      let a = G .less in
+      let b = H .less in
+      record {
+        less = omega arith;
+        same =
+            λ k. let e : k + (n - n′) + (n′ - n″) ≡ k + (n - n″) = omega arith in
+            G .same k ∙ H .same (k + (n - n′)) ∙ ap (λ (i : ℕ). runOn f n″ i m″) e;
+        runs = H .runs;
+        alike =
+            record {
+              main = H .alike .main ∙ G .alike .main;
+              ptr = H .alike .ptr ∙ G .alike .ptr;
+              ctl = H .alike .ctl ∙ G .alike .ctl;
+              heap = H .alike .heap ∙ G .alike .heap;
+            };
+      }
+
+  finished-at : (n k : ℕ) (m : Machine) → m .regs .state ≡ 1 → runOn f n k m ≡ ran (Finished k) m
+  unfolding runOn
+  finished-at zero k m e = rw (eq-eqb (m .regs .state) 1 e)
+  finished-at (suc n) k m e = rw (eq-eqb (m .regs .state) 1 e)
+
+  -- from the start of a run: what it comes to at m, with n steps of the budget left
+  module _ (budget : ℕ) (m₀ : Machine) (n : ℕ) (m : Machine) (G : Going f table budget m₀ n m) where
+    done : runOn f budget 0 m₀ ≡ runOn f n (budget - n) m
+    done = let e : 0 + (budget - n) ≡ budget - n = omega arith in G .same 0 ∙ ap (λ (i : ℕ). runOn f n i m) e
+
+    pub going-finished : m .regs .state ≡ 1 → ran (Finished (budget - n)) m ≡ runOn f budget 0 m₀
+    going-finished e = sym (done ∙ finished-at n (budget - n) m e)
+
+    pub going-spent : n ≤ 0 → (m .regs .state ≡ 1 → ⊥) → ran (Spent budget) m ≡ runOn f budget 0 m₀
     unfolding runOn
-    finished-at zero e = rw (eq-eqb (m .regs .state) 1 e)
-    finished-at (suc n) e = rw (eq-eqb (m .regs .state) 1 e)
+    going-spent l u =
+        let z : n ≡ 0 = omega arith in
+        let b : budget - 0 ≡ budget = omega arith in
+        sym (done ∙ rw (z, b, ne-eqb (m .regs .state) 1 u))
 
-    pub going-finished : m .regs .state ≡ 1 → ran (Finished steps) m ≡ runOn f budget 0 m₀
-    going-finished e = sym (G .same ∙ finished-at (budget - steps) e)
+  -- one step further: one step less is left
+  module _ (n : ℕ) (m : Machine) (R : Runs f table m) (some : 0 < n) (on? : m .regs .state ≡ 1 → ⊥) where
+    left : n ≡ suc (n - 1)
+    left = omega arith
 
-    pub going-spent : budget ≤ steps → (m .regs .state ≡ 1 → ⊥) → ran (Spent steps) m ≡ runOn f budget 0 m₀
+    stepped : (m′ : Machine) → step f m ≡ next m′ → Alike m′ m → Going f table n m (n - 1) m′
     unfolding runOn
-    going-spent l n =
-        let a = G .few in
-        let z : budget - steps ≡ 0 = omega arith in
-        sym (G .same ∙ rw (z, ne-eqb (m .regs .state) 1 n))
+    stepped m′ w a =
+        record {
+          less = omega arith;
+          same =
+              λ k. let e : suc k ≡ k + (n - (n - 1)) = omega arith in
+              ap (λ (i : ℕ). runOn f i k m) left ∙ rw (ne-eqb (m .regs .state) 1 on?, w) (ap (λ (i : ℕ). runOn f (n - 1) i m′) e);
+          runs = record { map = R .map; alive = alive-step (R .alive) on? w };
+          alike = a;
+        }
 
-    module _ (below : steps < budget) (on? : m .regs .state ≡ 1 → ⊥) (plan : Plan) (plan-is : plan ≡ planAt f m) (o : Outcome)
-        (main ptr ctl heap : List ℕ) (e : ended o main ptr ctl heap ≡ endedOf m (settle f m plan)) where
-      left : budget - steps ≡ suc (budget - suc steps)
-      left = omega arith
+    -- a plan's writes are done
+    pub going-applied : (put : Put) (t : Tried) (main ptr ctl heap : List ℕ) → Write put ≡ planAt f m → t .done ≡ true →
+        machine (t .regs) main ptr ctl heap ≡ appliedIf (t .done) f put m → Alike (machine (t .regs) main ptr ctl heap) m →
+        Going f table n m (n - 1) (machine (t .regs) main ptr ctl heap)
+    unfolding step settle
+    going-applied put t main ptr ctl heap e d a l =
+        stepped (machine (t .regs) main ptr ctl heap) (rw (← e) (ap next (sym (a ∙ ap (λ (u : Bool). appliedIf u f put m) d)))) l
 
+    -- a plan is settled apart
+    module _ (plan : Plan) (plan-is : plan ≡ planAt f m) (o : Outcome) (main ptr ctl heap : List ℕ)
+        (e : ended o main ptr ctl heap ≡ endedOf m (settle f m plan)) where
       step-is : (s : Stepped) → settle f m plan ≡ s → step f m ≡ s
       unfolding step
       step-is s w = rw (← plan-is) w
 
-      pub going-uncaught : o .on ≡ false → ran (Uncaught (o .code) (m .regs .place) steps) (machine (m .regs) main ptr ctl heap) ≡ runOn f budget 0 m₀
+      pub going-uncaught : (budget : ℕ) (m₀ : Machine) → Going f table budget m₀ n m → o .on ≡ false →
+          ran (Uncaught (o .code) (m .regs .place) (budget - n)) (machine (m .regs) main ptr ctl heap) ≡ runOn f budget 0 m₀
       unfolding runOn
-      going-uncaught t =
+      going-uncaught budget m₀ G t =
           let w = went-off m o main ptr ctl heap (settle f m plan) e t in
-          let k : machine (m .regs) main ptr ctl heap ≡ m = same-lists (w .1) in
-          rw k (sym (G .same ∙ rw (left, ne-eqb (m .regs .state) 1 on?, step-is (uncaught (o .code)) (w .0))))
+          let i : machine (m .regs) main ptr ctl heap ≡ m = same-lists (w .1) in
+          rw i
+          (sym (done budget m₀ n m G ∙ ap (λ (i : ℕ). runOn f i (budget - n) m) left
+          ∙ rw (ne-eqb (m .regs .state) 1 on?, step-is (uncaught (o .code)) (w .0))))
         where
           same-lists : machine (o .regs) main ptr ctl heap ≡ m → machine (m .regs) main ptr ctl heap ≡ m
           same-lists z = ap (λ (x : Machine). machine (m .regs) (x .main) (x .ptr) (x .ctl) (x .heap)) z
 
-      pub going-on : o .on ≡ true → Alike (machine (o .regs) main ptr ctl heap) m → Going f table budget m₀ (steps + 1) (machine (o .regs) main ptr ctl heap)
-      unfolding runOn
-      going-on t k =
-          let w = step-is (next (machine (o .regs) main ptr ctl heap)) (went-on m o main ptr ctl heap (settle f m plan) e t) in
-          let s : steps + 1 ≡ suc steps = omega arith in
-          rw s
-          (record {
-            few = omega arith;
-            same = G .same ∙ rw (left, ne-eqb (m .regs .state) 1 on?, w);
-            runs = record { map = G .runs .map; alive = alive-step (G .runs .alive) on? w };
-            alike =
-                record {
-                  main = k .main ∙ G .alike .main;
-                  ptr = k .ptr ∙ G .alike .ptr;
-                  ctl = k .ctl ∙ G .alike .ctl;
-                  heap = k .heap ∙ G .alike .heap;
-                };
-          })
+      pub going-on : o .on ≡ true → Alike (machine (o .regs) main ptr ctl heap) m →
+          Going f table n m (n - 1) (machine (o .regs) main ptr ctl heap)
+      going-on t a =
+          stepped (machine (o .regs) main ptr ctl heap)
+          (step-is (next (machine (o .regs) main ptr ctl heap)) (went-on m o main ptr ctl heap (settle f m plan) e t)) a

@@ -4,9 +4,12 @@ ghost use Prim.Native.Nat.{_+_, _*_, _<_, _≤_};
 ghost use lib.ListN.{length};
 ghost use Rattle.model.specs.Control.{machine};
 ghost use Rattle.model.specs.Step.{ran, runOn};
-ghost use Rattle.run.specs.Going.{Runs};
+ghost use Rattle.run.specs.Going.{Runs, Paused, endedWith, pausedAt};
 use exec::Outcome;
+use exec::Tried;
 use model::Answer;
+use model::Plan;
+use model::Put;
 use model::Regs;
 
 // An answer, with the registers then.
@@ -15,7 +18,61 @@ pub struct Ended {
     pub regs: Regs,
 }
 
-// The table has the heads of the file's procedures. Soundness is what the loop keeps, so that no step tests what it gives.
+fn answered(answer: Answer, regs: Regs) -> Ended
+    ensures { λ r. ⌜ r ≡ endedWith answer regs ⌝ }
+{
+    Ended { answer, regs }
+}
+
+// Where the steps pause: before an instruction whose plan is settled apart, or with no step left of the budget.
+pub struct Pause {
+    pub plan: Plan,
+    pub regs: Regs,
+    pub left: u32,
+}
+
+fn stop(plan: Plan, regs: Regs, left: u32) -> Pause
+    ensures { λ r. ⌜ r ≡ pausedAt plan regs left ⌝ }
+{
+    Pause { plan, regs, left }
+}
+
+// Steps on, as far as the budget lasts and no raise and no loop is needed. It is called from two places, which keeps it a function of its own
+// for the compiler: its registers are those of the steps alone. Soundness is what the loop keeps, so that no step tests what it gives.
+fn go_on(
+    file: &[u8],
+    table: &[usize; 64],
+    main: &mut [u32],
+    ptr: &mut [u32],
+    ctl: &mut [u32],
+    heap: &mut [u32],
+    regs: Regs,
+    budget: u32,
+) -> Pause
+    requires { ⌜ Runs (now file) (now table) (machine regs (now main) (now ptr) (now ctl) (now heap)) × (regs .state ≡ 1 → ⊥) ⌝ }
+    ensures { λ r. ⌜ Paused (now (file .entry)) (now (table .entry)) budget (machine regs (now (main .entry)) (now (ptr .entry)) (now (ctl .entry)) (now (heap .entry))) (r .left) (machine (r .regs) (now (main .exit)) (now (ptr .exit)) (now (ctl .exit)) (now (heap .exit))) (r .plan) ⌝ }
+{
+    let mut r = regs;
+    let mut left = budget;
+    while 0 < left {
+        let after = left - 1;
+        let plan = plan::plan_at(file, table, main, ptr, ctl, heap, r);
+        let Plan::Write(put) = plan else {
+            return stop(plan, r, left);
+        };
+        let tried = exec::apply(file, main, ptr, ctl, heap, r, put);
+        let done = tried.done;
+        if done {
+            r = tried.regs;
+            left = after;
+        } else {
+            return stop(Plan::Write(put), r, left);
+        }
+    }
+    stop(Plan::Thrown, r, left)
+}
+
+// The table has the heads of the file's procedures.
 pub fn run_on(
     file: &[u8],
     table: &[usize; 64],
@@ -29,41 +86,31 @@ pub fn run_on(
     requires { ⌜ Runs (now file) (now table) (machine regs (now main) (now ptr) (now ctl) (now heap)) ⌝ }
     ensures { λ r. ⌜ ran (r .answer) (machine (r .regs) (now (main .exit)) (now (ptr .exit)) (now (ctl .exit)) (now (heap .exit))) ≡ runOn (now (file .entry)) budget 0 (machine regs (now (main .entry)) (now (ptr .entry)) (now (ctl .entry)) (now (heap .entry))) ⌝ }
 {
-    let mut r = regs;
-    let mut steps: u32 = 0;
-    while steps < budget {
-        let after = steps + 1;
-        let state = r.state;
-        if state == 1 {
-            return Ended {
-                answer: Answer::Finished(steps),
-                regs: r,
-            };
-        }
+    let state = regs.state;
+    if state == 1 {
+        return answered(Answer::Finished(0), regs);
+    }
+    let first = go_on(file, table, main, ptr, ctl, heap, regs, budget);
+    let mut r = first.regs;
+    let mut plan = first.plan;
+    let mut left = first.left;
+    while 0 < left {
+        let after = left - 1;
         let place = r.place;
-        let plan = plan::plan_at(file, table, main, ptr, ctl, heap, r);
         let out = exec::step_with(file, table, main, ptr, ctl, heap, r, plan);
         let on = out.on;
-        if on {
-            let next = out.regs;
-            r = next;
-            steps = after;
-        } else {
-            return Ended {
-                answer: Answer::Uncaught(out.code, place, steps),
-                regs: r,
-            };
+        if !on {
+            return answered(Answer::Uncaught(out.code, place, budget - left), r);
         }
+        let next = out.regs;
+        let end = next.state;
+        if end == 1 {
+            return answered(Answer::Finished(budget - after), next);
+        }
+        let pause = go_on(file, table, main, ptr, ctl, heap, next, after);
+        r = pause.regs;
+        plan = pause.plan;
+        left = pause.left;
     }
-    let state = r.state;
-    if state == 1 {
-        return Ended {
-            answer: Answer::Finished(steps),
-            regs: r,
-        };
-    }
-    Ended {
-        answer: Answer::Spent(steps),
-        regs: r,
-    }
+    answered(Answer::Spent(budget), r)
 }

@@ -32,6 +32,7 @@ use Rattle.sound.specs.Laws.{CodeLaws, call-byte, call-after, at-exit, depth-mo
 use Rattle.sound.specs.Sound.{Running}
 use Rattle.sound.specs.Keep.{framePut, behindPut}
 use Rattle.plan.specs.Ready.{Ready, placeOf, here}
+use Rattle.writes.specs.Asks.{Pops}
 use Rattle.exec.specs.Applies.{Stands, Suits}
 use Rattle.exec.specs.Ended.{Caught, stands-raises, Settles}
 use Rattle.safe.specs.Alive.{Alive, alive-laws, alive-running}
@@ -85,66 +86,86 @@ module _ {f table : List ℕ} {m : Machine} (Y : Ready f table m) (open-one : he
       go (inl e) = absurd (u e)
       go (inr o) = o
 
+  -- at most so many words go as the arms of `writes::plain` pop
+  gone : (a b : ℕ) (put : Put) → mtop m ≤ put .mtop + a → ptop m ≤ put .ptop + b → Pops a b (m .regs) put
+  gone a b put h k = record { main = h; ptr = k }
+
   basic-suits : (q : ℕ) (b : Basic) → At (basic b) → Suited (basicPlan m q b)
   unfolding basicPlan basicEffect effectOf
-  basic-suits q (local onMain s) e = let t = taken (basic (local onMain s)) e in omega arith
-  basic-suits q (local onPtr s) e = let t = taken (basic (local onPtr s)) e in omega arith
-  basic-suits q (assign onMain s) e = let a = Y .assign-main s e in let b = Y .main-top in omega arith
-  basic-suits q (assign onPtr s) e = let a = Y .assign-ptr s e in let b = Y .ptr-top in omega arith
+  basic-suits q (local onMain s) e =
+      let t = taken (basic (local onMain s)) e in (omega arith, gone 1 2 _ (omega arith) (omega arith))
+  basic-suits q (local onPtr s) e =
+      let t = taken (basic (local onPtr s)) e in (omega arith, gone 0 1 _ (omega arith) (omega arith))
+  basic-suits q (assign onMain s) e =
+      let a = Y .assign-main s e in let b = Y .main-top in (omega arith, gone 1 2 _ (omega arith) (omega arith))
+  basic-suits q (assign onPtr s) e =
+      let a = Y .assign-ptr s e in let b = Y .ptr-top in (omega arith, gone 0 1 _ (omega arith) (omega arith))
   basic-suits q (field onMain s) e =
       let t = taken (basic (field onMain s)) e in
       on-object (ptrWord m 1) (inPlain (m .heap) (ptrWord m 1) s)
-      (write into.Main q (mtop m + 1) (ptop m - 1) (mtop m) (wordAt (m .heap) (ptrWord m 1 + s))) (λ u v. omega arith)
+      (write into.Main q (mtop m + 1) (ptop m - 1) (mtop m) (wordAt (m .heap) (ptrWord m 1 + s)))
+      (λ u v. (omega arith, gone 1 2 _ (omega arith) (omega arith)))
   basic-suits q (field onPtr s) e =
       let t = taken (basic (field onPtr s)) e in
       on-object (ptrWord m 1) (inPtrs (m .heap) (ptrWord m 1) s)
-      (write into.Pointer q (mtop m) (ptop m) (ptop m - 1) (wordAt (m .heap) (ptrWord m 1 + s))) (λ u v. omega arith)
+      (write into.Pointer q (mtop m) (ptop m) (ptop m - 1) (wordAt (m .heap) (ptrWord m 1 + s)))
+      (λ u v. (omega arith, gone 0 1 _ (omega arith) (omega arith)))
   basic-suits q (setField onMain s) e =
       on-object (ptrWord m 1) (inPlain (m .heap) (ptrWord m 1) s)
       (write into.Heap q (mtop m - 1) (ptop m - 1) (ptrWord m 1 + s) (mainWord m 1))
-      (λ u v. read-plain (Y .heap) (ptrWord m 1) s (object _ u) v)
+      (λ u v. (read-plain (Y .heap) (ptrWord m 1) s (object _ u) v, gone 1 2 _ (omega arith) (omega arith)))
   basic-suits q (setField onPtr s) e =
       on-object (ptrWord m 1) (inPtrs (m .heap) (ptrWord m 1) s)
       (write into.Heap q (mtop m) (ptop m - 2) (ptrWord m 1 + s) (ptrWord m 2))
-      (λ u v. read-ptr (Y .heap) (ptrWord m 1) s (object _ u) v .1)
+      (λ u v. (read-ptr (Y .heap) (ptrWord m 1) s (object _ u) v .1, gone 1 2 _ (omega arith) (omega arith)))
   basic-suits q (form k l) e =
       let t = taken (basic (form k l)) e in
       on-test (leb (markOf (m .heap) + (2 + k + l)) (length (m .heap)))
       (write into.View q (mtop m - k) (ptop m - l + 1) (ptop m - l) (markOf (m .heap))) HeapFull tt
       (λ u. let r = leb-true (markOf (m .heap) + (2 + k + l)) (length (m .heap)) u in
       record { words = omega arith; pointers = omega arith; below = omega arith; room = omega arith })
-  basic-suits q (literal w) e = let t = taken (basic (literal w)) e in omega arith
-  basic-suits q nil e = let t = taken (basic nil) e in omega arith
-  basic-suits q root e = let t = taken (basic root) e in omega arith
-  basic-suits q setRoot e = let h = Y .heap-least in omega arith
-  basic-suits q (retract keepMain k l) e = let t = taken (basic (retract keepMain k l)) e in let a = Y .main-top in omega arith
-  basic-suits q (retract keepPtr k l) e = let t = taken (basic (retract keepPtr k l)) e in let a = Y .ptr-top in omega arith
-  basic-suits q (retract keepNone k l) e = tt
+  basic-suits q (literal w) e =
+      let t = taken (basic (literal w)) e in (omega arith, gone 1 2 _ (omega arith) (omega arith))
+  basic-suits q nil e = let t = taken (basic nil) e in (omega arith, gone 0 1 _ (omega arith) (omega arith))
+  basic-suits q root e = let t = taken (basic root) e in (omega arith, gone 0 1 _ (omega arith) (omega arith))
+  basic-suits q setRoot e = let h = Y .heap-least in (omega arith, gone 1 2 _ (omega arith) (omega arith))
+  basic-suits q (retract keepMain k l) e =
+      let t = taken (basic (retract keepMain k l)) e in
+      let a = Y .main-top in
+      (omega arith, record { main = omega arith; ptr = omega arith })
+  basic-suits q (retract keepPtr k l) e =
+      let t = taken (basic (retract keepPtr k l)) e in
+      let a = Y .ptr-top in
+      (omega arith, record { main = omega arith; ptr = omega arith })
+  basic-suits q (retract keepNone k l) e = record { main = omega arith; ptr = omega arith }
   basic-suits q (binary o) e =
       let t = taken (basic (binary o)) e in
-      on-value (operate o (mainWord m 2) (mainWord m 1)) (λ w. write into.Main q (mtop m - 1) (ptop m) (mtop m - 2) w) (λ w. omega arith)
-  basic-suits q samePtr e = let t = taken (basic samePtr) e in omega arith
+      on-value (operate o (mainWord m 2) (mainWord m 1)) (λ w. write into.Main q (mtop m - 1) (ptop m) (mtop m - 2) w)
+      (λ w. (omega arith, gone 1 2 _ (omega arith) (omega arith)))
+  basic-suits q samePtr e =
+      let t = taken (basic samePtr) e in (omega arith, gone 1 2 _ (omega arith) (omega arith))
   basic-suits q (unary o) e =
       let t = taken (basic (unary o)) e in
-      on-value (operate1 o (mainWord m 1)) (λ w. write into.Main q (mtop m) (ptop m) (mtop m - 1) w) (λ w. omega arith)
+      on-value (operate1 o (mainWord m 1)) (λ w. write into.Main q (mtop m) (ptop m) (mtop m - 1) w)
+      (λ w. (omega arith, gone 1 2 _ (omega arith) (omega arith)))
 
   ins-suits : (x : Ins) → At x → Suited (planOf f m (after f (placeOf m)) x)
   unfolding planOf effectOf
   ins-suits (basic b) e = basic-suits (after f (placeOf m)) b e
-  ins-suits (jump t) e = tt
-  ins-suits (branch false t) e = tt
-  ins-suits (branch true t) e = tt
+  ins-suits (jump t) e = gone 1 0 _ (omega arith) (omega arith)
+  ins-suits (branch false t) e = gone 1 0 _ (omega arith) (omega arith)
+  ins-suits (branch true t) e = gone 1 0 _ (omega arith) (omega arith)
   ins-suits (branchKeep false t) e =
       both
       (λ u. if u then write into.Nothing (after f (placeOf m)) (mtop m - 1) (ptop m) 0 0 else write into.Nothing t (mtop m) (ptop m) 0 0)
-      tt
-      tt
+      (gone 1 0 _ (omega arith) (omega arith))
+      (gone 1 0 _ (omega arith) (omega arith))
       (truth (mainWord m 1))
   ins-suits (branchKeep true t) e =
       both
       (λ u. if u then write into.Nothing t (mtop m) (ptop m) 0 0 else write into.Nothing (after f (placeOf m)) (mtop m - 1) (ptop m) 0 0)
-      tt
-      tt
+      (gone 1 0 _ (omega arith) (omega arith))
+      (gone 1 0 _ (omega arith) (omega arith))
       (truth (mainWord m 1))
   ins-suits (call k) e =
       let b = call-after f (placeOf m) (call-byte f (placeOf m) k e) in
