@@ -70,7 +70,20 @@ stopped-late f m put e L = record { is = e; late = λ put′ u. subst (λ (p : P
     write-one : (p q : Put) → Write p ≡ Write q → p ≡ q
     write-one p q u = cc
 
+-- the registers kept and the lists of m: m
+same-lists : (r : Regs) (main ptr ctl heap : List ℕ) (m : Machine) → machine r main ptr ctl heap ≡ m → machine (m .regs) main ptr ctl heap ≡ m
+same-lists r main ptr ctl heap m z = ap (λ (x : Machine). machine (m .regs) (x .main) (x .ptr) (x .ctl) (x .heap)) z
+
 module _ (f table : List ℕ) where
+  -- a write that was not done left all as it was
+  pub paused-late : (n : ℕ) (m₀ : Machine) (n′ : ℕ) (m : Machine) (put : Put) (t : Tried) (main ptr ctl heap : List ℕ) →
+      Going f table n m₀ n′ m → (m .regs .state ≡ 1 → ⊥) → Write put ≡ planAt f m → t .done ≡ false →
+      machine (t .regs) main ptr ctl heap ≡ appliedIf (t .done) f put m → (t .done ≡ false → Late (put .into) (m .regs)) →
+      Paused f table n m₀ n′ (machine (m .regs) main ptr ctl heap) (Write put)
+  paused-late n m₀ n′ m put t main ptr ctl heap G u e d a l =
+      let k = same-lists (t .regs) main ptr ctl heap m (a ∙ ap (λ (b : Bool). appliedIf b f put m) d) in
+      rw k (record { going = G; on? = u; stopped = λ h. stopped-late f m put e (l d) })
+
   pub going-start : (n : ℕ) (m : Machine) → Runs f table m → Going f table n m n m
   going-start n m R =
       record {
@@ -157,13 +170,10 @@ module _ (f table : List ℕ) where
       unfolding runOn
       going-uncaught budget m₀ G t =
           let w = went-off m o main ptr ctl heap (settle f m plan) e t in
-          let i : machine (m .regs) main ptr ctl heap ≡ m = same-lists (w .1) in
+          let i = same-lists (o .regs) main ptr ctl heap m (w .1) in
           rw i
           (sym (done budget m₀ n m G ∙ ap (λ (i : ℕ). runOn f i (budget - n) m) left
           ∙ rw (ne-eqb (m .regs .state) 1 on?, step-is (uncaught (o .code)) (w .0))))
-        where
-          same-lists : machine (o .regs) main ptr ctl heap ≡ m → machine (m .regs) main ptr ctl heap ≡ m
-          same-lists z = ap (λ (x : Machine). machine (m .regs) (x .main) (x .ptr) (x .ctl) (x .heap)) z
 
       pub going-on : o .on ≡ true → Alike (machine (o .regs) main ptr ctl heap) m →
           Going f table n m (n - 1) (machine (o .regs) main ptr ctl heap)
