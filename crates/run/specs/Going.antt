@@ -113,7 +113,7 @@ module _ (f table : List ℕ) where
             };
       }
 
-  finished-at : (n k : ℕ) (m : Machine) → m .regs .state ≡ 1 → runOn f n k m ≡ ran (Finished k) m
+  pub finished-at : (n k : ℕ) (m : Machine) → m .regs .state ≡ 1 → runOn f n k m ≡ ran (Finished k) m
   unfolding runOn
   finished-at zero k m e = rw (eq-eqb (m .regs .state) 1 e)
   finished-at (suc n) k m e = rw (eq-eqb (m .regs .state) 1 e)
@@ -175,8 +175,9 @@ module _ (f table : List ℕ) where
           (sym (done budget m₀ n m G ∙ ap (λ (i : ℕ). runOn f i (budget - n) m) left
           ∙ rw (ne-eqb (m .regs .state) 1 on?, step-is (uncaught (o .code)) (w .0))))
 
-      pub going-on : o .on ≡ true → Alike (machine (o .regs) main ptr ctl heap) m →
-          Going f table n m (n - 1) (machine (o .regs) main ptr ctl heap)
-      going-on t a =
-          stepped (machine (o .regs) main ptr ctl heap)
-          (step-is (next (machine (o .regs) main ptr ctl heap)) (went-on m o main ptr ctl heap (settle f m plan) e t)) a
+      pub going-on : (budget : ℕ) (m₀ : Machine) → Going f table budget m₀ n m → o .on ≡ true → Alike (machine (o .regs) main ptr ctl heap) m →
+          Going f table budget m₀ (n - 1) (machine (o .regs) main ptr ctl heap)
+      going-on budget m₀ G t a =
+          going-trans budget m₀ n m (n - 1) (machine (o .regs) main ptr ctl heap) G
+          (stepped (machine (o .regs) main ptr ctl heap)
+          (step-is (next (machine (o .regs) main ptr ctl heap)) (went-on m o main ptr ctl heap (settle f m plan) e t)) a)

@@ -100,12 +100,14 @@ pub fn run_on(
         let out = exec::step_with(file, table, main, ptr, ctl, heap, r, plan);
         let on = out.on;
         if !on {
-            return answered(Answer::Uncaught(out.code, place, budget - left), r);
+            let done = budget - left;
+            return answered(Answer::Uncaught(out.code, place, done), r);
         }
         let next = out.regs;
         let end = next.state;
         if end == 1 {
-            return answered(Answer::Finished(budget - after), next);
+            let done = budget - after;
+            return answered(Answer::Finished(done), next);
         }
         let pause = go_on(file, table, main, ptr, ctl, heap, next, after);
         r = pause.regs;
