@@ -1,29 +1,26 @@
 -- What holds of every state of a run, `Alive`: run's tests let nothing else through, and a step keeps it. Its registers are small. Each
 -- follows from the soundness theory, since a passed check gives the laws of the code.
-use Prim.Native.Nat.{ℕ, _*_, _<_, _≤_}
+use Prim.Native.Nat.{ℕ, _≤_}
 use mathlib.Core.Path.{_≡_}
 use mathlib.Core.Bool.{true}
 use mathlib.Core.List.{List}
 use mathlib.Core.Logic.{inl, inr}
 use native.Mathlib.Omega.{arith}
 use lib.ListN.{length}
-use Rattle.model.specs.Choice.{All, Mem}
-use Rattle.model.specs.File.{fileMost, procs, mostMain, mostPtr, instructions}
+use Rattle.model.specs.Choice.{All}
+use Rattle.model.specs.File.{fileMost, procs, mostMain, mostPtr}
 use Rattle.model.specs.Heap.{Heap, Pointer, clean, heapOf, objectsOf}
 use Rattle.model.specs.Control.{Machine, machine, recordWords}
 use Rattle.model.specs.Step.{next, step}
-use Rattle.model.specs.Sound.{isIns, sound?}
+use Rattle.model.specs.Sound.{sound?}
 use Rattle.model.specs.Calls.{mainMost, ptrMost, ctlMost, heapMost, pass, verdictOf, Lent, lengthTests}
 use Rattle.model.specs.Claim.{Bytes}
 use Rattle.model.specs.declared.Regs.{Regs}
-use Rattle.exact.specs.Walk.{member-in, instruction-below}
 use Rattle.exact.specs.Exact.{passed-as, passed-again}
 use Rattle.scan.specs.Heading.{Placed}
 use Rattle.sound.specs.Tests.{pointer-true}
-use Rattle.sound.specs.Stack.{stack-numbers}
-use Rattle.sound.specs.Laws.{CodeLaws, code-laws, results-most}
+use Rattle.sound.specs.Laws.{CodeLaws, code-laws}
 use Rattle.sound.specs.Sound.{Running, Sound, Audited, sound-with, sound?-true}
-use Rattle.sound.specs.Keep.{running-here, running-fits}
 use Rattle.sound.specs.Steps.{step-keeps}
 use Rattle.sound.specs.Registers.{Small, sound-small}
 use Rattle.heap.specs.Audited.{heap-clean}
@@ -136,61 +133,3 @@ module _ {f map table : List ℕ} {m : Machine} (A : Alive f map table m) where
   alive-small =
       let z = A .sizes in
       sound-small f map (Pointer (A .objects)) m alive-laws (omega arith) (omega arith) (omega arith) (z .main-fits) (z .ptr-fits) (A .sound)
-
--- and no greater than the lists let them be
-pub record Bounded (r : Regs) : Type 0 where
-  pub place : r .place < fileMost
-  pub frame : recordWords * r .frame ≤ ctlMost
-  pub handler : recordWords * r .handler ≤ ctlMost
-  pub mtop : r .mtop ≤ mainMost
-  pub ptop : r .ptop ≤ ptrMost
-  pub ctop : r .ctop ≤ ctlMost
-  pub state : r .state ≤ 1
-
-pub alive-bounded : {f map table : List ℕ} {m : Machine} → Alive f map table m → Bounded (m .regs)
-unfolding isIns
-alive-bounded {f} {map} {table} {m} A = go (A .sound)
-  where
-    go : Sound f map (Pointer (A .objects)) m → Bounded (m .regs)
-    go (inl S) =
-        let R = S .3 in
-        let L = alive-laws A in
-        let z = A .sizes in
-        let N = stack-numbers f map (length (m .main)) (length (m .ptr)) (m .ctl) (S .0) (R .stack) in
-        let T = running-fits f map L (Pointer (A .objects)) m (S .0) (S .1) (S .2) R in
-        let i : Mem (m .regs .place) (instructions f) =
-        member-in (m .regs .place) (instructions f) (running-here f map (Pointer (A .objects)) m (S .0) (S .1) (S .2) R) in
-        let p = instruction-below f (L .formed .places) (L .formed .records) (m .regs .place) i in
-        let s = A .short in
-        let e = R .ctl-top in
-        let r = R .room in
-        let t = R .state-is in
-        record {
-          place = omega arith;
-          frame = omega arith;
-          handler = omega arith;
-          mtop = omega arith;
-          ptop = omega arith;
-          ctop = omega arith;
-          state = omega arith;
-        }
-    go (inr D) =
-        let L = alive-laws A in
-        let z = A .sizes in
-        let H = results-most f map L in
-        let d0 = D .place-is in
-        let d1 = D .frame-is in
-        let d2 = D .handler-is in
-        let d3 = D .main-top in
-        let d4 = D .ptr-top in
-        let d5 = D .ctl-top in
-        let d6 = D .state-is in
-        record {
-          place = omega arith;
-          frame = omega arith;
-          handler = omega arith;
-          mtop = omega arith;
-          ptop = omega arith;
-          ctop = omega arith;
-          state = omega arith;
-        }
