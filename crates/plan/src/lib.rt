@@ -71,7 +71,7 @@ fn plain_fields(file: &[u8], main: &[u32], ptr: &[u32], heap: &[u32], regs: Regs
     let top = regs.ptop - 1;
     let object = plans::wide(ptr[top]);
     if object == 0 {
-        return Plan::NilObject;
+        return Plan::NilObject; // before the field is looked for: 2, not 3
     }
     let s = code::operand(file, place);
     if !heap::in_plain(heap, object, s) {
