@@ -1,133 +1,16 @@
--- A number that a match has found to be one of a list, or none of several: what holds at each code of the list holds at it, and a number
--- that is no other instruction's code stands for raise.
+-- The codes of the two matches, `plan_at`'s and `plan_other`'s: a number that is in neither stands for raise.
 use Prim.Native.Nat.{ℕ}
-use mathlib.Core.Bool.{Bool, true, false}
 use mathlib.Core.List.{List, [], _∷_, _++_}
-use mathlib.Core.Logic.{_⊎_, inl, inr, ⊎-elim}
 use mathlib.Core.Path.{_≡_}
-use lib.Dec.{T, eqb, eqb→eq}
-use borrow.Author.Tests.{ne-eqb}
-use Rattle.model.specs.Choice.{if_then_else_, member}
 use Rattle.model.specs.File.{raise, insOf}
-
--- k is one of the numbers, as a match's arm tells it
-abbrev pub OneOf : List ℕ → ℕ → Type 0
-OneOf [] k = ⊥
-OneOf (n ∷ []) k = k ≡ n
-OneOf (n ∷ m ∷ ns) k = (k ≡ n) ⊎ OneOf (m ∷ ns) k
-
--- k is in none of the lists, as a match's last arm tells it; the last list is the first arm's
-abbrev pub NoneOf : List (List ℕ) → ℕ → Type 0
-NoneOf [] k = Unit {0}
-NoneOf (ns ∷ nss) k = NoneOf nss k × (OneOf ns k → ⊥)
-
--- a statement at each of the numbers, and a test
-abbrev pub Every : (ℕ → Type 0) → List ℕ → Type 0
-Every P [] = Unit {0}
-Every P (n ∷ ns) = P n × Every P ns
-
-abbrev pub each? : (ℕ → Bool) → List ℕ → Bool
-each? t [] = true
-each? t (n ∷ ns) = if t n then each? t ns else false
-
-pub every : (P : ℕ → Type 0) (ns : List ℕ) (k : ℕ) → Every P ns → OneOf ns k → P k
-every P (n ∷ []) k h e = rw e (h .0)
-every P (n ∷ m ∷ ns) k h (inl e) = rw e (h .0)
-every P (n ∷ m ∷ ns) k h (inr o) = every P (m ∷ ns) k (h .1) o
-
-pub and-both : (t u : Bool) → T (if t then u else false) → T t × T u
-and-both true u h = (tt, h)
-and-both false u h = absurd h
-
-pub passed : (t : ℕ → Bool) (ns : List ℕ) → T (each? t ns) → Every (λ n. T (t n)) ns
-passed t [] h = tt
-passed t (n ∷ ns) h = let g = and-both (t n) (each? t ns) h in (g .0, passed t ns (g .1))
-
--- n is in one of the lists
-abbrev pub among : List (List ℕ) → ℕ → Bool
-among [] n = false
-among (ns ∷ nss) n = if member n ns then true else among nss n
-
-or-either : (t u : Bool) → T (if t then true else u) → T t ⊎ T u
-or-either true u h = inl tt
-or-either false u h = inr h
-
-pub one-of : (ns : List ℕ) (n : ℕ) → T (member n ns) → OneOf ns n
-one-of [] n t = t
-one-of (m ∷ []) n t = ⊎-elim (λ q. eqb→eq n m q) (λ r. absurd r) (or-either (eqb n m) false t)
-one-of (m ∷ l ∷ ns) n t =
-    ⊎-elim (λ q. inl (eqb→eq n m q)) (λ r. inr (one-of (l ∷ ns) n r)) (or-either (eqb n m) (member n (l ∷ ns)) t)
-
-pub none-of : (nss : List (List ℕ)) (k : ℕ) → NoneOf nss k → (n : ℕ) → T (among nss n) → k ≡ n → ⊥
-none-of [] k h n t e = t
-none-of (ns ∷ nss) k h n t e =
-    ⊎-elim
-    (λ q. h .1 (rw e (one-of ns n q)))
-    (λ r. none-of nss k (h .0) n r e)
-    (or-either (member n ns) (among nss n) t)
-
--- the codes of the instructions other than 162, in the order of the table
-abbrev pub codes : List ℕ
-codes =
-    1 ∷ 3 ∷ 2 ∷ 4 ∷ 5 ∷ 6 ∷ 20 ∷ 21 ∷ 22 ∷ 23 ∷ 30 ∷ 31 ∷ 32 ∷ 33 ∷ 36 ∷ 54 ∷ 56 ∷ 57 ∷ 58 ∷ 59
-    ∷ 60 ∷ 62 ∷ 64 ∷ 72 ∷ 73 ∷ 130 ∷ 131 ∷ 195 ∷ 198 ∷ 201 ∷ 204 ∷ 140 ∷ 141 ∷ 142 ∷ 143 ∷ 145 ∷ 144 ∷ 146 ∷ 160 ∷ 161
-    ∷ []
-
-pub ins-other : (nss : List (List ℕ)) → T (each? (among nss) codes) → (f : List ℕ) (p k : ℕ) → NoneOf nss k → insOf f p k ≡ raise
-unfolding insOf
-ins-other nss t f p k h =
-    let out : (n : ℕ) → T (member n codes) → k ≡ n → ⊥ =
-    λ n m. none-of nss k h n (every (λ n. T (among nss n)) codes n (passed (among nss) codes t) (one-of codes n m))
-    in
-    rw (
-      ne-eqb k 1 (out 1 tt),
-      ne-eqb k 3 (out 3 tt),
-      ne-eqb k 2 (out 2 tt),
-      ne-eqb k 4 (out 4 tt),
-      ne-eqb k 5 (out 5 tt),
-      ne-eqb k 6 (out 6 tt),
-      ne-eqb k 20 (out 20 tt),
-      ne-eqb k 21 (out 21 tt),
-      ne-eqb k 22 (out 22 tt),
-      ne-eqb k 23 (out 23 tt),
-      ne-eqb k 30 (out 30 tt),
-      ne-eqb k 31 (out 31 tt),
-      ne-eqb k 32 (out 32 tt),
-      ne-eqb k 33 (out 33 tt),
-      ne-eqb k 36 (out 36 tt),
-      ne-eqb k 54 (out 54 tt),
-      ne-eqb k 56 (out 56 tt),
-      ne-eqb k 57 (out 57 tt),
-      ne-eqb k 58 (out 58 tt),
-      ne-eqb k 59 (out 59 tt),
-      ne-eqb k 60 (out 60 tt),
-      ne-eqb k 62 (out 62 tt),
-      ne-eqb k 64 (out 64 tt),
-      ne-eqb k 72 (out 72 tt),
-      ne-eqb k 73 (out 73 tt),
-      ne-eqb k 130 (out 130 tt),
-      ne-eqb k 131 (out 131 tt),
-      ne-eqb k 195 (out 195 tt),
-      ne-eqb k 198 (out 198 tt),
-      ne-eqb k 201 (out 201 tt),
-      ne-eqb k 204 (out 204 tt),
-      ne-eqb k 140 (out 140 tt),
-      ne-eqb k 141 (out 141 tt),
-      ne-eqb k 142 (out 142 tt),
-      ne-eqb k 143 (out 143 tt),
-      ne-eqb k 145 (out 145 tt),
-      ne-eqb k 144 (out 144 tt),
-      ne-eqb k 146 (out 146 tt),
-      ne-eqb k 160 (out 160 tt),
-      ne-eqb k 161 (out 161 tt),
-    )
+use Rattle.code.specs.Kinds.{NoneOf, ins-other}
 
 -- one arm for each code
 abbrev pub singles : List ℕ → List (List ℕ)
 singles [] = []
 singles (n ∷ ns) = (n ∷ []) ∷ singles ns
 
--- the codes of `plan_at`'s arms, the last arm's first, and those of `plan_other`'s
+-- the last arm's first
 abbrev pub atCodes : List ℕ
 atCodes =
     204 ∷ 201 ∷ 198 ∷ 195 ∷ 146 ∷ 145 ∷ 144 ∷ 143 ∷ 142 ∷ 141 ∷ 140 ∷ 130 ∷ 54 ∷ 22 ∷ 20 ∷ 6 ∷ 5 ∷ 4 ∷ 3 ∷ 2 ∷ 1 ∷ []

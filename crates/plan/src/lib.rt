@@ -13,10 +13,11 @@ ghost use Rattle.model.specs.Words.{wordAt};
 ghost use Rattle.model.specs.File as model;
 ghost use Rattle.model.specs.Control.{machine, recOf};
 ghost use Rattle.model.specs.Instructions.{planAt};
+ghost use Rattle.code.specs.Kinds.{NoneOf};
 ghost use Rattle.code.specs.Parts.{Small};
 ghost use Rattle.heap.specs.Stores.{Lies};
 ghost use Rattle.plans.specs.Given.{planned, Body, Within, Record};
-ghost use Rattle.plan.specs.Kinds.{NoneOf, singles, atCodes};
+ghost use Rattle.plan.specs.Kinds.{singles, atCodes};
 ghost use Rattle.plan.specs.Ready.{Ready};
 
 // The index of word s of a frame, whose base is the control stack's word there.
@@ -70,7 +71,7 @@ fn plain_fields(file: &[u8], main: &[u32], ptr: &[u32], heap: &[u32], regs: Regs
     let top = regs.ptop - 1;
     let object = plans::wide(ptr[top]);
     if object == 0 {
-        return Plan::NilObject;
+        return Plan::NilObject; // before the field is looked for: 2, not 3
     }
     let s = code::operand(file, place);
     if !heap::in_plain(heap, object, s) {

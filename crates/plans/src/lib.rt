@@ -262,7 +262,10 @@ pub fn unaries(main: &[u32], regs: Regs, kind: u8) -> Plan
     let at = regs.mtop - 1;
     let a = main[at];
     if kind == 144 {
-        return number(words::neg(a), place, regs.mtop, regs.ptop, at);
+        if !words::negates(a) {
+            return Plan::Overflow;
+        }
+        return writes(Into::Main, place, regs.mtop, regs.ptop, at, words::neg(a));
     }
     writes(Into::Main, place, regs.mtop, regs.ptop, at, words::not(a))
 }

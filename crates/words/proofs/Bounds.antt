@@ -1,10 +1,10 @@
--- Whole numbers in the machine's bits: those of words fit 32 bits, their sums, differences, products and negatives 64, and the quotient of all but -2^31 by -1 fits 32.
+-- Whole numbers in the machine's bits: those of words fit 32 bits, their sums, differences and products 64, and the quotient of all but -2^31 by -1 fits 32.
 -- Each bound is one on `mag`, which is n of n and of -(n + 1).
 use Prim.Native.Nat.{ℕ, zero, suc, _+_, _-_, _*_, _/_, _%_, _^_, _<_, _≤_}
 use mathlib.Core.Bool.{Bool, true, false, _&&_, true≢false}
 use mathlib.Core.Logic.{_⊎_, inl, inr, ⊎-elim}
 use mathlib.Core.Path.{_≡_, refl, sym, _∙_, ap}
-use lib.IntN.{ℤ, pos, negsuc, negℤ, _+ℤ_, _-ℤ_, _*ℤ_, subℕ, +ℤ-idl}
+use lib.IntN.{ℤ, pos, negsuc, negℤ, _+ℤ_, _*ℤ_, subℕ}
 use lib.Signed.{mag, mag-rem, quotZ, remZ, ltZ}
 use lib.Dec.{ltb, lit<}
 use mir.Syntax.{Width, w32, w64}
@@ -135,10 +135,6 @@ module _ {a b : ℕ} (f : a < 4294967296) (g : b < 4294967296) where
   product-fits =
       record { sfits = lt-of-le-of-lt (mag-times (signed a) (signed b)) (lt-of-le-of-lt (mul-le-mul (signed-fits a f .sfits) (signed-fits b g .sfits)) (lit< tt)) }
 
--- as the machine negates: from 0
-pub negation-fits : (a : ℕ) → a < 4294967296 → SFits w64 (pos 0 -ℤ signed a)
-negation-fits a f = rw +ℤ-idl (record { sfits = omega (arith, signed-fits a f .sfits, mag-neg-one (signed a)) })
-
 -- -2^31 by -1 alone does not fit
 quot-fits : (x y : ℤ) → SFits w32 x → (x ≡ negsuc 2147483647 → ⊥) ⊎ (y ≡ negsuc 0 → ⊥) → SFits w32 (quotZ x y)
 quot-fits (pos a) (pos b) f h = record { sfits = omega (arith, f .sfits, div-le-self a b) }
@@ -170,6 +166,15 @@ module _ {a b : ℕ} (f : a < 4294967296) (g : b < 4294967296) where
 pub remainder-by-one : (z : ℤ) → remZ z (negsuc 0) ≡ pos 0
 remainder-by-one (pos n) = ap pos (omega arith)
 remainder-by-one (negsuc n) = let e : suc n % 1 ≡ 0 = omega arith in rw e
+
+neg-fits : (z : ℤ) → SFits w32 z → (z ≡ negsuc 2147483647 → ⊥) → SFits w32 (negℤ z)
+neg-fits (pos n) f h = record { sfits = mag-neg-lt n 2147483648 (omega arith) (omega (arith, f .sfits)) }
+neg-fits (negsuc n) f h =
+    let k : n ≡ 2147483647 → ⊥ = λ e. h (ap negsuc e) in
+    record { sfits = omega (arith, f .sfits) }
+
+pub negative-fits : (a : ℕ) → a < 4294967296 → (a ≡ 2147483648 → ⊥) → SFits w32 (negℤ (signed a))
+negative-fits a f h = neg-fits (signed a) (signed-fits a f) (signed-other a (negsuc 2147483647) f h)
 
 -- ---- the range of a word: what fits 32 bits
 

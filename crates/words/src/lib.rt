@@ -79,12 +79,6 @@ pub fn times(a: u32, b: u32) -> i64
     wide(a) * wide(b)
 }
 
-pub fn neg(a: u32) -> i64
-    ensures { λ r. ⌜ r ≡ negℤ (signed a) ⌝ }
-{
-    -wide(a)
-}
-
 // rounded towards zero; -2^31 by -1 is the one quotient outside the range
 pub fn div(a: u32, b: u32) -> Value
     ensures { λ r. ⌜ r ≡ operate Op.div a b ⌝ }
@@ -109,6 +103,24 @@ pub fn rem(a: u32, b: u32) -> Value
         return Value::Word(0);
     }
     Value::Word(word(whole(a) % whole(b)))
+}
+
+// whether a word's negative is in the range: all but that of -2^31, which is tested first
+pub fn negates(a: u32) -> bool
+    ensures { λ r. ⌜ r ≡ inRange (negℤ (signed a)) ⌝ }
+{
+    if a == LEAST {
+        return false;
+    }
+    true
+}
+
+// the word of the negative then
+pub fn neg(a: u32) -> u32
+    requires { ⌜ inRange (negℤ (signed a)) ≡ true ⌝ }
+    ensures { λ r. ⌜ r ≡ toWord (negℤ (signed a)) ⌝ }
+{
+    word(-whole(a))
 }
 
 pub fn not(a: u32) -> u32
