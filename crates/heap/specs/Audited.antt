@@ -132,7 +132,7 @@ mem-member v (o ∷ os) (inr i) = go (eqb v o) (mem-member v os i)
     go true e = refl
     go false e = e
 
-pub is-pointer : (os : List ℕ) (v : ℕ) → isPointer os v ≡ true → Pointer os v
+is-pointer : (os : List ℕ) (v : ℕ) → isPointer os v ≡ true → Pointer os v
 unfolding isPointer
 is-pointer os v e = go (eqb v 0) refl e
   where

@@ -210,13 +210,16 @@ fn least(a: usize, b: usize) -> usize
 }
 
 // Every word of the pointer stack is a pointer of the heap whose marks these are, if those from `top` on are 0.
+// A loop of its own and downwards: with fewer values in it, it keeps to registers where it is inlined.
 pub fn audit_pointers(ptr: &[u32], top: usize, marks: &[bool; 16384]) -> bool
     ensures { λ r. ⌜ ((os : List ℕ) → Marks os (now (marks .entry)) → zeros (drop top (now (ptr .entry))) ≡ true → r ≡ pointers os (now (ptr .entry))) ⌝ }
 {
-    let end = least(top, ptr.len());
-    let a = bad_pointer(ptr, marks, 0, end);
-    match a {
-        HeapAudit::Clean => true,
-        HeapAudit::Fault(i) => false,
+    let mut i = least(top, ptr.len());
+    while 0 < i {
+        i -= 1;
+        if !is_pointer(marks, ptr[i]) {
+            return false;
+        }
     }
+    true
 }

@@ -5,7 +5,7 @@ use native.Mathlib.Omega.{arith}
 use lib.ListN.{length, drop}
 use borrow.Author.Needs.{needs}
 use Rattle.model.specs.Sound.{zeros}
-use Rattle.heap.specs.Answers.{zeros-end}
+use Rattle.heap.specs.Stack.{zeros-end}
 use Rattle.frames.specs.Audit.{zeros-bad, zeros-more}
 use Rattle.frames.proofs.zeros_from.Statement.{statement}
 use Rattle.frames.proofs.zeros_from.Tie as tie
