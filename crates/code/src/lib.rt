@@ -12,8 +12,8 @@ fn wide(b: u8) -> usize
     b as usize
 }
 
-// The length of a kind's body, 255 for an unknown kind. No arm has two neighbouring codes: they would become range tests, where
-// constants alone become one lookup table.
+// The length of a kind's body, 255 for an unknown kind. A constant array would be made anew at each read; a match becomes one jump by
+// table. No arm has two neighbouring codes, which would become range tests.
 pub fn body(kind: u8) -> usize
     ensures { λ r. ⌜ Small 256 (model.bodyOf kind) r ⌝ }
 {
