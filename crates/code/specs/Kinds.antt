@@ -39,7 +39,7 @@ pub and-both : (t u : Bool) → T (if t then u else false) → T t × T u
 and-both true u h = (tt, h)
 and-both false u h = absurd h
 
-pub passed : (t : ℕ → Bool) (ns : List ℕ) → T (each? t ns) → Every (λ n. T (t n)) ns
+passed : (t : ℕ → Bool) (ns : List ℕ) → T (each? t ns) → Every (λ n. T (t n)) ns
 passed t [] h = tt
 passed t (n ∷ ns) h = let g = and-both (t n) (each? t ns) h in (g .0, passed t ns (g .1))
 
@@ -52,13 +52,13 @@ or-either : (t u : Bool) → T (if t then true else u) → T t ⊎ T u
 or-either true u h = inl tt
 or-either false u h = inr h
 
-pub one-of : (ns : List ℕ) (n : ℕ) → T (member n ns) → OneOf ns n
+one-of : (ns : List ℕ) (n : ℕ) → T (member n ns) → OneOf ns n
 one-of [] n t = t
 one-of (m ∷ []) n t = ⊎-elim (λ q. eqb→eq n m q) (λ r. absurd r) (or-either (eqb n m) false t)
 one-of (m ∷ l ∷ ns) n t =
     ⊎-elim (λ q. inl (eqb→eq n m q)) (λ r. inr (one-of (l ∷ ns) n r)) (or-either (eqb n m) (member n (l ∷ ns)) t)
 
-pub none-of : (nss : List (List ℕ)) (k : ℕ) → NoneOf nss k → (n : ℕ) → T (among nss n) → k ≡ n → ⊥
+none-of : (nss : List (List ℕ)) (k : ℕ) → NoneOf nss k → (n : ℕ) → T (among nss n) → k ≡ n → ⊥
 none-of [] k h n t e = t
 none-of (ns ∷ nss) k h n t e =
     ⊎-elim

@@ -1,4 +1,5 @@
 pub mod Parts
 pub mod Kinds
+pub mod Table
 pub mod Bodies
 pub mod Heads

@@ -4,7 +4,268 @@ ghost use Prim.Native.Nat.{_+_, _<_, _≤_};
 ghost use lib.ListN.{length};
 ghost use Rattle.model.specs.File as model;
 ghost use Rattle.code.specs.Parts.{Small};
+ghost use Rattle.code.specs.Table.{lengths};
 ghost use Rattle.code.specs.Heads.{HeadIs};
+
+// The length of each kind's body; 255 marks a kind that there is not.
+const BODY: [u8; 256] = [
+    255, // 0
+    2, // 1 fjump
+    2, // 2 jumpf
+    2, // 3 bjump
+    2, // 4 bjumpt
+    2, // 5 jumpff
+    2, // 6 jumptt
+    255, // 7
+    255, // 8
+    255, // 9
+    255, // 10
+    255, // 11
+    255, // 12
+    255, // 13
+    255, // 14
+    255, // 15
+    255, // 16
+    255, // 17
+    255, // 18
+    255, // 19
+    2, // 20 wLocal
+    2, // 21 pLocal
+    2, // 22 wLocalAss
+    2, // 23 pLocalAss
+    255, // 24
+    255, // 25
+    255, // 26
+    255, // 27
+    255, // 28
+    255, // 29
+    2, // 30 wField
+    2, // 31 pField
+    2, // 32 wSet
+    2, // 33 pSet
+    255, // 34
+    255, // 35
+    4, // 36 form
+    255, // 37
+    255, // 38
+    255, // 39
+    255, // 40
+    255, // 41
+    255, // 42
+    255, // 43
+    255, // 44
+    255, // 45
+    255, // 46
+    255, // 47
+    255, // 48
+    255, // 49
+    255, // 50
+    255, // 51
+    255, // 52
+    255, // 53
+    1, // 54 lLInt
+    255, // 55
+    4, // 56 lLWord
+    0, // 57 lNil
+    0, // 58 root
+    0, // 59 setRoot
+    4, // 60 wRetract
+    255, // 61
+    4, // 62 pRetract
+    255, // 63
+    4, // 64 retract
+    255, // 65
+    255, // 66
+    255, // 67
+    255, // 68
+    255, // 69
+    255, // 70
+    255, // 71
+    2, // 72 call
+    0, // 73 return
+    255, // 74
+    255, // 75
+    255, // 76
+    255, // 77
+    255, // 78
+    255, // 79
+    255, // 80
+    255, // 81
+    255, // 82
+    255, // 83
+    255, // 84
+    255, // 85
+    255, // 86
+    255, // 87
+    255, // 88
+    255, // 89
+    255, // 90
+    255, // 91
+    255, // 92
+    255, // 93
+    255, // 94
+    255, // 95
+    255, // 96
+    255, // 97
+    255, // 98
+    255, // 99
+    255, // 100
+    255, // 101
+    255, // 102
+    255, // 103
+    255, // 104
+    255, // 105
+    255, // 106
+    255, // 107
+    255, // 108
+    255, // 109
+    255, // 110
+    255, // 111
+    255, // 112
+    255, // 113
+    255, // 114
+    255, // 115
+    255, // 116
+    255, // 117
+    255, // 118
+    255, // 119
+    255, // 120
+    255, // 121
+    255, // 122
+    255, // 123
+    255, // 124
+    255, // 125
+    255, // 126
+    255, // 127
+    255, // 128
+    255, // 129
+    0, // 130 eqW
+    0, // 131 eqP
+    255, // 132
+    255, // 133
+    255, // 134
+    255, // 135
+    255, // 136
+    255, // 137
+    255, // 138
+    255, // 139
+    0, // 140 plus
+    0, // 141 times
+    0, // 142 minus
+    0, // 143 div
+    0, // 144 neg
+    0, // 145 rem
+    0, // 146 not
+    255, // 147
+    255, // 148
+    255, // 149
+    255, // 150
+    255, // 151
+    255, // 152
+    255, // 153
+    255, // 154
+    255, // 155
+    255, // 156
+    255, // 157
+    255, // 158
+    255, // 159
+    2, // 160 enterEHandled
+    0, // 161 exitEHandled
+    0, // 162 raise
+    255, // 163
+    255, // 164
+    255, // 165
+    255, // 166
+    255, // 167
+    255, // 168
+    255, // 169
+    255, // 170
+    255, // 171
+    255, // 172
+    255, // 173
+    255, // 174
+    255, // 175
+    255, // 176
+    255, // 177
+    255, // 178
+    255, // 179
+    255, // 180
+    255, // 181
+    255, // 182
+    255, // 183
+    255, // 184
+    255, // 185
+    255, // 186
+    255, // 187
+    255, // 188
+    255, // 189
+    255, // 190
+    255, // 191
+    255, // 192
+    255, // 193
+    255, // 194
+    0, // 195 lt
+    255, // 196
+    255, // 197
+    0, // 198 le
+    255, // 199
+    255, // 200
+    0, // 201 gt
+    255, // 202
+    255, // 203
+    0, // 204 ge
+    255, // 205
+    255, // 206
+    255, // 207
+    255, // 208
+    255, // 209
+    255, // 210
+    255, // 211
+    255, // 212
+    255, // 213
+    255, // 214
+    255, // 215
+    255, // 216
+    255, // 217
+    255, // 218
+    255, // 219
+    255, // 220
+    255, // 221
+    255, // 222
+    255, // 223
+    255, // 224
+    255, // 225
+    255, // 226
+    255, // 227
+    255, // 228
+    255, // 229
+    255, // 230
+    255, // 231
+    255, // 232
+    255, // 233
+    255, // 234
+    255, // 235
+    255, // 236
+    255, // 237
+    255, // 238
+    255, // 239
+    6, // 240 head
+    255, // 241
+    255, // 242
+    255, // 243
+    255, // 244
+    255, // 245
+    255, // 246
+    255, // 247
+    255, // 248
+    255, // 249
+    255, // 250
+    255, // 251
+    255, // 252
+    255, // 253
+    255, // 254
+    255, // 255
+];
 
 fn wide(b: u8) -> usize
     ensures { λ r. ⌜ Small 256 b r ⌝ }
@@ -12,36 +273,28 @@ fn wide(b: u8) -> usize
     b as usize
 }
 
-// The length of a kind's body, 255 for an unknown kind. No arm has two neighbouring codes: they would become range tests, where
-// constants alone become one lookup table.
-pub fn body(kind: u8) -> usize
+// A copy of the table. The compiler makes a constant array anew at each use: each pass over the records takes one copy and lends it.
+pub fn bodies() -> [u8; 256]
+    ensures { λ r. ⌜ r ≡ lengths ⌝ }
+{
+    BODY
+}
+
+// The length of a kind's body, 255 for an unknown kind; `bodies` is a copy of the table.
+pub fn body(bodies: &[u8; 256], kind: u8) -> usize
+    requires { ⌜ now bodies ≡ lengths ⌝ }
     ensures { λ r. ⌜ Small 256 (model.bodyOf kind) r ⌝ }
 {
-    match kind {
-        // one operand: jumps, frame words, fields, call, enterEHandled
-        1 | 3 | 5 | 20 | 22 | 30 | 32 | 72 | 160 => 2,
-        // their neighbours
-        2 | 4 | 6 | 21 | 23 | 31 | 33 => 2,
-        // two operands, or a word: form, lLWord, the retracts
-        36 | 56 | 60 | 62 | 64 => 4,
-        // a signed byte: lLInt
-        54 => 1,
-        // no body: lNil, setRoot, return, comparisons, arithmetic, exitEHandled
-        57 | 59 | 73 | 130 | 140 | 142 | 144 | 146 | 161 | 195 | 198 | 201 | 204 => 0,
-        // their neighbours: root, eqP, arithmetic, raise
-        58 | 131 | 141 | 143 | 145 | 162 => 0,
-        // a head
-        240 => 6,
-        _ => 255,
-    }
+    let i = wide(kind);
+    wide(bodies[i])
 }
 
 // The place behind the record at p; behind an unknown kind's, 256 bytes on.
-pub fn after(file: &[u8], p: usize) -> usize
-    requires { ⌜ p < length (now file) ⌝ }
+pub fn after(bodies: &[u8; 256], file: &[u8], p: usize) -> usize
+    requires { ⌜ (now bodies ≡ lengths) × (p < length (now file)) ⌝ }
     ensures { λ r. ⌜ Small (p + 257) (model.after (now (file .entry)) p) r ⌝ }
 {
-    p + 1 + body(file[p])
+    p + 1 + body(bodies, file[p])
 }
 
 // The 16-bit operand of the instruction at p, most significant byte first.

@@ -7,6 +7,7 @@ ghost use lib.ListN.{length};
 ghost use Rattle.model.specs.Choice.{if_then_else_};
 ghost use Rattle.model.specs.File as model;
 ghost use Rattle.model.specs.Checker.{state, outer, passes};
+ghost use Rattle.code.specs.Table.{lengths};
 ghost use Rattle.effects.specs.Tests.{asState};
 ghost use Rattle.scan.specs.Marks.{stateIn};
 ghost use Rattle.flow.specs.Own.{ownIn};
@@ -159,8 +160,10 @@ fn late(file: &[u8], head: usize, sh: Shape, s: State, o: State) -> u32
     7
 }
 
-// The instruction at p of the procedure between head and end, of k procedures: the number of its refusal, or 0.
+// The instruction at p of the procedure between head and end, of k procedures: the number of its refusal, or 0. `bodies` is a copy of
+// the table of body lengths.
 fn take(
+    bodies: &[u8; 256],
     file: &[u8],
     table: &[usize; 64],
     m: &mut [u16],
@@ -169,11 +172,11 @@ fn take(
     end: usize,
     p: usize,
 ) -> u32
-    requires { ⌜ Here (now file) (now table) (now m) k head end p ⌝ }
+    requires { ⌜ (now bodies ≡ lengths) × Here (now file) (now table) (now m) k head end p ⌝ }
     ensures { λ r. ⌜ takeAns r (now (m .exit)) ≡ takeIn (now (file .entry)) p (now (m .entry)) ⌝ }
 {
     let sh = effects::shape_at(file, table, k, head, p);
-    let next = code::after(file, p);
+    let next = code::after(bodies, file, p);
     let s = state_in(m, p);
     let first = early(m, sh, head, end, p, next, s);
     if first != 0 {
@@ -204,18 +207,19 @@ pub fn flow(file: &[u8], m: &mut [u16], table: &[usize; 64], k: usize) -> Answer
     ensures { λ r. ⌜ Flowed (now (file .entry)) (now (m .exit)) r ⌝ }
 {
     let n = file.len();
+    let bodies = code::bodies();
     let mut p = 0;
     let mut c = 0;
     let mut head = 0;
     let mut end = 0;
     while p < n {
-        let next = code::after(file, p);
+        let next = code::after(&bodies, file, p);
         if file[p] == 240 {
             head = p;
             c += 1;
             end = end_of(table, k, c, n);
         } else {
-            let fault = take(file, table, m, k, head, end, p);
+            let fault = take(&bodies, file, table, m, k, head, end, p);
             if fault != 0 {
                 return Answer::Refused(fault, p);
             }

@@ -55,10 +55,11 @@ pub fn scan(file: &[u8], m: &mut [u16]) -> Found
     if file[0] != HEAD {
         return Found::Broken(0);
     }
+    let bodies = code::bodies();
     let mut p = 0;
     while p < n {
         let kind = file[p];
-        let b = code::body(kind);
+        let b = code::body(&bodies, kind);
         let next = p + 1 + b;
         if b == UNKNOWN {
             return Found::Broken(p);
@@ -157,10 +158,11 @@ pub fn heads_of(file: &[u8], m: &mut [u16], table: &mut [usize; 64]) -> Heads
     ensures { λ r. ⌜ Headed (now (file .entry)) (now (m .exit)) (now (table .exit)) r ⌝ }
 {
     let n = file.len();
+    let bodies = code::bodies();
     let mut p = 0;
     let mut k = 0;
     while p < n {
-        let next = code::after(file, p);
+        let next = code::after(&bodies, file, p);
         if file[p] == HEAD {
             let head = code::head_at(file, p);
             let there = follows(m, n, p + 7);

@@ -17,58 +17,61 @@ use Rattle.scan.proofs.head_right.Reads as head-right-reads
 use Rattle.scan.proofs.place_head.Reads as place-head-reads
 
 abbrev Inv-loop : tie.InvT-loop
-Inv-loop file m₀ table₀ n p₀ k₀ m table p k = (n ≡ length file) × (p ≤ length file) × Heading file m table p k
+Inv-loop file m₀ table₀ n bodies p₀ k₀ m table p k = (n ≡ length file) × (p ≤ length file) × Heading file m table p k
 
 abbrev μ-loop : tie.MeasureT-loop
-μ-loop file m₀ table₀ n p₀ k₀ m table p k = length file - p
+μ-loop file m₀ table₀ n bodies p₀ k₀ m table p k = length file - p
+
+bodies-requires : tie.Need-bodies-requires Inv-loop μ-loop
+bodies-requires c κs = search needs
 
 loop-holds : tie.Need-loop-holds Inv-loop μ-loop
-loop-holds c = (refl, omega arith, heading-start _ _ _ (c .before .before .pre))
+loop-holds c = (refl, omega arith, heading-start _ _ _ (c .before .before .before .pre))
 
 after-requires : tie.Need-after-requires Inv-loop μ-loop
-after-requires c κs = omega arith
+after-requires c κs = (c .before .before .before .bodies .ensures, omega arith)
 
 shared-slice-read-if1 : tie.Need-shared-slice-read-if1 Inv-loop μ-loop
 shared-slice-read-if1 c = omega arith
 
 head-at-requires : tie.Need-head-at-requires Inv-loop μ-loop
-head-at-requires c κs = heading-whole _ _ _ _ _ (c .before .before .before .before .loop .inv .2) (omega arith) (c .if1 .taken)
+head-at-requires c κs = heading-whole _ _ _ _ _ (c .before .before .before .before .before .loop .inv .2) (omega arith) (c .if1 .taken)
 
 add-follows : tie.Need-add-follows Inv-loop μ-loop
 add-follows c = omega arith
 
 follows-requires : tie.Need-follows-requires Inv-loop μ-loop
-follows-requires c κs = (c .before .before .before .before .before .before .loop .inv .2 .shows .long, c .before .before .before .before .before .before .before .before .before .pre .few)
+follows-requires c κs = (c .before .before .before .before .before .before .before .loop .inv .2 .shows .long, c .before .before .before .before .before .before .before .before .before .before .before .pre .few)
 
 head-right-requires : tie.Need-head-right-requires Inv-loop μ-loop
 head-right-requires c κs = search needs
 
 place-head-requires : tie.Need-place-head-requires Inv-loop μ-loop
-place-head-requires c κs = let w = heading-fits (c .before .before .before .before .before .before .before .before .before .before .before .before .before .before .args .file .now) (c .before .before .before .before .before .before .before .before .before .before .before .loop .m) (c .before .before .before .before .before .before .before .before .before .before .before .loop .table) (c .before .before .before .before .before .before .before .before .before .before .before .loop .p) (c .before .before .before .before .before .before .before .before .before .before .before .loop .k) (c .before .before .before .before .before .before .before .before .before .before .before .loop .inv .2) (omega arith) (c .before .before .before .before .before .before .before .if1 .taken) (c .before .before .before .before .before .before .before .before .before .before .before .before .before .before .pre .whole) _ _ _ (c .before .before .before .before .before .before .head-at .ensures) (c .before .before .before .before .follows .ensures) (c .before .before .before .head-right .ensures) (c .before .before .if2 .taken) in (w .2, omega arith, w .1, c .before .before .before .before .before .before .head-at .ensures .a-small, c .before .before .before .before .before .before .head-at .ensures .b-small)
+place-head-requires c κs = let w = heading-fits (c .before .before .before .before .before .before .before .before .before .before .before .before .before .before .before .before .args .file .now) (c .before .before .before .before .before .before .before .before .before .before .before .before .loop .m) (c .before .before .before .before .before .before .before .before .before .before .before .before .loop .table) (c .before .before .before .before .before .before .before .before .before .before .before .before .loop .p) (c .before .before .before .before .before .before .before .before .before .before .before .before .loop .k) (c .before .before .before .before .before .before .before .before .before .before .before .before .loop .inv .2) (omega arith) (c .before .before .before .before .before .before .before .if1 .taken) (c .before .before .before .before .before .before .before .before .before .before .before .before .before .before .before .before .pre .whole) _ _ _ (c .before .before .before .before .before .before .head-at .ensures) (c .before .before .before .before .follows .ensures) (c .before .before .before .head-right .ensures) (c .before .before .if2 .taken) in (w .2, omega arith, w .1, c .before .before .before .before .before .before .head-at .ensures .a-small, c .before .before .before .before .before .before .head-at .ensures .b-small)
 
 add-k : tie.Need-add-k Inv-loop μ-loop
-add-k c = let w = c .before .before .before .before .before .before .before .before .before .before .before .before .before .before .loop .inv .2 .few in omega arith
+add-k c = let w = c .before .before .before .before .before .before .before .before .before .before .before .before .before .before .before .loop .inv .2 .few in omega arith
 
 same-length : tie.Need-same-length Inv-loop μ-loop
-same-length c = c .before .before .before .before .before .before .before .before .before .loop .inv .2 .shows .long ∙ sym (c .before .before .before .before .before .before .before .before .before .before .before .before .pre .shows .long)
+same-length c = c .before .before .before .before .before .before .before .before .before .before .loop .inv .2 .shows .long ∙ sym (c .before .before .before .before .before .before .before .before .before .before .before .before .before .before .pre .shows .long)
 
 returns : tie.Need-returns Inv-loop μ-loop
-returns c = heading-wrong (c .before .before .before .before .before .before .before .before .before .before .before .before .args .file .now) (c .before .before .before .before .before .before .before .before .before .loop .m) (c .before .before .before .before .before .before .before .before .before .loop .table) (c .before .before .before .before .before .before .before .before .before .loop .p) (c .before .before .before .before .before .before .before .before .before .loop .k) (c .before .before .before .before .before .before .before .before .before .loop .inv .2) (omega arith) (c .before .before .before .before .before .if1 .taken) (c .before .before .before .before .before .before .before .before .before .before .before .before .pre .whole) _ _ _ (c .before .before .before .before .head-at .ensures) (c .before .before .follows .ensures) (c .before .head-right .ensures) (c .if2 .left)
+returns c = heading-wrong (c .before .before .before .before .before .before .before .before .before .before .before .before .before .before .args .file .now) (c .before .before .before .before .before .before .before .before .before .before .loop .m) (c .before .before .before .before .before .before .before .before .before .before .loop .table) (c .before .before .before .before .before .before .before .before .before .before .loop .p) (c .before .before .before .before .before .before .before .before .before .before .loop .k) (c .before .before .before .before .before .before .before .before .before .before .loop .inv .2) (omega arith) (c .before .before .before .before .before .if1 .taken) (c .before .before .before .before .before .before .before .before .before .before .before .before .before .before .pre .whole) _ _ _ (c .before .before .before .before .head-at .ensures) (c .before .before .follows .ensures) (c .before .head-right .ensures) (c .if2 .left)
 
 loop-less : tie.Need-loop-less Inv-loop μ-loop
-loop-less c = omega (arith, c .before .before .before .before .before .before .before .before .before .before .before .before .after .ensures .is, after-above (c .before .before .before .before .before .before .before .before .before .before .before .before .before .before .before .before .before .args .file .now) (c .before .before .before .before .before .before .before .before .before .before .before .before .before .before .loop .p))
+loop-less c = omega (arith, c .before .before .before .before .before .before .before .before .before .before .before .before .after .ensures .is, after-above (c .before .before .before .before .before .before .before .before .before .before .before .before .before .before .before .before .before .before .before .args .file .now) (c .before .before .before .before .before .before .before .before .before .before .before .before .before .before .before .loop .p))
 
 loop-again : tie.Need-loop-again Inv-loop μ-loop
-loop-again c = let e = c .before .before .before .before .before .before .before .before .before .before .before .before .after .ensures .is in (refl, rw e (heading-inside _ _ _ _ _ (c .before .before .before .before .before .before .before .before .before .before .before .before .before .before .loop .inv .2) (omega arith)), rw e (heading-right (c .before .before .before .before .before .before .before .before .before .before .before .before .before .before .before .before .before .args .file .now) (c .before .before .before .before .before .before .before .before .before .before .before .before .before .before .loop .m) (c .before .before .before .before .before .before .before .before .before .before .before .before .before .before .loop .table) (c .before .before .before .before .before .before .before .before .before .before .before .before .before .before .loop .p) (c .before .before .before .before .before .before .before .before .before .before .before .before .before .before .loop .k) (c .before .before .before .before .before .before .before .before .before .before .before .before .before .before .loop .inv .2) (omega arith) (c .before .before .before .before .before .before .before .before .before .before .if1 .taken) (c .before .before .before .before .before .before .before .before .before .before .before .before .before .before .before .before .before .pre .whole) _ _ _ (c .before .before .before .before .before .before .before .before .before .head-at .ensures) (c .before .before .before .before .before .before .before .follows .ensures) (c .before .before .before .before .before .before .head-right .ensures) _ _ (c .before .before .before .before .before .if2 .taken) (c .before .before .place-head .ensures .0) (c .before .before .place-head .ensures .1)))
+loop-again c = let e = c .before .before .before .before .before .before .before .before .before .before .before .before .after .ensures .is in (refl, rw e (heading-inside _ _ _ _ _ (c .before .before .before .before .before .before .before .before .before .before .before .before .before .before .before .loop .inv .2) (omega arith)), rw e (heading-right (c .before .before .before .before .before .before .before .before .before .before .before .before .before .before .before .before .before .before .before .args .file .now) (c .before .before .before .before .before .before .before .before .before .before .before .before .before .before .before .loop .m) (c .before .before .before .before .before .before .before .before .before .before .before .before .before .before .before .loop .table) (c .before .before .before .before .before .before .before .before .before .before .before .before .before .before .before .loop .p) (c .before .before .before .before .before .before .before .before .before .before .before .before .before .before .before .loop .k) (c .before .before .before .before .before .before .before .before .before .before .before .before .before .before .before .loop .inv .2) (omega arith) (c .before .before .before .before .before .before .before .before .before .before .if1 .taken) (c .before .before .before .before .before .before .before .before .before .before .before .before .before .before .before .before .before .before .before .pre .whole) _ _ _ (c .before .before .before .before .before .before .before .before .before .head-at .ensures) (c .before .before .before .before .before .before .before .follows .ensures) (c .before .before .before .before .before .before .head-right .ensures) _ _ (c .before .before .before .before .before .if2 .taken) (c .before .before .place-head .ensures .0) (c .before .before .place-head .ensures .1)))
 
 loop-less-2 : tie.Need-loop-less-2 Inv-loop μ-loop
-loop-less-2 c = omega (arith, c .before .before .after .ensures .is, after-above (c .before .before .before .before .before .before .before .args .file .now) (c .before .before .before .before .loop .p))
+loop-less-2 c = omega (arith, c .before .before .after .ensures .is, after-above (c .before .before .before .before .before .before .before .before .before .args .file .now) (c .before .before .before .before .before .loop .p))
 
 loop-again-2 : tie.Need-loop-again-2 Inv-loop μ-loop
-loop-again-2 c = let e = c .before .before .after .ensures .is in (refl, rw e (heading-inside _ _ _ _ _ (c .before .before .before .before .loop .inv .2) (omega arith)), rw e (heading-skip _ _ _ _ _ (c .before .before .before .before .loop .inv .2) (omega arith) (c .if1 .left)))
+loop-again-2 c = let e = c .before .before .after .ensures .is in (refl, rw e (heading-inside _ _ _ _ _ (c .before .before .before .before .before .loop .inv .2) (omega arith)), rw e (heading-skip _ _ _ _ _ (c .before .before .before .before .before .loop .inv .2) (omega arith) (c .if1 .left)))
 
 same-length-2 : tie.Need-same-length-2 Inv-loop μ-loop
-same-length-2 c = c .before .loop .inv .2 .shows .long ∙ sym (c .before .before .before .before .pre .shows .long)
+same-length-2 c = c .before .loop .inv .2 .shows .long ∙ sym (c .before .before .before .before .before .pre .shows .long)
 
 returns-2 : tie.Need-returns-2 Inv-loop μ-loop
 returns-2 c = heading-end _ _ _ _ _ (c .before .loop .inv .2) (omega arith)
@@ -79,6 +82,7 @@ heads-of-spec =
     (tie.spec
     Inv-loop
     μ-loop
+    bodies-requires
     loop-holds
     after-requires
     shared-slice-read-if1

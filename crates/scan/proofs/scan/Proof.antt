@@ -13,10 +13,10 @@ use Rattle.code.proofs.body.Reads as body-reads
 use Rattle.scan.proofs.mark.Reads as mark-reads
 
 abbrev Inv-loop : tie.InvT-loop
-Inv-loop file m₀ n p₀ m p = (n ≡ length file) × (p ≤ length file) × Going file m₀ m p
+Inv-loop file m₀ n bodies p₀ m p = (n ≡ length file) × (p ≤ length file) × Going file m₀ m p
 
 abbrev μ-loop : tie.MeasureT-loop
-μ-loop file m₀ n p₀ m p = length file - p
+μ-loop file m₀ n bodies p₀ m p = length file - p
 
 shared-slice-read-if1 : tie.Need-shared-slice-read-if1 Inv-loop μ-loop
 shared-slice-read-if1 c = omega arith
@@ -24,14 +24,17 @@ shared-slice-read-if1 c = omega arith
 returns : tie.Need-returns Inv-loop μ-loop
 returns c = scanned-other _ _ (c .if1 .taken)
 
+bodies-requires : tie.Need-bodies-requires Inv-loop μ-loop
+bodies-requires c κs = search needs
+
 loop-holds : tie.Need-loop-holds Inv-loop μ-loop
-loop-holds c = (refl, omega arith, going-first _ _ (c .if1 .left))
+loop-holds c = (refl, omega arith, going-first _ _ (c .before .if1 .left))
 
 shared-slice-read-kind : tie.Need-shared-slice-read-kind Inv-loop μ-loop
 shared-slice-read-kind c = omega arith
 
 body-requires : tie.Need-body-requires Inv-loop μ-loop
-body-requires c κs = search needs
+body-requires c κs = c .before .before .before .before .bodies .ensures
 
 add-next : tie.Need-add-next Inv-loop μ-loop
 add-next c = omega arith
@@ -74,6 +77,7 @@ scan-spec =
     μ-loop
     shared-slice-read-if1
     returns
+    bodies-requires
     loop-holds
     shared-slice-read-kind
     body-requires
