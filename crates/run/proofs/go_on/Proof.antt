@@ -18,14 +18,14 @@ abbrev μ-loop : tie.MeasureT-loop
 μ-loop file table main₀ ptr₀ ctl₀ heap₀ budget r₀ left₀ main ptr ctl heap r left = left
 
 loop-holds : tie.Need-loop-holds Inv-loop μ-loop
-loop-holds c = 
+loop-holds c =
     let S = c .before .before .before .before .before in (going-start (S .args .file .now) (S .args .table .now) (S .args .budget) (machine (S .args .regs) (S .args .main .now) (S .args .ptr .now) (S .args .ctl .now) (S .args .heap .now)) (S .pre .0), S .pre .1)
 
 sub-after : tie.Need-sub-after Inv-loop μ-loop
 sub-after c = omega arith
 
 plan-at-requires : tie.Need-plan-at-requires Inv-loop μ-loop
-plan-at-requires c κs = 
+plan-at-requires c κs =
     let L = c .before .before .before .before .before .loop in alive-ready (L .inv .0 .runs .alive) (L .inv .1)
 
 enum-known-plan : tie.Need-enum-known-plan Inv-loop μ-loop
@@ -47,7 +47,7 @@ same-length-4 : tie.Need-same-length-4 Inv-loop μ-loop
 same-length-4 c = c .before .before .before .before .before .before .before .before .loop .inv .0 .alike .heap
 
 returns : tie.Need-returns Inv-loop μ-loop
-returns c = 
+returns c =
     let S = c .before .before .before .before .before .before .before .before .before .before .before .before .before .before in
     let L = c .before .before .before .before .before .before .before .before .loop in
     rw (c .stop .ensures)
@@ -58,14 +58,14 @@ returns c =
     })
 
 apply-requires : tie.Need-apply-requires Inv-loop μ-loop
-apply-requires c κs = 
+apply-requires c κs =
     let L = c .before .before .before .before .before .before .before .before .before .before .before .before .before .loop in alive-settles (L .inv .0 .runs .alive) (L .inv .1) .writes _ (sym (c .before .before .before .before .before .before .before .plan-at .ensures) ∙ c .before .before .before .before .before .plan .given .1)
 
 loop-less : tie.Need-loop-less Inv-loop μ-loop
 loop-less c = let h = c .before .before .before .before .before .before .before .before .before .before .before .before .before .before .before .before .before .before .before .before .before .before .before .loop-test .taken in omega (arith, h)
 
 loop-again : tie.Need-loop-again Inv-loop μ-loop
-loop-again c = 
+loop-again c =
     let S = c .before .before .before .before .before .before .before .before .before .before .before .before .before .before .before .before .before .before .before .before .before .before .before .before .before .before .before .before .before .before in
     let L = c .before .before .before .before .before .before .before .before .before .before .before .before .before .before .before .before .before .before .before .before .before .before .before .before .loop in
     let A = c .before .before .before .before .before .before .before .before .before .before .apply in (
@@ -116,7 +116,7 @@ same-length-12 : tie.Need-same-length-12 Inv-loop μ-loop
 same-length-12 c = c .before .before .loop .inv .0 .alike .heap
 
 returns-3 : tie.Need-returns-3 Inv-loop μ-loop
-returns-3 c = 
+returns-3 c =
     let L = c .before .before .loop in
     rw (c .stop3 .ensures) (record { going = L .inv .0; on? = L .inv .1; stopped = λ h. absurd (omega (arith, h, c .before .loop-test .left)) })
 

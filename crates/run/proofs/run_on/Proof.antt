@@ -29,14 +29,14 @@ answered-requires : tie.Need-answered-requires Inv-loop μ-loop
 answered-requires c κs = search needs
 
 returns : tie.Need-returns Inv-loop μ-loop
-returns c = 
+returns c =
     let S = c .before .before .before .before .before .before .before in rw (c .answered .ensures) (sym (finished-at (S .args .file .now) (S .args .table .now) (S .args .budget) 0 (machine (S .args .regs) (S .args .main .now) (S .args .ptr .now) (S .args .ctl .now) (S .args .heap .now)) (c .before .if1 .taken)))
 
 go-on-requires : tie.Need-go-on-requires Inv-loop μ-loop
 go-on-requires c κs = (c .before .before .before .before .before .before .before .before .before .before .pre, c .before .before .before .before .if1 .left)
 
 loop-holds : tie.Need-loop-holds Inv-loop μ-loop
-loop-holds c = 
+loop-holds c =
     let S = c .before .before .before .before .before .before .before .before .before .before .before .before .before .before .before .before .before .before .before .before in
     let P = c .before .before .before .before .before .before .before .before .before .go-on .ensures in
     record { going = going-start (S .args .file .now) (S .args .table .now) _ _ (P .going .runs); on? = P .on?; stopped = P .stopped }
@@ -45,7 +45,7 @@ sub-after : tie.Need-sub-after Inv-loop μ-loop
 sub-after c = omega arith
 
 step-with-requires : tie.Need-step-with-requires Inv-loop μ-loop
-step-with-requires c κs = 
+step-with-requires c κs =
     let L = c .before .before .before .before .before .loop in
     let P = L .inv .stopped (c .before .before .before .before .loop-test .taken) in
     (rw (P .is) (alive-settles (L .inv .going .runs .alive) (L .inv .on?)), P .late)
@@ -69,7 +69,7 @@ same-length-4 : tie.Need-same-length-4 Inv-loop μ-loop
 same-length-4 c = c .before .before .before .before .before .before .before .before .before .before .step-with .kept .1 .1 .1 .1 .1 .0 ∙ c .before .before .before .before .before .before .before .before .before .before .before .before .before .before .before .before .loop .inv .going .alike .heap ∙ c .before .before .before .before .before .before .before .before .before .before .before .before .before .before .before .before .before .before .before .before .before .before .before .before .before .before .go-on .ensures .going .alike .heap
 
 returns-2 : tie.Need-returns-2 Inv-loop μ-loop
-returns-2 c = 
+returns-2 c =
     let S = c .before .before .before .before .before .before .before .before .before .before .before .before .before .before .before .before .before .before .before .before .before .before .before .before .before .before .before .before .before .before .before .before .before .before .before .before .before in
     let L = c .before .before .before .before .before .before .before .before .before .before .before .before .before .before .before .before .loop in
     rw (c .answered2 .ensures)
@@ -96,7 +96,7 @@ same-length-8 : tie.Need-same-length-8 Inv-loop μ-loop
 same-length-8 c = c .before .before .before .before .before .before .before .before .before .before .before .before .step-with .kept .1 .1 .1 .1 .1 .0 ∙ c .before .before .before .before .before .before .before .before .before .before .before .before .before .before .before .before .before .before .loop .inv .going .alike .heap ∙ c .before .before .before .before .before .before .before .before .before .before .before .before .before .before .before .before .before .before .before .before .before .before .before .before .before .before .before .before .go-on .ensures .going .alike .heap
 
 returns-3 : tie.Need-returns-3 Inv-loop μ-loop
-returns-3 c = 
+returns-3 c =
     let S = c .before .before .before .before .before .before .before .before .before .before .before .before .before .before .before .before .before .before .before .before .before .before .before .before .before .before .before .before .before .before .before .before .before .before .before .before .before .before .before in
     let L = c .before .before .before .before .before .before .before .before .before .before .before .before .before .before .before .before .before .before .loop in
     rw (c .answered3 .ensures)
@@ -104,7 +104,7 @@ returns-3 c =
     (going-on (S .args .file .now) (S .args .table .now) (L .left) (machine (L .r) (L .main) (L .ptr) (L .ctl) (L .heap)) (L .inv .going .runs) (c .before .before .before .before .before .before .before .before .before .before .before .before .before .before .before .before .before .loop-test .taken) (L .inv .on?) (L .plan) (L .inv .stopped (c .before .before .before .before .before .before .before .before .before .before .before .before .before .before .before .before .before .loop-test .taken) .is) (c .before .before .before .before .before .before .before .before .before .before .before .before .step-with .result) _ _ _ _ (c .before .before .before .before .before .before .before .before .before .before .before .before .step-with .ensures) (S .args .budget) (machine (S .args .regs) (S .args .main .now) (S .args .ptr .now) (S .args .ctl .now) (S .args .heap .now)) (going-trans (S .args .file .now) (S .args .table .now) (S .args .budget) (machine (S .args .regs) (S .args .main .now) (S .args .ptr .now) (S .args .ctl .now) (S .args .heap .now)) _ _ (L .left) (machine (L .r) (L .main) (L .ptr) (L .ctl) (L .heap)) (c .before .before .before .before .before .before .before .before .before .before .before .before .before .before .before .before .before .before .before .before .before .before .before .before .before .before .before .before .go-on .ensures .going) (L .inv .going)) (went-on? _ (c .before .before .before .if2 .left)) (record { main = c .before .before .before .before .before .before .before .before .before .before .before .before .step-with .kept .1 .1 .0; ptr = c .before .before .before .before .before .before .before .before .before .before .before .before .step-with .kept .1 .1 .1 .0; ctl = c .before .before .before .before .before .before .before .before .before .before .before .before .step-with .kept .1 .1 .1 .1 .0; heap = c .before .before .before .before .before .before .before .before .before .before .before .before .step-with .kept .1 .1 .1 .1 .1 .0 })) (c .before .if3 .taken))
 
 go-on-requires-2 : tie.Need-go-on-requires-2 Inv-loop μ-loop
-go-on-requires-2 c κs = 
+go-on-requires-2 c κs =
     let S = c .before .before .before .before .before .before .before .before .before .before .before .before .before .before .before .before .before .before .before .before .before .before .before .before .before .before .before .before .before .before .before .before .before .before .before .before .before .before .before .before .before .before in
     let L = c .before .before .before .before .before .before .before .before .before .before .before .before .before .before .before .before .before .before .before .before .before .loop in
     (going-on (S .args .file .now) (S .args .table .now) (L .left) (machine (L .r) (L .main) (L .ptr) (L .ctl) (L .heap)) (L .inv .going .runs) (c .before .before .before .before .before .before .before .before .before .before .before .before .before .before .before .before .before .before .before .before .loop-test .taken) (L .inv .on?) (L .plan) (L .inv .stopped (c .before .before .before .before .before .before .before .before .before .before .before .before .before .before .before .before .before .before .before .before .loop-test .taken) .is) (c .before .before .before .before .before .before .before .before .before .before .before .before .before .before .before .step-with .result) _ _ _ _ (c .before .before .before .before .before .before .before .before .before .before .before .before .before .before .before .step-with .ensures) (S .args .budget) (machine (S .args .regs) (S .args .main .now) (S .args .ptr .now) (S .args .ctl .now) (S .args .heap .now)) (going-trans (S .args .file .now) (S .args .table .now) (S .args .budget) (machine (S .args .regs) (S .args .main .now) (S .args .ptr .now) (S .args .ctl .now) (S .args .heap .now)) _ _ (L .left) (machine (L .r) (L .main) (L .ptr) (L .ctl) (L .heap)) (c .before .before .before .before .before .before .before .before .before .before .before .before .before .before .before .before .before .before .before .before .before .before .before .before .before .before .before .before .before .before .before .go-on .ensures .going) (L .inv .going)) (went-on? _ (c .before .before .before .before .before .before .if2 .left)) (record { main = c .before .before .before .before .before .before .before .before .before .before .before .before .before .before .before .step-with .kept .1 .1 .0; ptr = c .before .before .before .before .before .before .before .before .before .before .before .before .before .before .before .step-with .kept .1 .1 .1 .0; ctl = c .before .before .before .before .before .before .before .before .before .before .before .before .before .before .before .step-with .kept .1 .1 .1 .1 .0; heap = c .before .before .before .before .before .before .before .before .before .before .before .before .before .before .before .step-with .kept .1 .1 .1 .1 .1 .0 }) .runs, c .before .before .before .before .if3 .left)
@@ -113,7 +113,7 @@ loop-less : tie.Need-loop-less Inv-loop μ-loop
 loop-less c = omega (arith, c .before .before .before .before .before .before .before .before .before .go-on2 .ensures .going .less, c .before .before .before .before .before .before .before .before .before .before .before .before .before .before .before .before .before .before .before .before .before .before .before .before .before .before .before .before .before .before .loop-test .taken)
 
 loop-again : tie.Need-loop-again Inv-loop μ-loop
-loop-again c = 
+loop-again c =
     let S = c .before .before .before .before .before .before .before .before .before .before .before .before .before .before .before .before .before .before .before .before .before .before .before .before .before .before .before .before .before .before .before .before .before .before .before .before .before .before .before .before .before .before .before .before .before .before .before .before .before .before .before .before in
     let L = c .before .before .before .before .before .before .before .before .before .before .before .before .before .before .before .before .before .before .before .before .before .before .before .before .before .before .before .before .before .before .before .loop in
     let P = c .before .before .before .before .before .before .before .before .before .go-on2 .ensures in
@@ -143,7 +143,7 @@ same-length-12 : tie.Need-same-length-12 Inv-loop μ-loop
 same-length-12 c = c .before .before .loop .inv .going .alike .heap ∙ c .before .before .before .before .before .before .before .before .before .before .before .before .go-on .ensures .going .alike .heap
 
 returns-4 : tie.Need-returns-4 Inv-loop μ-loop
-returns-4 c = 
+returns-4 c =
     let S = c .before .before .before .before .before .before .before .before .before .before .before .before .before .before .before .before .before .before .before .before .before .before .before in
     let L = c .before .before .loop in
     rw (c .answered4 .ensures)
