@@ -13,6 +13,7 @@ ghost use Rattle.exec.specs.Ended.{Targets, Raises, Settles, ended, ende
 use model::Into;
 use model::Plan;
 use model::Put;
+use model::RECORD;
 use model::Regs;
 
 // What a step leads to: on with these registers, or an exception of this code that no handler catches.
@@ -135,7 +136,7 @@ fn guard_at(ctl: &[u32], handler: usize) -> Guard
     requires { ⌜ (1 ≤ handler) × (5 * handler ≤ length (now ctl)) ⌝ }
     ensures { λ r. ⌜ r ≡ guardAt (now (ctl .entry)) handler ⌝ }
 {
-    let under = 5 * (handler - 1);
+    let under = RECORD * (handler - 1);
     Guard {
         at: writes::load(ctl, under),
         mtop: writes::load(ctl, under + 1),
@@ -150,7 +151,7 @@ fn target(file: &[u8], table: &[usize; 64], ctl: &[u32], at: usize, frame: usize
     requires { ⌜ Targets (now file) (now table) (now ctl) at frame ⌝ }
     ensures { λ r. ⌜ r ≡ headOf (now (file .entry)) (recOf (now (ctl .entry)) frame .w2) + operand (now (file .entry)) at ⌝ }
 {
-    let proc = writes::load(ctl, 5 * (frame - 1) + 2);
+    let proc = writes::load(ctl, RECORD * (frame - 1) + 2);
     table[proc] + code::operand(file, at)
 }
 
@@ -160,7 +161,7 @@ fn resume(guard: Guard, place: usize, handler: usize, state: usize) -> Regs
     ensures { λ r. ⌜ r ≡ resumed guard place handler state ⌝ }
 {
     let above = guard.mtop + 1;
-    let under = 5 * (handler - 1);
+    let under = RECORD * (handler - 1);
     Regs {
         place,
         frame: guard.frame,
@@ -196,7 +197,7 @@ pub fn raise(
     let guard = guard_at(ctl, handler);
     let place = target(file, table, ctl, guard.at, guard.frame);
     let top = guard.mtop;
-    let under = 5 * (handler - 1);
+    let under = RECORD * (handler - 1);
     writes::cut_to(main, top, regs.mtop);
     writes::cut_to(ptr, guard.ptop, regs.ptop);
     writes::cut_to(ctl, under, regs.ctop);

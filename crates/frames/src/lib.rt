@@ -16,6 +16,7 @@ ghost use Rattle.frames.specs.Places.{Tabled, Ready, endOf, inProc, Head
 ghost use Rattle.frames.specs.Records.{RecordIs, Near, Reads, Told, stackOf, frameOk, firstOk, callerOk, handlerOk};
 ghost use Rattle.frames.specs.Audit.{topsOk, doneOk, restOk, topmost};
 use code::Head;
+use model::RECORD;
 use model::Regs;
 
 // No instruction, no handler.
@@ -24,8 +25,6 @@ const NONE: usize = 65535;
 const CALL: usize = 72;
 
 const CALL_SIZE: usize = 3;
-
-const RECORD: usize = 5;
 
 fn byte(b: u8) -> usize
     ensures { λ r. ⌜ Small 256 b r ⌝ }

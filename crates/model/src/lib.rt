@@ -1,5 +1,8 @@
 // The types that all crates share. Document 01's chapter "Memory" and "Refused".
 
+// The words of a control record.
+pub const RECORD: usize = 5;
+
 // The registers: seven words. Tops are counted in words, records from 1; 0 means no record.
 pub struct Regs {
     pub place: usize, // where the next instruction starts, a byte offset in the file

@@ -3,6 +3,7 @@
 use model::Into;
 use model::Plan;
 use model::Put;
+use model::RECORD;
 use model::Regs;
 use model::Value;
 ghost use mathlib.Core.Path.{_≡_};
@@ -166,7 +167,7 @@ pub fn calls(
     if ptr.len() < q + head.y {
         return Plan::NoRoom;
     }
-    if ctl.len() < regs.ctop + 5 {
+    if ctl.len() < regs.ctop + RECORD {
         return Plan::NoRoom;
     }
     writes(Into::Frame, h + 7, regs.mtop, regs.ptop, m, q as u32)
@@ -177,7 +178,7 @@ pub fn leaves(ctl: &[u32], regs: Regs) -> Plan
     requires { ⌜ Record (now ctl) (regs .frame) ⌝ }
     ensures { λ r. ⌜ ((f m p h : List ℕ) → r ≡ planned f (machine regs m p (now (ctl .entry)) h) 1 73) ⌝ }
 {
-    let at = 5 * (regs.frame - 1) + 3;
+    let at = RECORD * (regs.frame - 1) + 3;
     let place = wide(ctl[at]);
     writes(Into::Return, place, regs.mtop, regs.ptop, 0, 0)
 }
@@ -187,7 +188,7 @@ pub fn opens(ctl: &[u32], regs: Regs) -> Plan
     requires { ⌜ (regs .place < 4096) × (regs .ctop ≤ 1280) ⌝ }
     ensures { λ r. ⌜ ((f m p h : List ℕ) → r ≡ planned f (machine regs m p (now (ctl .entry)) h) 3 160) ⌝ }
 {
-    if ctl.len() < regs.ctop + 5 {
+    if ctl.len() < regs.ctop + RECORD {
         return Plan::NoRoom;
     }
     writes(Into::Handler, regs.place + 3, regs.mtop, regs.ptop, 0, 0)

@@ -14,6 +14,7 @@ ghost use Rattle.writes.specs.Lists.{Topped};
 ghost use Rattle.writes.specs.Asks.{Pushes, Room, Plain, Retract, Dropping, InMain, InPtr, onwards, plainly, tried, triedOn};
 use model::Into;
 use model::Put;
+use model::RECORD;
 use model::Regs;
 
 // Zeroes the words from new to old, the top so far.
@@ -131,11 +132,11 @@ pub fn call(file: &[u8], ctl: &mut [u32], regs: Regs, put: Put) -> Regs
     );
     Regs {
         place: put.place,
-        frame: top / 5 + 1,
+        frame: top / RECORD + 1,
         handler: regs.handler,
         mtop: put.mtop,
         ptop: put.ptop,
-        ctop: top + 5,
+        ctop: top + RECORD,
         state: regs.state,
     }
 }
@@ -146,8 +147,8 @@ pub fn leave(ctl: &mut [u32], regs: Regs, put: Put) -> Regs
     ensures { λ r. ⌜ ((main ptr heap : List ℕ) → machine r main ptr (now (ctl .exit)) heap ≡ returned put (machine regs main ptr (now (ctl .entry)) heap)) ⌝ }
 {
     let top = regs.ctop;
-    let caller = load(ctl, 5 * (regs.frame - 1) + 4);
-    let rest = top - 5;
+    let caller = load(ctl, RECORD * (regs.frame - 1) + 4);
+    let rest = top - RECORD;
     put_record(ctl, rest, 0, 0, 0, 0, 0);
     Regs {
         place: put.place,
@@ -195,10 +196,10 @@ pub fn open(ctl: &mut [u32], regs: Regs, put: Put) -> Regs
     Regs {
         place: put.place,
         frame: regs.frame,
-        handler: top / 5 + 1,
+        handler: top / RECORD + 1,
         mtop: regs.mtop,
         ptop: regs.ptop,
-        ctop: top + 5,
+        ctop: top + RECORD,
         state: regs.state,
     }
 }
@@ -210,8 +211,8 @@ pub fn close(ctl: &mut [u32], regs: Regs, put: Put) -> Regs
 {
     let handler = regs.handler;
     let top = regs.ctop;
-    let outer = load(ctl, 5 * (handler - 1) + 4);
-    let under = top - 5;
+    let outer = load(ctl, RECORD * (handler - 1) + 4);
+    let under = top - RECORD;
     put_record(ctl, under, 0, 0, 0, 0, 0);
     Regs {
         place: put.place,
