@@ -64,6 +64,10 @@ fn paper() {
     );
     // 240 0 0 0 0 0 0 3 0 3
     sample(b"loop", b"\xf0\x00\x00\x00\x00\x00\x00\x03\x00\x03");
+}
+
+// The same at the ends of the range.
+fn paper_ends() {
     // 240 0 0 1 0 2 0 54 5 54 0 143 73
     sample(
         b"A div 0",
@@ -91,7 +95,7 @@ fn paper() {
     );
 }
 
-// Refusals 3 to 9: the rows' examples, and one more of each.
+// Refusals 3 to 5: the rows' examples, and one more of each.
 fn refusals() {
     // 240 0 0
     sample(b"3", b"\xf0\x00\x00");
@@ -111,6 +115,10 @@ fn refusals() {
         b"5 operand byte",
         b"\xf0\x00\x00\x00\x00\x00\x00\x03\x00\x01\x49",
     );
+}
+
+// Refusals 6 to 9, likewise.
+fn refusals_of_flow() {
     // 240 0 0 0 0 1 0 54 1
     sample(b"6", b"\xf0\x00\x00\x00\x00\x01\x00\x36\x01");
     // 240 0 0 0 0 0 0 73 73
@@ -157,6 +165,10 @@ fn jumps() {
         b"bjump",
         b"\xf0\x00\x00\x01\x00\x02\x00\x36\x02\x14\x00\x00\x02\x00\x06\x36\x01\x8e\x03\x00\x0c\x49",
     );
+}
+
+// Jumps that keep their word.
+fn keeping_jumps() {
     // 7 54; 9 jumpff -> 14; 12 54 4; 14 73
     sample(
         b"jumpff false",
@@ -179,8 +191,8 @@ fn jumps() {
     );
 }
 
-// Comparisons of -1 and 1, 1 and 1, 1 and -1; arithmetic at the ends of the range.
-fn numbers() {
+// Comparisons.
+fn comparisons() {
     // 240 0 0 3 0 4 0 54 255 54 1 195 54 1 54 1 195 54 1 54 255 195 73
     sample(
         b"lt",
@@ -206,6 +218,10 @@ fn numbers() {
         b"eqW",
         b"\xf0\x00\x00\x03\x00\x04\x00\x36\xff\x36\x01\x82\x36\x01\x36\x01\x82\x36\x01\x36\xff\x82\x49",
     );
+}
+
+// Sums and products, at the ends of the range.
+fn sums() {
     // 240 0 0 1 0 2 0 56 128 0 0 0 56 127 255 255 255 140 73
     sample(
         b"low plus high",
@@ -236,6 +252,10 @@ fn numbers() {
         b"low minus 1",
         b"\xf0\x00\x00\x01\x00\x02\x00\x38\x80\x00\x00\x00\x38\x00\x00\x00\x01\x8e\x49",
     );
+}
+
+// Quotients and remainders, not, a long literal.
+fn quotients() {
     // 240 0 0 1 0 2 0 56 128 0 0 0 56 255 255 255 255 143 73
     sample(
         b"low div -1",
@@ -285,6 +305,10 @@ fn words() {
         b"retract",
         b"\xf0\x00\x00\x01\x00\x02\x01\x36\x01\x36\x02\x39\x40\x00\x01\x00\x01\x49",
     );
+}
+
+// Views and the root.
+fn objects() {
     // 7 54 11; 9 54 12; 11 form 2 0; 16 57; 17 form 0 2; 22 31 2; 25 30 3; 28 73
     sample(
         b"fields",
@@ -324,6 +348,10 @@ fn calls() {
         b"5!",
         b"\xf0\x00\x00\x01\x00\x01\x00\x36\x05\x48\x00\x01\x49\xf0\x01\x00\x01\x00\x03\x00\x14\x00\x00\x02\x00\x0b\x14\x00\x00\x36\x01\x8e\x48\x00\x01\x8d\x49\x92\x49",
     );
+}
+
+// Calls in calls.
+fn deep_calls() {
     // 2 + 13 * 6 + 4 + 12 * 2 steps, then the outermost 141: 240 0 0 1 0 1 0 54 13 72 0 1 73 240 1 0 1 0 3 0 20 0 0 2 0 11 20 0 0 54 1 142 72 0 1 141 73 146 73
     sample(
         b"13!",
@@ -341,8 +369,8 @@ fn calls() {
     );
 }
 
-// Exceptions 2 to 5 and raised words, uncaught and caught.
-fn exceptions() {
+// Exception 2.
+fn nil_objects() {
     // 240 0 0 1 0 1 1 57 30 0 2 73
     sample(
         b"2 wField",
@@ -363,6 +391,10 @@ fn exceptions() {
         b"2 pSet caught",
         b"\xf0\x00\x00\x01\x00\x01\x02\xa0\x00\x13\x39\x39\x21\x00\x02\x36\x07\xa1\x49\x49",
     );
+}
+
+// Exception 3.
+fn missing_fields() {
     // 7 54 9; 9 57; 10 form 1 1; 15 30 1; 18 73
     sample(
         b"3 header word",
@@ -388,6 +420,10 @@ fn exceptions() {
         b"3 caught",
         b"\xf0\x00\x00\x01\x00\x01\x01\xa0\x00\x18\x36\x05\x24\x00\x00\x00\x00\x20\x00\x02\x36\x07\xa1\x49\x49",
     );
+}
+
+// Exceptions 4 and 5.
+fn no_room() {
     // ten forms, a retract and a jump: 51 rounds of 12 steps and 20 words, then one form: 240 0 0 0 0 0 10 36 0 0 0 0 36 0 0 0 0 36 0 0 0 0 36 0 0 0 0 36 0 0 0 0 36 0 0 0 0 36 0 0 0 0 36 0 0 0 0 36 0 0 0 0 36 0 0 0 0 64 0 0 0 10 3 0 58
     sample(
         b"4 heap full",
@@ -423,6 +459,10 @@ fn exceptions() {
         b"5 pointer",
         b"\xf0\x00\x00\x00\x02\x00\x02\x39\x39\x48\x00\x01\x49\xf0\x00\x00\x00\x00\x00\xff\x49",
     );
+}
+
+// Codes of the routine's own.
+fn raises() {
     // 7 160 -> 13; 10 54 -5; 12 162; 13 73
     sample(
         b"raised",
@@ -462,6 +502,10 @@ fn handlers() {
         b"middle frame",
         b"\xf0\x00\x00\x02\x00\x02\x00\x36\x64\x36\x14\x48\x00\x01\x49\xf0\x01\x00\x01\x00\x02\x00\xa0\x00\x12\x36\x07\x48\x00\x02\xa1\x8c\x49\x8e\x49\xf0\x00\x00\x00\x00\x02\x00\x36\x01\x36\x00\x8f\x40\x00\x01\x00\x00\x49",
     );
+}
+
+// Handlers in handlers, and their number.
+fn handlers_again() {
     // 7 160 -> 15; 10 72 1; 13 161; 14 73; 15 73. 16 head; 23 160 -> 29; 26 54 5; 28 162; 29 54 1; 31 140; 32 162
     sample(
         b"from a handler",
@@ -515,6 +559,10 @@ fn cuts() {
         3,
         9,
     );
+}
+
+// Runs cut further on.
+fn later_cuts() {
     cut(
         b"A div 0, 2 1",
         b"\xf0\x00\x00\x01\x00\x02\x00\x36\x05\x36\x00\x8f\x49",
@@ -726,14 +774,26 @@ fn lists() {
 
 fn main() {
     paper();
+    paper_ends();
     refusals();
+    refusals_of_flow();
     jumps();
-    numbers();
+    keeping_jumps();
+    comparisons();
+    sums();
+    quotients();
     words();
+    objects();
     calls();
-    exceptions();
+    deep_calls();
+    nil_objects();
+    missing_fields();
+    no_room();
+    raises();
     handlers();
+    handlers_again();
     cuts();
+    later_cuts();
     lengths();
     lists();
     pointer();
