@@ -12,25 +12,10 @@ use lib.ListN.{length, getD}
 use borrow.Author.Tests.{ltb-true, ltb-false, leb-true, eqb-true, eqb-false, not-true, le-leb, lt-leb, eq-eqb}
 use Rattle.model.specs.Choice.{if_then_else_, all, All, all-true, true-all, Mem, member}
 use Rattle.model.specs.File.{byteAt, headKind, headSize, bodies, bodyOf, unknown, after, whole?, Records, broken, starts, more, recordsFrom, recordsOf, isHead, select, heads, instructions, procs, headOf, entry, upTo, procAt, headTests, wrong, right, headsFrom, headsOf}
+pub use Rattle.model.specs.Lists.{member-in, in-member}
 use Rattle.exact.specs.Pass.{and-true, Rising}
 
 -- members of a list
-pub member-in : (q : ℕ) (l : List ℕ) → member q l ≡ true → Mem q l
-member-in q [] e = absurd (true≢false (sym e))
-member-in q (p ∷ l) e = go (eqb q p) refl (λ h. member-in q l h) e
-  where
-    go : (t : Bool) → eqb q p ≡ t → (member q l ≡ true → Mem q l) → (if t then true else member q l) ≡ true → Mem q (p ∷ l)
-    go true h r e = inl (eqb-true q p h)
-    go false h r e = inr (r e)
-
-pub in-member : (q : ℕ) (l : List ℕ) → Mem q l → member q l ≡ true
-in-member q (p ∷ l) (inl e) = rw (eq-eqb q p e)
-in-member q (p ∷ l) (inr h) = go (eqb q p) (in-member q l h)
-  where
-    go : (t : Bool) → member q l ≡ true → (if t then true else member q l) ≡ true
-    go true e = refl
-    go false e = e
-
 pub getD-in : (l : List ℕ) (n d : ℕ) → n < length l → Mem (getD l n d) l
 getD-in [] n d h = absurd (omega arith)
 getD-in (a ∷ l) zero d h = inl refl

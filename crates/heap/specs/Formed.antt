@@ -9,25 +9,11 @@ use lib.ListN.{length, set, length-set, length-append, List·getD-append}
 use lib.Seq.{sets, length-sets, getD-set-same, getD-set-other}
 use Rattle.model.specs.Choice.{Mem}
 use Rattle.model.specs.Words.{wordAt}
+use Rattle.model.specs.Lists.{sets-other, sets-at}
 use Rattle.model.specs.Heap.{markOf, rootOf, firstObject, kindAt, ptrsAt, sizeAt, viewKind, viewOf, formed, Object, Objects, Pointer, Heap}
 use Rattle.heap.specs.First.{mem-append, mem-more, mem-right}
 use Rattle.heap.specs.Objects.{Alike, ptrs-alike, size-alike, objects-alike}
 use Rattle.heap.specs.Stores.{object-lies}
-
--- words stored one behind the other
-pub sets-other : (vs l : List ℕ) (a i : ℕ) → (i < a) ⊎ (a + length vs ≤ i) → wordAt (sets l a vs) i ≡ wordAt l i
-sets-other [] l a i h = refl
-sets-other (v ∷ vs) l a i (inl h) = sets-other vs (set l a v) (suc a) i (inl (omega arith)) ∙ getD-set-other l a i v 0 (omega arith)
-sets-other (v ∷ vs) l a i (inr h) = sets-other vs (set l a v) (suc a) i (inr (omega arith)) ∙ getD-set-other l a i v 0 (omega arith)
-
-pub sets-at : (vs l : List ℕ) (a k : ℕ) → a + length vs ≤ length l → k < length vs → wordAt (sets l a vs) (a + k) ≡ wordAt vs k
-sets-at [] l a k h w = absurd (omega arith)
-sets-at (v ∷ vs) l a zero h w =
-    let e : a + 0 ≡ a = omega arith in
-    rw e (sets-other vs (set l a v) (suc a) a (inl (omega arith)) ∙ getD-set-same l a v 0 (omega arith))
-sets-at (v ∷ vs) l a (suc k) h w =
-    let e : a + suc k ≡ suc a + k = omega arith in
-    rw e (sets-at vs (set l a v) (suc a) k (rw (length-set l a v) (omega arith)) (omega arith))
 
 -- one object more
 pub pointer-more : (v : ℕ) (os more : List ℕ) → Pointer os v → Pointer (os ++ more) v

@@ -11,6 +11,7 @@ use lib.ListN.{length, take, drop, set, length-set}
 use lib.Seq.{sets, length-sets, getD-set-same, getD-set-other, set-out, getD-drop, slice}
 use lib.Dec.{eqb}
 use borrow.Author.Tests.{eqb-true, eq-eqb}
+use Rattle.model.specs.Lists.{sets-other, sets-at}
 use Rattle.model.specs.Choice.{if-both}
 use Rattle.model.specs.Words.{wordAt, cut}
 use Rattle.model.specs.Heap.{isPointer}
@@ -102,21 +103,6 @@ pointers-true os (v ∷ l) e (suc i) = pointers-true os l (if-both (isPointer os
 pub true-pointers : (os l : List ℕ) → Each (λ v. isPointer os v ≡ true) l → pointers os l ≡ true
 true-pointers os [] h = refl
 true-pointers os (v ∷ l) h = rw (h 0) (true-pointers os l (λ i. h (suc i)))
-
--- words stored from a place on: the words outside stay
-pub sets-other : (vs l : List ℕ) (a i : ℕ) → (i < a) ⊎ (a + length vs ≤ i) → wordAt (sets l a vs) i ≡ wordAt l i
-sets-other [] l a i h = refl
-sets-other (v ∷ vs) l a i (inl h) = sets-other vs (set l a v) (suc a) i (inl (omega arith)) ∙ getD-set-other l a i v 0 (omega arith)
-sets-other (v ∷ vs) l a i (inr h) = sets-other vs (set l a v) (suc a) i (inr (omega arith)) ∙ getD-set-other l a i v 0 (omega arith)
-
-pub sets-at : (vs l : List ℕ) (a k : ℕ) → a + length vs ≤ length l → k < length vs → wordAt (sets l a vs) (a + k) ≡ wordAt vs k
-sets-at [] l a k h w = absurd (omega arith)
-sets-at (v ∷ vs) l a zero h w =
-    let e : a + 0 ≡ a = omega arith in
-    rw e (sets-other vs (set l a v) (suc a) a (inl (omega arith)) ∙ getD-set-same l a v 0 (omega arith))
-sets-at (v ∷ vs) l a (suc k) h w =
-    let e : a + suc k ≡ suc a + k = omega arith in
-    rw e (sets-at vs (set l a v) (suc a) k (rw (length-set l a v) (omega arith)) (omega arith))
 
 -- records: the same words, the same records
 pub rec-same : {a a′ b b′ c c′ d d′ e e′ : ℕ} → a ≡ a′ → b ≡ b′ → c ≡ c′ → d ≡ d′ → e ≡ e′ → rec a b c d e ≡ rec a′ b′ c′ d′ e′
