@@ -5,7 +5,7 @@ use borrow.Author.Needs.{needs}
 use Rattle.model.specs.Checker.{basicEffect, effectOf}
 use Rattle.model.specs.File.{bodies, bodyOf, insOf}
 use Rattle.plans.specs.Given.{other}
-use Rattle.plan.specs.Arms.{place-small, main-within, pops-main}
+use Rattle.plan.specs.Arms.{on-words}
 use Rattle.plan.specs.Kinds.{third, fifth}
 use Rattle.plan.specs.Ready.{plan-is}
 use Rattle.plan.proofs.plan_words.Statement.{statement}
@@ -14,86 +14,74 @@ use Rattle.plan.proofs.plan_words.Tie as tie
 compares-requires : tie.Need-compares-requires
 unfolding insOf effectOf basicEffect
 compares-requires c κs =
-    let R = c .before .before .before .before .before .before .before .pre .0 in
-    let e = c .before .before .before .before .before .before .before .pre .1 ∙ c .match2 .keys1 in
-    (place-small R, main-within R, pops-main R 130 2 e refl, inl refl)
+    let a = c .before .before .before .before .before .before .before .pre in
+    on-words (a .0) 130 2 (a .1 ∙ c .match2 .keys1) refl (inl refl)
 
 compares-requires-2 : tie.Need-compares-requires-2
 unfolding insOf effectOf basicEffect
 compares-requires-2 c κs =
-    let R = c .before .before .before .before .before .before .before .pre .0 in
-    let e = c .before .before .before .before .before .before .before .pre .1 ∙ c .match2 .keys2 in
-    (place-small R, main-within R, pops-main R 195 2 e refl, inr (inl refl))
+    let a = c .before .before .before .before .before .before .before .pre in
+    on-words (a .0) 195 2 (a .1 ∙ c .match2 .keys2) refl (inr (inl refl))
 
 compares-requires-3 : tie.Need-compares-requires-3
 unfolding insOf effectOf basicEffect
 compares-requires-3 c κs =
-    let R = c .before .before .before .before .before .before .before .pre .0 in
-    let e = c .before .before .before .before .before .before .before .pre .1 ∙ c .match2 .keys3 in
-    (place-small R, main-within R, pops-main R 198 2 e refl, inr (inr (inl refl)))
+    let a = c .before .before .before .before .before .before .before .pre in
+    on-words (a .0) 198 2 (a .1 ∙ c .match2 .keys3) refl (inr (inr (inl refl)))
 
 compares-requires-4 : tie.Need-compares-requires-4
 unfolding insOf effectOf basicEffect
 compares-requires-4 c κs =
-    let R = c .before .before .before .before .before .before .before .pre .0 in
-    let e = c .before .before .before .before .before .before .before .pre .1 ∙ c .match2 .keys4 in
-    (place-small R, main-within R, pops-main R 201 2 e refl, inr (inr (inr (inl refl))))
+    let a = c .before .before .before .before .before .before .before .pre in
+    on-words (a .0) 201 2 (a .1 ∙ c .match2 .keys4) refl (inr (inr (inr (inl refl))))
 
 compares-requires-5 : tie.Need-compares-requires-5
 unfolding insOf effectOf basicEffect
 compares-requires-5 c κs =
-    let R = c .before .before .before .before .before .before .before .pre .0 in
-    let e = c .before .before .before .before .before .before .before .pre .1 ∙ fifth (c .before .match .keys1) (c .match2 .rest) in
-    (place-small R, main-within R, pops-main R 204 2 e refl, inr (inr (inr (inr refl))))
+    let a = c .before .before .before .before .before .before .before .pre in
+    on-words (a .0) 204 2 (a .1 ∙ fifth (c .before .match .keys1) (c .match2 .rest)) refl (inr (inr (inr (inr refl))))
 
 sums-requires : tie.Need-sums-requires
 unfolding insOf effectOf basicEffect
 sums-requires c κs =
-    let R = c .before .before .before .before .before .before .before .pre .0 in
-    let e = c .before .before .before .before .before .before .before .pre .1 ∙ c .match3 .keys1 in
-    (place-small R, main-within R, pops-main R 140 2 e refl, inl refl)
+    let a = c .before .before .before .before .before .before .before .pre in
+    on-words (a .0) 140 2 (a .1 ∙ c .match3 .keys1) refl (inl refl)
 
 sums-requires-2 : tie.Need-sums-requires-2
 unfolding insOf effectOf basicEffect
 sums-requires-2 c κs =
-    let R = c .before .before .before .before .before .before .before .pre .0 in
-    let e = c .before .before .before .before .before .before .before .pre .1 ∙ other (c .before .match .keys2) (c .match3 .rest .1) in
-    (place-small R, main-within R, pops-main R 142 2 e refl, inr refl)
+    let a = c .before .before .before .before .before .before .before .pre in
+    on-words (a .0) 142 2 (a .1 ∙ other (c .before .match .keys2) (c .match3 .rest .1)) refl (inr refl)
 
 products-requires : tie.Need-products-requires
 unfolding insOf effectOf basicEffect
 products-requires c κs =
-    let R = c .before .before .before .before .before .before .before .pre .0 in
-    let e = c .before .before .before .before .before .before .before .pre .1 ∙ c .match4 .keys1 in
-    (place-small R, main-within R, pops-main R 141 2 e refl, inl refl)
+    let a = c .before .before .before .before .before .before .before .pre in
+    on-words (a .0) 141 2 (a .1 ∙ c .match4 .keys1) refl (inl refl)
 
 products-requires-2 : tie.Need-products-requires-2
 unfolding insOf effectOf basicEffect
 products-requires-2 c κs =
-    let R = c .before .before .before .before .before .before .before .pre .0 in
-    let e = c .before .before .before .before .before .before .before .pre .1 ∙ c .match4 .keys2 in
-    (place-small R, main-within R, pops-main R 143 2 e refl, inr (inl refl))
+    let a = c .before .before .before .before .before .before .before .pre in
+    on-words (a .0) 143 2 (a .1 ∙ c .match4 .keys2) refl (inr (inl refl))
 
 products-requires-3 : tie.Need-products-requires-3
 unfolding insOf effectOf basicEffect
 products-requires-3 c κs =
-    let R = c .before .before .before .before .before .before .before .pre .0 in
-    let e = c .before .before .before .before .before .before .before .pre .1 ∙ third (c .before .match .keys3) (c .match4 .rest) in
-    (place-small R, main-within R, pops-main R 145 2 e refl, inr (inr refl))
+    let a = c .before .before .before .before .before .before .before .pre in
+    on-words (a .0) 145 2 (a .1 ∙ third (c .before .match .keys3) (c .match4 .rest)) refl (inr (inr refl))
 
 unaries-requires : tie.Need-unaries-requires
 unfolding insOf effectOf basicEffect
 unaries-requires c κs =
-    let R = c .before .before .before .before .before .before .before .pre .0 in
-    let e = c .before .before .before .before .before .before .before .pre .1 ∙ c .match5 .keys1 in
-    (place-small R, main-within R, pops-main R 144 1 e refl, inl refl)
+    let a = c .before .before .before .before .before .before .before .pre in
+    on-words (a .0) 144 1 (a .1 ∙ c .match5 .keys1) refl (inl refl)
 
 unaries-requires-2 : tie.Need-unaries-requires-2
 unfolding insOf effectOf basicEffect
 unaries-requires-2 c κs =
-    let R = c .before .before .before .before .before .before .before .pre .0 in
-    let e = c .before .before .before .before .before .before .before .pre .1 ∙ other (c .before .match .keys4) (c .match5 .rest .1) in
-    (place-small R, main-within R, pops-main R 146 1 e refl, inr refl)
+    let a = c .before .before .before .before .before .before .before .pre in
+    on-words (a .0) 146 1 (a .1 ∙ other (c .before .match .keys4) (c .match5 .rest .1)) refl (inr refl)
 
 plan-objects-requires : tie.Need-plan-objects-requires
 plan-objects-requires c κs = search needs
