@@ -50,6 +50,11 @@ module _ {f table : List ℕ} {m : Machine} (R : Ready f table m) where
   unfolding insAt
   pops-ptr k n e d = rw (e, d) at (R .pop-ptr)
 
+  -- what an operation on n plain words asks for, and which of its family's codes it has
+  pub on-words : {W : Type 0} (k n : ℕ) → codeAt f m ≡ k → effectOf f (insOf f (placeOf m) k) .popMain ≡ n → W →
+      (placeOf m < 4096) × Within (m .main) (mtop m) × (n ≤ mtop m) × W
+  on-words k n e d w = (place-small, main-within, pops-main k n e d, w)
+
   is-at : (k : ℕ) → codeAt f m ≡ k → here f m ≡ insOf f (placeOf m) k
   unfolding insAt
   is-at k e = ap (insOf f (placeOf m)) e

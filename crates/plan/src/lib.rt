@@ -1,6 +1,6 @@
 // Document 01, the table of codes with their effects: what the instruction at the machine's place is about to do. Nothing is written
-// here. Codes of one family share a function. Each code has its own arm, which passes the code as a constant, so that after inlining a
-// step asks for the code once, by one jump table.
+// here. Codes of one family share a function and an arm. Inside its arm the code is chosen again, so that the family's function gets
+// it as a constant; the compiler makes one jump table of all the matches.
 use model::Into;
 use model::Plan;
 use model::Regs;
@@ -17,7 +17,7 @@ ghost use Rattle.code.specs.Kinds.{NoneOf};
 ghost use Rattle.code.specs.Parts.{Small};
 ghost use Rattle.heap.specs.Stores.{Lies};
 ghost use Rattle.plans.specs.Given.{planned, Body, Within, Record};
-ghost use Rattle.plan.specs.Kinds.{singles, atCodes};
+ghost use Rattle.plan.specs.Kinds.{atArms, localArms, wordArms};
 ghost use Rattle.plan.specs.Ready.{Ready};
 
 // The index of word s of a frame, whose base is the control stack's word there.
@@ -214,8 +214,8 @@ fn same_ptr(ptr: &[u32], regs: Regs) -> Plan
     )
 }
 
-// The codes beyond `plan_at`'s, in a function of their own for its length; the two matches become one jump table.
-fn plan_other(
+// Objects, their words, the root, words dropped, and pointers compared; a code of no arm is a raise, 162.
+fn plan_objects(
     file: &[u8],
     table: &[usize; 64],
     main: &[u32],
@@ -226,34 +226,106 @@ fn plan_other(
     kind: u8,
 ) -> Plan
     requires { ⌜ Ready (now file) (now table) (machine regs (now main) (now ptr) (now ctl) (now heap))
-        × (model.byteAt (now file) (regs .place) ≡ kind) × NoneOf (singles atCodes) kind ⌝ }
+        × (model.byteAt (now file) (regs .place) ≡ kind) × NoneOf wordArms kind × NoneOf localArms kind × NoneOf atArms kind ⌝ }
     ensures { λ r. ⌜ r ≡ planAt (now (file .entry)) (machine regs (now (main .entry)) (now (ptr .entry)) (now (ctl .entry)) (now (heap .entry))) ⌝ }
 {
     match kind {
-        21 => ptr_locals(file, ptr, ctl, regs, 21),
-        23 => ptr_locals(file, ptr, ctl, regs, 23),
-        30 => plain_fields(file, main, ptr, heap, regs, 30),
-        31 => ptr_fields(file, ptr, heap, regs, 31),
-        32 => plain_fields(file, main, ptr, heap, regs, 32),
-        33 => ptr_fields(file, ptr, heap, regs, 33),
+        30 | 32 => match kind {
+            30 => plain_fields(file, main, ptr, heap, regs, 30),
+            _ => plain_fields(file, main, ptr, heap, regs, 32),
+        },
+        31 | 33 => match kind {
+            31 => ptr_fields(file, ptr, heap, regs, 31),
+            _ => ptr_fields(file, ptr, heap, regs, 33),
+        },
         36 => forms(file, heap, regs),
-        56 => literals(file, regs, 56),
         57 => plans::pushes(regs, 0),
         58 => plans::pushes(regs, heap[1]),
         59 => set_root(ptr, regs),
-        60 => retracts(file, main, ptr, regs, 60),
-        62 => retracts(file, main, ptr, regs, 62),
-        64 => retracts(file, main, ptr, regs, 64),
-        72 => plans::calls(file, table, main, ptr, ctl, regs),
-        73 => plans::leaves(ctl, regs),
+        60 | 62 | 64 => match kind {
+            60 => retracts(file, main, ptr, regs, 60),
+            62 => retracts(file, main, ptr, regs, 62),
+            _ => retracts(file, main, ptr, regs, 64),
+        },
         131 => same_ptr(ptr, regs),
-        160 => plans::opens(ctl, regs),
-        161 => plans::writes(Into::Close, regs.place + 1, regs.mtop, regs.ptop, 0, 0),
         _ => Plan::Thrown,
     }
 }
 
-// The plan of the instruction at the machine's place; table holds the procedures' heads.
+// Operations on plain words: comparisons, sums, products, and those on one word.
+fn plan_words(
+    file: &[u8],
+    table: &[usize; 64],
+    main: &[u32],
+    ptr: &[u32],
+    ctl: &[u32],
+    heap: &[u32],
+    regs: Regs,
+    kind: u8,
+) -> Plan
+    requires { ⌜ Ready (now file) (now table) (machine regs (now main) (now ptr) (now ctl) (now heap))
+        × (model.byteAt (now file) (regs .place) ≡ kind) × NoneOf localArms kind × NoneOf atArms kind ⌝ }
+    ensures { λ r. ⌜ r ≡ planAt (now (file .entry)) (machine regs (now (main .entry)) (now (ptr .entry)) (now (ctl .entry)) (now (heap .entry))) ⌝ }
+{
+    match kind {
+        130 | 195 | 198 | 201 | 204 => match kind {
+            130 => plans::compares(main, regs, 130),
+            195 => plans::compares(main, regs, 195),
+            198 => plans::compares(main, regs, 198),
+            201 => plans::compares(main, regs, 201),
+            _ => plans::compares(main, regs, 204),
+        },
+        140 | 142 => match kind {
+            140 => plans::sums(main, regs, 140),
+            _ => plans::sums(main, regs, 142),
+        },
+        141 | 143 | 145 => match kind {
+            141 => plans::products(main, regs, 141),
+            143 => plans::products(main, regs, 143),
+            _ => plans::products(main, regs, 145),
+        },
+        144 | 146 => match kind {
+            144 => plans::unaries(main, regs, 144),
+            _ => plans::unaries(main, regs, 146),
+        },
+        _ => plan_objects(file, table, main, ptr, ctl, heap, regs, kind),
+    }
+}
+
+// Words of the frame, and literals.
+fn plan_locals(
+    file: &[u8],
+    table: &[usize; 64],
+    main: &[u32],
+    ptr: &[u32],
+    ctl: &[u32],
+    heap: &[u32],
+    regs: Regs,
+    kind: u8,
+) -> Plan
+    requires { ⌜ Ready (now file) (now table) (machine regs (now main) (now ptr) (now ctl) (now heap))
+        × (model.byteAt (now file) (regs .place) ≡ kind) × NoneOf atArms kind ⌝ }
+    ensures { λ r. ⌜ r ≡ planAt (now (file .entry)) (machine regs (now (main .entry)) (now (ptr .entry)) (now (ctl .entry)) (now (heap .entry))) ⌝ }
+{
+    match kind {
+        20 | 22 => match kind {
+            20 => main_locals(file, main, ctl, regs, 20),
+            _ => main_locals(file, main, ctl, regs, 22),
+        },
+        21 | 23 => match kind {
+            21 => ptr_locals(file, ptr, ctl, regs, 21),
+            _ => ptr_locals(file, ptr, ctl, regs, 23),
+        },
+        54 | 56 => match kind {
+            54 => literals(file, regs, 54),
+            _ => literals(file, regs, 56),
+        },
+        _ => plan_words(file, table, main, ptr, ctl, heap, regs, kind),
+    }
+}
+
+// The plan of the instruction at the machine's place; table holds the procedures' heads. Here jumps, calls and handlers; the other
+// families are in the three functions above, for length.
 pub fn plan_at(
     file: &[u8],
     table: &[usize; 64],
@@ -269,27 +341,22 @@ pub fn plan_at(
     let place = regs.place;
     let kind = file[place];
     match kind {
-        1 => plans::jumps(file, regs, 1),
-        2 => plans::on_false(file, main, regs, 2),
-        3 => plans::jumps(file, regs, 3),
-        4 => plans::on_true(file, main, regs, 4),
-        5 => plans::on_false(file, main, regs, 5),
-        6 => plans::on_true(file, main, regs, 6),
-        20 => main_locals(file, main, ctl, regs, 20),
-        22 => main_locals(file, main, ctl, regs, 22),
-        54 => literals(file, regs, 54),
-        130 => plans::compares(main, regs, 130),
-        140 => plans::sums(main, regs, 140),
-        141 => plans::products(main, regs, 141),
-        142 => plans::sums(main, regs, 142),
-        143 => plans::products(main, regs, 143),
-        144 => plans::unaries(main, regs, 144),
-        145 => plans::products(main, regs, 145),
-        146 => plans::unaries(main, regs, 146),
-        195 => plans::compares(main, regs, 195),
-        198 => plans::compares(main, regs, 198),
-        201 => plans::compares(main, regs, 201),
-        204 => plans::compares(main, regs, 204),
-        _ => plan_other(file, table, main, ptr, ctl, heap, regs, kind),
+        1 | 3 => match kind {
+            1 => plans::jumps(file, regs, 1),
+            _ => plans::jumps(file, regs, 3),
+        },
+        2 | 5 => match kind {
+            2 => plans::on_false(file, main, regs, 2),
+            _ => plans::on_false(file, main, regs, 5),
+        },
+        4 | 6 => match kind {
+            4 => plans::on_true(file, main, regs, 4),
+            _ => plans::on_true(file, main, regs, 6),
+        },
+        72 => plans::calls(file, table, main, ptr, ctl, regs),
+        73 => plans::leaves(ctl, regs),
+        160 => plans::opens(ctl, regs),
+        161 => plans::writes(Into::Close, regs.place + 1, regs.mtop, regs.ptop, 0, 0),
+        _ => plan_locals(file, table, main, ptr, ctl, heap, regs, kind),
     }
 }
