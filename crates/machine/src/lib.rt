@@ -10,6 +10,7 @@ ghost use Rattle.machine.specs.Runs.{CountIs};
 use code::Head;
 use heap::HeapAudit;
 use model::Answer;
+use model::RECORD;
 use model::Regs;
 
 // Refusal 10: the lent lengths, with the head of procedure 0.
@@ -131,7 +132,7 @@ pub fn start(
         handler: 0,
         mtop: 0,
         ptop: 0,
-        ctop: 5,
+        ctop: RECORD,
         state: 0,
     };
     frames::put_regs(bytes, first);

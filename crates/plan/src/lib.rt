@@ -3,6 +3,7 @@
 // it as a constant; the compiler makes one jump table of all the matches.
 use model::Into;
 use model::Plan;
+use model::RECORD;
 use model::Regs;
 ghost use mathlib.Core.Path.{_≡_};
 ghost use mathlib.Core.List.{List};
@@ -36,7 +37,7 @@ fn main_locals(file: &[u8], main: &[u32], ctl: &[u32], regs: Regs, kind: u8) -> 
 {
     let place = regs.place;
     let top = regs.mtop;
-    let at = frame_word(file, ctl, place, 5 * (regs.frame - 1));
+    let at = frame_word(file, ctl, place, RECORD * (regs.frame - 1));
     if kind == 20 {
         return plans::writes(Into::Main, place + 3, top + 1, regs.ptop, top, main[at]);
     }
@@ -52,7 +53,7 @@ fn ptr_locals(file: &[u8], ptr: &[u32], ctl: &[u32], regs: Regs, kind: u8) -> Pl
 {
     let place = regs.place;
     let top = regs.ptop;
-    let at = frame_word(file, ctl, place, 5 * (regs.frame - 1) + 1);
+    let at = frame_word(file, ctl, place, RECORD * (regs.frame - 1) + 1);
     if kind == 21 {
         return plans::writes(Into::Pointer, place + 3, regs.mtop, top + 1, top, ptr[at]);
     }

@@ -86,8 +86,7 @@ pub fn run_on(
     requires { ⌜ Runs (now file) (now table) (machine regs (now main) (now ptr) (now ctl) (now heap)) ⌝ }
     ensures { λ r. ⌜ ran (r .answer) (machine (r .regs) (now (main .exit)) (now (ptr .exit)) (now (ctl .exit)) (now (heap .exit))) ≡ runOn (now (file .entry)) budget 0 (machine regs (now (main .entry)) (now (ptr .entry)) (now (ctl .entry)) (now (heap .entry))) ⌝ }
 {
-    let state = regs.state;
-    if state == 1 {
+    if regs.state == 1 {
         return answered(Answer::Finished(0), regs);
     }
     let first = go_on(file, table, main, ptr, ctl, heap, regs, budget);
@@ -96,16 +95,14 @@ pub fn run_on(
     let mut left = first.left;
     while 0 < left {
         let after = left - 1;
-        let place = r.place;
         let out = exec::step_with(file, table, main, ptr, ctl, heap, r, plan);
         let on = out.on;
         if !on {
             let done = budget - left;
-            return answered(Answer::Uncaught(out.code, place, done), r);
+            return answered(Answer::Uncaught(out.code, r.place, done), r);
         }
         let next = out.regs;
-        let end = next.state;
-        if end == 1 {
+        if next.state == 1 {
             let done = budget - after;
             return answered(Answer::Finished(done), next);
         }

@@ -19,25 +19,25 @@ went-on? true e = refl
 went-on? false e = sym e
 
 abbrev Inv-loop : tie.InvT-loop
-Inv-loop file table main₀ ptr₀ ctl₀ heap₀ budget state r₀ plan₀ left₀ main ptr ctl heap r plan left =
+Inv-loop file table main₀ ptr₀ ctl₀ heap₀ budget r₀ plan₀ left₀ main ptr ctl heap r plan left =
     Paused file table left₀ (machine r₀ main₀ ptr₀ ctl₀ heap₀) left (machine r main ptr ctl heap) plan
 
 abbrev μ-loop : tie.MeasureT-loop
-μ-loop file table main₀ ptr₀ ctl₀ heap₀ budget state r₀ plan₀ left₀ main ptr ctl heap r plan left = left
+μ-loop file table main₀ ptr₀ ctl₀ heap₀ budget r₀ plan₀ left₀ main ptr ctl heap r plan left = left
 
 answered-requires : tie.Need-answered-requires Inv-loop μ-loop
 answered-requires c κs = search needs
 
 returns : tie.Need-returns Inv-loop μ-loop
 returns c =
-    let S = c .before .before .before .before .before .before .before in rw (c .answered .ensures) (sym (finished-at (S .args .file .now) (S .args .table .now) (S .args .budget) 0 (machine (S .args .regs) (S .args .main .now) (S .args .ptr .now) (S .args .ctl .now) (S .args .heap .now)) (c .before .if1 .taken)))
+    let S = c .before .before .before .before .before .before .before .before in rw (c .answered .ensures) (sym (finished-at (S .args .file .now) (S .args .table .now) (S .args .budget) 0 (machine (S .args .regs) (S .args .main .now) (S .args .ptr .now) (S .args .ctl .now) (S .args .heap .now)) (c .before .if1 .taken)))
 
 go-on-requires : tie.Need-go-on-requires Inv-loop μ-loop
-go-on-requires c κs = (c .before .before .before .before .before .before .before .before .before .before .pre, c .before .before .before .before .if1 .left)
+go-on-requires c κs = (c .before .before .before .before .before .before .before .before .before .before .before .pre, c .before .before .before .before .if1 .left)
 
 loop-holds : tie.Need-loop-holds Inv-loop μ-loop
 loop-holds c =
-    let S = c .before .before .before .before .before .before .before .before .before .before .before .before .before .before .before .before .before .before .before .before in
+    let S = c .before .before .before .before .before .before .before .before .before .before .before .before .before .before .before .before .before .before .before .before .before in
     let P = c .before .before .before .before .before .before .before .before .before .go-on .ensures in
     record { going = going-start (S .args .file .now) (S .args .table .now) _ _ (P .going .runs); on? = P .on?; stopped = P .stopped }
 
@@ -70,7 +70,7 @@ same-length-4 c = c .before .before .before .before .before .before .before .bef
 
 returns-2 : tie.Need-returns-2 Inv-loop μ-loop
 returns-2 c =
-    let S = c .before .before .before .before .before .before .before .before .before .before .before .before .before .before .before .before .before .before .before .before .before .before .before .before .before .before .before .before .before .before .before .before .before .before .before .before .before in
+    let S = c .before .before .before .before .before .before .before .before .before .before .before .before .before .before .before .before .before .before .before .before .before .before .before .before .before .before .before .before .before .before .before .before .before .before .before .before .before .before in
     let L = c .before .before .before .before .before .before .before .before .before .before .before .before .before .before .before .before .loop in
     rw (c .answered2 .ensures)
     (going-uncaught (S .args .file .now) (S .args .table .now) (L .left) (machine (L .r) (L .main) (L .ptr) (L .ctl) (L .heap)) (L .inv .going .runs) (c .before .before .before .before .before .before .before .before .before .before .before .before .before .before .before .loop-test .taken) (L .inv .on?) (L .plan)
@@ -78,51 +78,51 @@ returns-2 c =
     (going-trans (S .args .file .now) (S .args .table .now) (S .args .budget) (machine (S .args .regs) (S .args .main .now) (S .args .ptr .now) (S .args .ctl .now) (S .args .heap .now)) _ _ (L .left) (machine (L .r) (L .main) (L .ptr) (L .ctl) (L .heap)) (c .before .before .before .before .before .before .before .before .before .before .before .before .before .before .before .before .before .before .before .before .before .before .before .before .before .before .go-on .ensures .going) (L .inv .going)) (went-off? _ (c .before .if2 .taken)))
 
 sub-done-2 : tie.Need-sub-done-2 Inv-loop μ-loop
-sub-done-2 c = omega (arith, c .before .before .before .before .before .before .before .before .before .before .before .before .before .before .before .before .before .loop .inv .going .less, c .before .before .before .before .before .before .before .before .before .before .before .before .before .before .before .before .before .before .before .before .before .before .before .before .before .before .before .go-on .ensures .going .less)
+sub-done-2 c = omega (arith, c .before .before .before .before .before .before .before .before .before .before .before .before .before .before .before .before .before .before .loop .inv .going .less, c .before .before .before .before .before .before .before .before .before .before .before .before .before .before .before .before .before .before .before .before .before .before .before .before .before .before .before .before .go-on .ensures .going .less)
 
 answered-requires-3 : tie.Need-answered-requires-3 Inv-loop μ-loop
 answered-requires-3 c κs = search needs
 
 same-length-5 : tie.Need-same-length-5 Inv-loop μ-loop
-same-length-5 c = c .before .before .before .before .before .before .before .before .before .before .before .before .step-with .kept .1 .1 .0 ∙ c .before .before .before .before .before .before .before .before .before .before .before .before .before .before .before .before .before .before .loop .inv .going .alike .main ∙ c .before .before .before .before .before .before .before .before .before .before .before .before .before .before .before .before .before .before .before .before .before .before .before .before .before .before .before .before .go-on .ensures .going .alike .main
+same-length-5 c = c .before .before .before .before .before .before .before .before .before .before .before .before .before .step-with .kept .1 .1 .0 ∙ c .before .before .before .before .before .before .before .before .before .before .before .before .before .before .before .before .before .before .before .loop .inv .going .alike .main ∙ c .before .before .before .before .before .before .before .before .before .before .before .before .before .before .before .before .before .before .before .before .before .before .before .before .before .before .before .before .before .go-on .ensures .going .alike .main
 
 same-length-6 : tie.Need-same-length-6 Inv-loop μ-loop
-same-length-6 c = c .before .before .before .before .before .before .before .before .before .before .before .before .step-with .kept .1 .1 .1 .0 ∙ c .before .before .before .before .before .before .before .before .before .before .before .before .before .before .before .before .before .before .loop .inv .going .alike .ptr ∙ c .before .before .before .before .before .before .before .before .before .before .before .before .before .before .before .before .before .before .before .before .before .before .before .before .before .before .before .before .go-on .ensures .going .alike .ptr
+same-length-6 c = c .before .before .before .before .before .before .before .before .before .before .before .before .before .step-with .kept .1 .1 .1 .0 ∙ c .before .before .before .before .before .before .before .before .before .before .before .before .before .before .before .before .before .before .before .loop .inv .going .alike .ptr ∙ c .before .before .before .before .before .before .before .before .before .before .before .before .before .before .before .before .before .before .before .before .before .before .before .before .before .before .before .before .before .go-on .ensures .going .alike .ptr
 
 same-length-7 : tie.Need-same-length-7 Inv-loop μ-loop
-same-length-7 c = c .before .before .before .before .before .before .before .before .before .before .before .before .step-with .kept .1 .1 .1 .1 .0 ∙ c .before .before .before .before .before .before .before .before .before .before .before .before .before .before .before .before .before .before .loop .inv .going .alike .ctl ∙ c .before .before .before .before .before .before .before .before .before .before .before .before .before .before .before .before .before .before .before .before .before .before .before .before .before .before .before .before .go-on .ensures .going .alike .ctl
+same-length-7 c = c .before .before .before .before .before .before .before .before .before .before .before .before .before .step-with .kept .1 .1 .1 .1 .0 ∙ c .before .before .before .before .before .before .before .before .before .before .before .before .before .before .before .before .before .before .before .loop .inv .going .alike .ctl ∙ c .before .before .before .before .before .before .before .before .before .before .before .before .before .before .before .before .before .before .before .before .before .before .before .before .before .before .before .before .before .go-on .ensures .going .alike .ctl
 
 same-length-8 : tie.Need-same-length-8 Inv-loop μ-loop
-same-length-8 c = c .before .before .before .before .before .before .before .before .before .before .before .before .step-with .kept .1 .1 .1 .1 .1 .0 ∙ c .before .before .before .before .before .before .before .before .before .before .before .before .before .before .before .before .before .before .loop .inv .going .alike .heap ∙ c .before .before .before .before .before .before .before .before .before .before .before .before .before .before .before .before .before .before .before .before .before .before .before .before .before .before .before .before .go-on .ensures .going .alike .heap
+same-length-8 c = c .before .before .before .before .before .before .before .before .before .before .before .before .before .step-with .kept .1 .1 .1 .1 .1 .0 ∙ c .before .before .before .before .before .before .before .before .before .before .before .before .before .before .before .before .before .before .before .loop .inv .going .alike .heap ∙ c .before .before .before .before .before .before .before .before .before .before .before .before .before .before .before .before .before .before .before .before .before .before .before .before .before .before .before .before .before .go-on .ensures .going .alike .heap
 
 returns-3 : tie.Need-returns-3 Inv-loop μ-loop
 returns-3 c =
-    let S = c .before .before .before .before .before .before .before .before .before .before .before .before .before .before .before .before .before .before .before .before .before .before .before .before .before .before .before .before .before .before .before .before .before .before .before .before .before .before .before in
-    let L = c .before .before .before .before .before .before .before .before .before .before .before .before .before .before .before .before .before .before .loop in
+    let S = c .before .before .before .before .before .before .before .before .before .before .before .before .before .before .before .before .before .before .before .before .before .before .before .before .before .before .before .before .before .before .before .before .before .before .before .before .before .before .before .before .before in
+    let L = c .before .before .before .before .before .before .before .before .before .before .before .before .before .before .before .before .before .before .before .loop in
     rw (c .answered3 .ensures)
     (going-finished (S .args .file .now) (S .args .table .now) (S .args .budget) (machine (S .args .regs) (S .args .main .now) (S .args .ptr .now) (S .args .ctl .now) (S .args .heap .now)) (L .left - 1) _
-    (going-on (S .args .file .now) (S .args .table .now) (L .left) (machine (L .r) (L .main) (L .ptr) (L .ctl) (L .heap)) (L .inv .going .runs) (c .before .before .before .before .before .before .before .before .before .before .before .before .before .before .before .before .before .loop-test .taken) (L .inv .on?) (L .plan) (L .inv .stopped (c .before .before .before .before .before .before .before .before .before .before .before .before .before .before .before .before .before .loop-test .taken) .is) (c .before .before .before .before .before .before .before .before .before .before .before .before .step-with .result) _ _ _ _ (c .before .before .before .before .before .before .before .before .before .before .before .before .step-with .ensures) (S .args .budget) (machine (S .args .regs) (S .args .main .now) (S .args .ptr .now) (S .args .ctl .now) (S .args .heap .now)) (going-trans (S .args .file .now) (S .args .table .now) (S .args .budget) (machine (S .args .regs) (S .args .main .now) (S .args .ptr .now) (S .args .ctl .now) (S .args .heap .now)) _ _ (L .left) (machine (L .r) (L .main) (L .ptr) (L .ctl) (L .heap)) (c .before .before .before .before .before .before .before .before .before .before .before .before .before .before .before .before .before .before .before .before .before .before .before .before .before .before .before .before .go-on .ensures .going) (L .inv .going)) (went-on? _ (c .before .before .before .if2 .left)) (record { main = c .before .before .before .before .before .before .before .before .before .before .before .before .step-with .kept .1 .1 .0; ptr = c .before .before .before .before .before .before .before .before .before .before .before .before .step-with .kept .1 .1 .1 .0; ctl = c .before .before .before .before .before .before .before .before .before .before .before .before .step-with .kept .1 .1 .1 .1 .0; heap = c .before .before .before .before .before .before .before .before .before .before .before .before .step-with .kept .1 .1 .1 .1 .1 .0 })) (c .before .if3 .taken))
+    (going-on (S .args .file .now) (S .args .table .now) (L .left) (machine (L .r) (L .main) (L .ptr) (L .ctl) (L .heap)) (L .inv .going .runs) (c .before .before .before .before .before .before .before .before .before .before .before .before .before .before .before .before .before .before .loop-test .taken) (L .inv .on?) (L .plan) (L .inv .stopped (c .before .before .before .before .before .before .before .before .before .before .before .before .before .before .before .before .before .before .loop-test .taken) .is) (c .before .before .before .before .before .before .before .before .before .before .before .before .before .step-with .result) _ _ _ _ (c .before .before .before .before .before .before .before .before .before .before .before .before .before .step-with .ensures) (S .args .budget) (machine (S .args .regs) (S .args .main .now) (S .args .ptr .now) (S .args .ctl .now) (S .args .heap .now)) (going-trans (S .args .file .now) (S .args .table .now) (S .args .budget) (machine (S .args .regs) (S .args .main .now) (S .args .ptr .now) (S .args .ctl .now) (S .args .heap .now)) _ _ (L .left) (machine (L .r) (L .main) (L .ptr) (L .ctl) (L .heap)) (c .before .before .before .before .before .before .before .before .before .before .before .before .before .before .before .before .before .before .before .before .before .before .before .before .before .before .before .before .before .go-on .ensures .going) (L .inv .going)) (went-on? _ (c .before .before .before .before .if2 .left)) (record { main = c .before .before .before .before .before .before .before .before .before .before .before .before .before .step-with .kept .1 .1 .0; ptr = c .before .before .before .before .before .before .before .before .before .before .before .before .before .step-with .kept .1 .1 .1 .0; ctl = c .before .before .before .before .before .before .before .before .before .before .before .before .before .step-with .kept .1 .1 .1 .1 .0; heap = c .before .before .before .before .before .before .before .before .before .before .before .before .before .step-with .kept .1 .1 .1 .1 .1 .0 })) (c .before .if3 .taken))
 
 go-on-requires-2 : tie.Need-go-on-requires-2 Inv-loop μ-loop
 go-on-requires-2 c κs =
-    let S = c .before .before .before .before .before .before .before .before .before .before .before .before .before .before .before .before .before .before .before .before .before .before .before .before .before .before .before .before .before .before .before .before .before .before .before .before .before .before .before .before .before .before in
-    let L = c .before .before .before .before .before .before .before .before .before .before .before .before .before .before .before .before .before .before .before .before .before .loop in
-    (going-on (S .args .file .now) (S .args .table .now) (L .left) (machine (L .r) (L .main) (L .ptr) (L .ctl) (L .heap)) (L .inv .going .runs) (c .before .before .before .before .before .before .before .before .before .before .before .before .before .before .before .before .before .before .before .before .loop-test .taken) (L .inv .on?) (L .plan) (L .inv .stopped (c .before .before .before .before .before .before .before .before .before .before .before .before .before .before .before .before .before .before .before .before .loop-test .taken) .is) (c .before .before .before .before .before .before .before .before .before .before .before .before .before .before .before .step-with .result) _ _ _ _ (c .before .before .before .before .before .before .before .before .before .before .before .before .before .before .before .step-with .ensures) (S .args .budget) (machine (S .args .regs) (S .args .main .now) (S .args .ptr .now) (S .args .ctl .now) (S .args .heap .now)) (going-trans (S .args .file .now) (S .args .table .now) (S .args .budget) (machine (S .args .regs) (S .args .main .now) (S .args .ptr .now) (S .args .ctl .now) (S .args .heap .now)) _ _ (L .left) (machine (L .r) (L .main) (L .ptr) (L .ctl) (L .heap)) (c .before .before .before .before .before .before .before .before .before .before .before .before .before .before .before .before .before .before .before .before .before .before .before .before .before .before .before .before .before .before .before .go-on .ensures .going) (L .inv .going)) (went-on? _ (c .before .before .before .before .before .before .if2 .left)) (record { main = c .before .before .before .before .before .before .before .before .before .before .before .before .before .before .before .step-with .kept .1 .1 .0; ptr = c .before .before .before .before .before .before .before .before .before .before .before .before .before .before .before .step-with .kept .1 .1 .1 .0; ctl = c .before .before .before .before .before .before .before .before .before .before .before .before .before .before .before .step-with .kept .1 .1 .1 .1 .0; heap = c .before .before .before .before .before .before .before .before .before .before .before .before .before .before .before .step-with .kept .1 .1 .1 .1 .1 .0 }) .runs, c .before .before .before .before .if3 .left)
+    let S = c .before .before .before .before .before .before .before .before .before .before .before .before .before .before .before .before .before .before .before .before .before .before .before .before .before .before .before .before .before .before .before .before .before .before .before .before .before .before .before .before .before .before .before .before in
+    let L = c .before .before .before .before .before .before .before .before .before .before .before .before .before .before .before .before .before .before .before .before .before .before .loop in
+    (going-on (S .args .file .now) (S .args .table .now) (L .left) (machine (L .r) (L .main) (L .ptr) (L .ctl) (L .heap)) (L .inv .going .runs) (c .before .before .before .before .before .before .before .before .before .before .before .before .before .before .before .before .before .before .before .before .before .loop-test .taken) (L .inv .on?) (L .plan) (L .inv .stopped (c .before .before .before .before .before .before .before .before .before .before .before .before .before .before .before .before .before .before .before .before .before .loop-test .taken) .is) (c .before .before .before .before .before .before .before .before .before .before .before .before .before .before .before .before .step-with .result) _ _ _ _ (c .before .before .before .before .before .before .before .before .before .before .before .before .before .before .before .before .step-with .ensures) (S .args .budget) (machine (S .args .regs) (S .args .main .now) (S .args .ptr .now) (S .args .ctl .now) (S .args .heap .now)) (going-trans (S .args .file .now) (S .args .table .now) (S .args .budget) (machine (S .args .regs) (S .args .main .now) (S .args .ptr .now) (S .args .ctl .now) (S .args .heap .now)) _ _ (L .left) (machine (L .r) (L .main) (L .ptr) (L .ctl) (L .heap)) (c .before .before .before .before .before .before .before .before .before .before .before .before .before .before .before .before .before .before .before .before .before .before .before .before .before .before .before .before .before .before .before .before .go-on .ensures .going) (L .inv .going)) (went-on? _ (c .before .before .before .before .before .before .before .if2 .left)) (record { main = c .before .before .before .before .before .before .before .before .before .before .before .before .before .before .before .before .step-with .kept .1 .1 .0; ptr = c .before .before .before .before .before .before .before .before .before .before .before .before .before .before .before .before .step-with .kept .1 .1 .1 .0; ctl = c .before .before .before .before .before .before .before .before .before .before .before .before .before .before .before .before .step-with .kept .1 .1 .1 .1 .0; heap = c .before .before .before .before .before .before .before .before .before .before .before .before .before .before .before .before .step-with .kept .1 .1 .1 .1 .1 .0 }) .runs, c .before .before .before .before .if3 .left)
 
 loop-less : tie.Need-loop-less Inv-loop μ-loop
-loop-less c = omega (arith, c .before .before .before .before .before .before .before .before .before .go-on2 .ensures .going .less, c .before .before .before .before .before .before .before .before .before .before .before .before .before .before .before .before .before .before .before .before .before .before .before .before .before .before .before .before .before .before .loop-test .taken)
+loop-less c = omega (arith, c .before .before .before .before .before .before .before .before .before .go-on2 .ensures .going .less, c .before .before .before .before .before .before .before .before .before .before .before .before .before .before .before .before .before .before .before .before .before .before .before .before .before .before .before .before .before .before .before .loop-test .taken)
 
 loop-again : tie.Need-loop-again Inv-loop μ-loop
 loop-again c =
-    let S = c .before .before .before .before .before .before .before .before .before .before .before .before .before .before .before .before .before .before .before .before .before .before .before .before .before .before .before .before .before .before .before .before .before .before .before .before .before .before .before .before .before .before .before .before .before .before .before .before .before .before .before .before in
-    let L = c .before .before .before .before .before .before .before .before .before .before .before .before .before .before .before .before .before .before .before .before .before .before .before .before .before .before .before .before .before .before .before .loop in
+    let S = c .before .before .before .before .before .before .before .before .before .before .before .before .before .before .before .before .before .before .before .before .before .before .before .before .before .before .before .before .before .before .before .before .before .before .before .before .before .before .before .before .before .before .before .before .before .before .before .before .before .before .before .before .before .before in
+    let L = c .before .before .before .before .before .before .before .before .before .before .before .before .before .before .before .before .before .before .before .before .before .before .before .before .before .before .before .before .before .before .before .before .loop in
     let P = c .before .before .before .before .before .before .before .before .before .go-on2 .ensures in
-    let t = c .before .before .before .before .before .before .before .before .before .before .before .before .before .before .before .before .before .before .before .before .before .before .before .before .before .before .before .before .before .before .loop-test .taken in
+    let t = c .before .before .before .before .before .before .before .before .before .before .before .before .before .before .before .before .before .before .before .before .before .before .before .before .before .before .before .before .before .before .before .loop-test .taken in
     record {
       going =
           going-trans (S .args .file .now) (S .args .table .now) _ _ _ _ _ _
-          (going-on (S .args .file .now) (S .args .table .now) (L .left) (machine (L .r) (L .main) (L .ptr) (L .ctl) (L .heap)) (L .inv .going .runs) t (L .inv .on?) (L .plan) (L .inv .stopped t .is) (c .before .before .before .before .before .before .before .before .before .before .before .before .before .before .before .before .before .before .before .before .before .before .before .before .before .step-with .result)
-          _ _ _ _ (c .before .before .before .before .before .before .before .before .before .before .before .before .before .before .before .before .before .before .before .before .before .before .before .before .before .step-with .ensures) _ _ (L .inv .going) (went-on? _ (c .before .before .before .before .before .before .before .before .before .before .before .before .before .before .before .before .if2 .left)) (record { main = c .before .before .before .before .before .before .before .before .before .before .before .before .before .before .before .before .before .before .before .before .before .before .before .before .before .step-with .kept .1 .1 .0; ptr = c .before .before .before .before .before .before .before .before .before .before .before .before .before .before .before .before .before .before .before .before .before .before .before .before .before .step-with .kept .1 .1 .1 .0; ctl = c .before .before .before .before .before .before .before .before .before .before .before .before .before .before .before .before .before .before .before .before .before .before .before .before .before .step-with .kept .1 .1 .1 .1 .0; heap = c .before .before .before .before .before .before .before .before .before .before .before .before .before .before .before .before .before .before .before .before .before .before .before .before .before .step-with .kept .1 .1 .1 .1 .1 .0 })) (P .going);
+          (going-on (S .args .file .now) (S .args .table .now) (L .left) (machine (L .r) (L .main) (L .ptr) (L .ctl) (L .heap)) (L .inv .going .runs) t (L .inv .on?) (L .plan) (L .inv .stopped t .is) (c .before .before .before .before .before .before .before .before .before .before .before .before .before .before .before .before .before .before .before .before .before .before .before .before .before .before .step-with .result)
+          _ _ _ _ (c .before .before .before .before .before .before .before .before .before .before .before .before .before .before .before .before .before .before .before .before .before .before .before .before .before .before .step-with .ensures) _ _ (L .inv .going) (went-on? _ (c .before .before .before .before .before .before .before .before .before .before .before .before .before .before .before .before .before .if2 .left)) (record { main = c .before .before .before .before .before .before .before .before .before .before .before .before .before .before .before .before .before .before .before .before .before .before .before .before .before .before .step-with .kept .1 .1 .0; ptr = c .before .before .before .before .before .before .before .before .before .before .before .before .before .before .before .before .before .before .before .before .before .before .before .before .before .before .step-with .kept .1 .1 .1 .0; ctl = c .before .before .before .before .before .before .before .before .before .before .before .before .before .before .before .before .before .before .before .before .before .before .before .before .before .before .step-with .kept .1 .1 .1 .1 .0; heap = c .before .before .before .before .before .before .before .before .before .before .before .before .before .before .before .before .before .before .before .before .before .before .before .before .before .before .step-with .kept .1 .1 .1 .1 .1 .0 })) (P .going);
       on? = P .on?;
       stopped = P .stopped;
     }
@@ -144,7 +144,7 @@ same-length-12 c = c .before .before .loop .inv .going .alike .heap ∙ c .befor
 
 returns-4 : tie.Need-returns-4 Inv-loop μ-loop
 returns-4 c =
-    let S = c .before .before .before .before .before .before .before .before .before .before .before .before .before .before .before .before .before .before .before .before .before .before .before in
+    let S = c .before .before .before .before .before .before .before .before .before .before .before .before .before .before .before .before .before .before .before .before .before .before .before .before in
     let L = c .before .before .loop in
     rw (c .answered4 .ensures)
     (going-spent (S .args .file .now) (S .args .table .now) (S .args .budget) (machine (S .args .regs) (S .args .main .now) (S .args .ptr .now) (S .args .ctl .now) (S .args .heap .now)) (L .left) (machine (L .r) (L .main) (L .ptr) (L .ctl) (L .heap)) (going-trans (S .args .file .now) (S .args .table .now) (S .args .budget) (machine (S .args .regs) (S .args .main .now) (S .args .ptr .now) (S .args .ctl .now) (S .args .heap .now)) _ _ (L .left) (machine (L .r) (L .main) (L .ptr) (L .ctl) (L .heap)) (c .before .before .before .before .before .before .before .before .before .before .before .before .go-on .ensures .going) (L .inv .going)) (omega (arith, c .before .loop-test .left)) (L .inv .on?))
