@@ -16,6 +16,7 @@ use Rattle.model.specs.Heap.{objectsOf}
 use Rattle.model.specs.Control.{Machine, recordWords, down, records}
 use Rattle.model.specs.Sound.{mainAt, ptrAt, innerAt, zeros, pointers, stackTests, runningTests, finishedTests, sound?}
 use Rattle.model.specs.declared.Regs.{Regs}
+use Rattle.heap.specs.Zeros.{Zeros, none, more}
 use Rattle.frames.specs.declared.Reading.{Reading}
 use Rattle.code.specs.declared.Head.{Head}
 use Rattle.frames.specs.Places.{HeadFor}
@@ -144,3 +145,7 @@ module _ (l : List ℕ) (i : ℕ) where
 
   pub zeros-more : i < length l → getD l i 0 ≡ 0 → zeros (drop i l) ≡ zeros (drop (i + 1) l)
   zeros-more h z = rw (drop-cons l i 0 h, eq-eqb (getD l i 0) 0 z, add-one i)
+
+pub zeros-skipped : (l : List ℕ) (from i : ℕ) → Zeros l from i → zeros (drop from l) ≡ zeros (drop i l)
+zeros-skipped l from i none = refl
+zeros-skipped l from i (more j Z b z) = zeros-skipped l from j Z ∙ zeros-more l j b z

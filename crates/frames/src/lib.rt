@@ -431,7 +431,7 @@ fn records_right(
 fn zeros_from(words: &[u32], top: usize) -> bool
     ensures { λ r. ⌜ r ≡ zeros (drop top (now (words .entry))) ⌝ }
 {
-    let mut i = top;
+    let mut i = heap::skip_zeros(words, top);
     while i < words.len() {
         if words[i] != 0 {
             return false;

@@ -4,6 +4,7 @@ pub mod Faults
 pub mod Audited
 pub mod Table
 pub mod Turns
+pub mod Zeros
 pub mod Answers
 pub mod Stores
 pub mod Formed

@@ -10,6 +10,7 @@ ghost use lib.ListN.{length, drop};
 ghost use Rattle.model.specs.Heap.{markOf, kindAt, ptrsAt, sizeAt, viewKind, inPtrs, inPlain, Objects, range, pointerWords};
 ghost use Rattle.model.specs.Sound.{pointers, zeros};
 ghost use Rattle.heap.specs.First.{firstBad, zeroAt, freeWords};
+ghost use Rattle.heap.specs.Zeros.{Zeros};
 ghost use Rattle.heap.specs.Table.{Small, Marks, isMarked, markedAt, found, Range, judged, Walked, Audited};
 
 // What the audit answers: the heap is sound, or the index of the word at fault.
@@ -160,13 +161,34 @@ fn pointers_right(heap: &[u32], marks: &[bool; 16384]) -> HeapAudit
     HeapAudit::Clean
 }
 
+// Where the words from `from` on, taken by four, are no longer all 0, or the list ends: a test for four words is quicker than four.
+pub fn skip_zeros(words: &[u32], from: usize) -> usize
+    ensures { λ r. ⌜ Zeros (now (words .entry)) from r ⌝ }
+{
+    let n = words.len();
+    if n < 4 {
+        return from;
+    }
+    let last = n - 4;
+    let mut i = from;
+    while i <= last {
+        let low = wide(words[i]) + wide(words[i + 1]);
+        let high = wide(words[i + 2]) + wide(words[i + 3]);
+        if low + high != 0 {
+            return i;
+        }
+        i += 4;
+    }
+    i
+}
+
 // The first word from the mark on that is not 0.
 fn free_zero(heap: &[u32]) -> HeapAudit
     requires { ⌜ Range (now heap) ⌝ }
     ensures { λ r. ⌜ r ≡ firstBad (zeroAt (now (heap .entry))) (freeWords (now (heap .entry))) ⌝ }
 {
     let mark = wide(heap[0]);
-    let mut i = mark;
+    let mut i = skip_zeros(heap, mark);
     while i < heap.len() {
         if heap[i] != 0 {
             return HeapAudit::Fault(i);

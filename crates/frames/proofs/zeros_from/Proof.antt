@@ -1,12 +1,12 @@
 -- The invariant: the words from the top on are 0 exactly if those from `i` on are.
-use mathlib.Core.Path.{_≡_, refl, sym, _∙_}
+use mathlib.Core.Path.{_≡_, sym, _∙_}
 use Prim.Native.Nat.{_-_}
 use native.Mathlib.Omega.{arith}
 use lib.ListN.{length, drop}
 use borrow.Author.Needs.{needs}
 use Rattle.model.specs.Sound.{zeros}
 use Rattle.heap.specs.Stack.{zeros-end}
-use Rattle.frames.specs.Audit.{zeros-bad, zeros-more}
+use Rattle.frames.specs.Audit.{zeros-bad, zeros-more, zeros-skipped}
 use Rattle.frames.proofs.zeros_from.Statement.{statement}
 use Rattle.frames.proofs.zeros_from.Tie as tie
 
@@ -16,8 +16,11 @@ Inv-loop words top i₀ i = zeros (drop top words) ≡ zeros (drop i words)
 abbrev μ-loop : tie.MeasureT-loop
 μ-loop words top i₀ i = length words - i
 
+skip-zeros-requires : tie.Need-skip-zeros-requires Inv-loop μ-loop
+skip-zeros-requires c κs = search needs
+
 loop-holds : tie.Need-loop-holds Inv-loop μ-loop
-loop-holds c = refl
+loop-holds c = zeros-skipped _ _ _ (c .skip-zeros .ensures)
 
 mul-if1 : tie.Need-mul-if1 Inv-loop μ-loop
 mul-if1 c = search needs
@@ -46,6 +49,7 @@ zeros-from-spec =
     (tie.spec
     Inv-loop
     μ-loop
+    skip-zeros-requires
     loop-holds
     mul-if1
     shared-slice-read-if1
