@@ -259,16 +259,20 @@ static void check_rows(void)
 /* for ever: bjump to itself */
 static const uint8_t idle[] = { 240, 0, 0, 0, 0, 1, 1, 3, 0, 3 };
 
-static void fill_heap(size_t len, uint32_t ptrs, uint32_t plain)
+/* An object's pointers lead to the one halfway before it; with `nils`, every third is nil, in no order that a branch could foresee. */
+static void fill_heap(size_t len, uint32_t ptrs, bool nils)
 {
     for (int w = 0; w < SIDES; w++) {
         uint32_t *heap = side[w].heap;
-        uint32_t size = 2 + ptrs + plain, at = 2;
+        uint32_t size = 2 + ptrs, at = 2, random = 1;
         for (; at + size <= len; at += size) {
             heap[at] = 0x01000000u + ptrs;
             heap[at + 1] = size;
-            for (uint32_t i = 0; i < ptrs; i++)
-                heap[at + 2 + i] = 2 + size * ((at / size) / 2);
+            for (uint32_t i = 0; i < ptrs; i++) {
+                random = random * 1664525u + 1013904223u;
+                bool nil = nils && (random >> 16) % 3 == 0;
+                heap[at + 2 + i] = nil ? 0 : 2 + size * ((at / size) / 2);
+            }
         }
         heap[0] = at;
         heap[1] = 2;
@@ -281,34 +285,31 @@ static void start_all(const char *name)
         need(call(w, START, 0), YALGOVIM_READY, name);
 }
 
+/* Heaps of growing length, filled with objects of `ptrs` pointers each, or empty. */
+static void heap_rows(const char *what, bool full, uint32_t ptrs, bool nils)
+{
+    double best[SIDES];
+    char name[80];
+    for (size_t h = 1024; h <= 16384; h *= 2) {
+        snprintf(name, sizeof name, "heap of %zu, %s", h, what);
+        lend(idle, sizeof idle, 16, 16, 20, h);
+        if (full)
+            fill_heap(h, ptrs, nils);
+        start_all(name);
+        measure(RUN, 0, YALGOVIM_SPENT, name, best);
+        row(name, 1000, best, h > 1024);
+    }
+}
+
 static void audit_rows(void)
 {
     double best[SIDES];
     char name[80];
     title("audits: run with budget 0", "us/call");
-    for (size_t h = 1024; h <= 16384; h *= 2) {
-        snprintf(name, sizeof name, "heap of %zu, empty", h);
-        lend(idle, sizeof idle, 16, 16, 20, h);
-        start_all(name);
-        measure(RUN, 0, YALGOVIM_SPENT, name, best);
-        row(name, 1000, best, h > 1024);
-    }
-    for (size_t h = 1024; h <= 16384; h *= 2) {
-        snprintf(name, sizeof name, "heap of %zu, full, objects of 2 words", h);
-        lend(idle, sizeof idle, 16, 16, 20, h);
-        fill_heap(h, 0, 0);
-        start_all(name);
-        measure(RUN, 0, YALGOVIM_SPENT, name, best);
-        row(name, 1000, best, h > 1024);
-    }
-    for (size_t h = 1024; h <= 16384; h *= 2) {
-        snprintf(name, sizeof name, "heap of %zu, full, 14 pointers each", h);
-        lend(idle, sizeof idle, 16, 16, 20, h);
-        fill_heap(h, 14, 0);
-        start_all(name);
-        measure(RUN, 0, YALGOVIM_SPENT, name, best);
-        row(name, 1000, best, h > 1024);
-    }
+    heap_rows("empty", false, 0, false);
+    heap_rows("full, objects of 2 words", true, 0, false);
+    heap_rows("full, 14 pointers each", true, 14, false);
+    heap_rows("full, 14 each, a third nil", true, 14, true);
     for (size_t m = 512; m <= 4096; m *= 2) {
         snprintf(name, sizeof name, "both stacks of %zu, shallow", m);
         lend(idle, sizeof idle, m, m, 20, 64);

@@ -19,7 +19,7 @@ use Rattle.model.specs.Calls.{mapSize, overMap, wiped, Verdict, pass, refuse, f
 use Rattle.model.specs.Claim.{Bytes, assigned}
 use Rattle.exact.specs.Pass.{and-true}
 use Rattle.exact.specs.Walk.{HeadsHold, heads-right, right-heads, instruction-below}
-use Rattle.exact.specs.Flow.{Shape, keeps-shape, keeps-same, Late, flow-late, flow-rest, flow-keeps, keeps-flow}
+use Rattle.exact.specs.Flow.{Shape, keeps-shape, keeps-same, flow-rest, flow-keeps, keeps-flow}
 
 -- three numbers a place
 get-behind : (a b c : ℕ) (map : List ℕ) (i j : ℕ) → i ≡ suc (suc (suc j)) → getD (a ∷ b ∷ c ∷ map) i none ≡ getD map j none
@@ -233,16 +233,3 @@ module _ (f map : List ℕ) (B : Bytes f) where
             (n : ℕ) × (p : ℕ) × (verdictOf f map ≡ refuse n p (wiped f map))
         go w (refused n p) x = (n, p, flow-verdict f map W room ∙ ap (flowed f map) x)
         go w (passed k) x = absurd (w (stateAt k) (flow-keeps f (W .places) B (W .records) (W .heads) k x))
-
-    -- with nothing in it that 5 is for, it is refused at an instruction, by 6 to 9
-    pub refused-late : ((p : ℕ) → Mem p (instructions f) → All (targetTests f p (insAt f p))) → (n q : ℕ) (new : List ℕ) →
-        verdictOf f map ≡ refuse n q new → Late n × Mem q (instructions f) × (new ≡ wiped f map)
-    refused-late t n q new e = go (flow f) refl (sym (flow-verdict f map W room) ∙ e)
-      where
-        go : (r : Result Known) → flow f ≡ r → flowed f map r ≡ refuse n q new → Late n × Mem q (instructions f) × (new ≡ wiped f map)
-        go (refused m p) w x =
-            let a : m ≡ n = cc in
-            let b : p ≡ q = cc in
-            let l = flow-late f n q t (w ∙ (λ i. refused (a i) (b i))) in
-            (l .0, l .1, cc)
-        go (passed k) w x = let z : true ≡ false = cc in absurd (true≢false z)

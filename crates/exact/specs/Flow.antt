@@ -173,57 +173,6 @@ taken-step f p k k′ T =
     )
     (T .puts)
 
--- with right targets an instruction is refused by 6 to 9 only
-abbrev pub Late : ℕ → Type 0
-Late n = (6 ≤ n) × (n ≤ 9)
-
-need-late : (t : Bool) (m : ℕ) (c : Step Known) (n : ℕ) → Late m → (c ≡ bad n → Late n) → need t m c ≡ bad n → Late n
-need-late true m c n l r e = r e
-need-late false m c n l r e = let z : m ≡ n = cc in rw z at l
-
-meet-late : (a b : Bool) (x y : Known) (n : ℕ) → meet a b x y ≡ bad n → Late n
-meet-late false b x y n e = let z : 9 ≡ n = cc in (omega arith, omega arith)
-meet-late true true x y n e = let z : 9 ≡ n = cc in (omega arith, omega arith)
-meet-late true false x y n e = let z : 9 ≡ n = cc in (omega arith, omega arith)
-
-puts-late : (os : List (ℕ × State)) (k : Known) (n : ℕ) → passAll os k ≡ bad n → Late n
-puts-late [] k n e = let z : 9 ≡ n = cc in (omega arith, omega arith)
-puts-late (o ∷ os) k n e = go (passOne k (o .0) (o .1)) refl (λ m. puts-late os m n) e
-  where
-    go : (c : Step Known) → passOne k (o .0) (o .1) ≡ c → ((m : Known) → passAll os m ≡ bad n → Late n) →
-        andThen c (λ m. passAll os m) ≡ bad n → Late n
-    go (bad m) w r e = let z : m ≡ n = cc in rw z at (meet-late (isSet (stateAt k (o .0))) (sameState (stateAt k (o .0)) (o .1)) k (o ∷ k) m w)
-    go (next m) w r e = r m e
-
-take-late : (f : List ℕ) (p : ℕ) (k : Known) (n : ℕ) → All (targetTests f p (insAt f p)) → take f p k ≡ bad n → Late n
-unfolding take takeWith
-take-late f p k n t e =
-    let i = insAt f p in
-    let s = stateAt k p in
-    let o = outerAt (stateAt k) p in
-    let w : from6 f p k ≡ bad n = rw (true-all (targetTests f p i) t) at e in
-    need-late (isSet s && all (nextTests f p i)) 6 (from7 f p k) n (omega arith, omega arith)
-    (need-late (all (depthTests f p i s o)) 7 (from8 f p k) n (omega arith, omega arith)
-    (need-late (all (leaveTests f p i s)) 8 (from9 f p k) n (omega arith, omega arith) (puts-late (passes f p i s o) k n))) w
-
-pub flow-late : (f : List ℕ) (n q : ℕ) → ((p : ℕ) → Mem p (instructions f) → All (targetTests f p (insAt f p))) →
-    flow f ≡ refused n q → Late n × Mem q (instructions f)
-unfolding flow takeAll
-flow-late f n q t = late (instructions f) (firsts f (procs f)) t
-  where
-    late : (ps : List ℕ) (k : Known) → ((p : ℕ) → Mem p ps → All (targetTests f p (insAt f p))) →
-        takeAll f ps k ≡ refused n q → Late n × Mem q ps
-    late [] k t e = let z : true ≡ false = cc in absurd (true≢false z)
-    late (p ∷ ps) k t e = go (take f p k) refl (λ m. late ps m (λ r h. t r (inr h))) e
-      where
-        go : (c : Step Known) → take f p k ≡ c → ((m : Known) → takeAll f ps m ≡ refused n q → Late n × Mem q ps) →
-            goOn p c (λ m. takeAll f ps m) ≡ refused n q → Late n × Mem q (p ∷ ps)
-        go (bad m) w r e =
-            let z : m ≡ n = cc in
-            let y : p ≡ q = cc in
-            (rw z at (take-late f p k m (t p (inl refl)) w), inl (sym y))
-        go (next m) w r e = let x = r m e in (x .0, inr (x .1))
-
 -- a state with a byte for its main depth is known
 byte-set : (s : State) → s .main < 256 → Set s
 byte-set s h = rw (ne-eqb (s .main) none (λ e. omega arith))

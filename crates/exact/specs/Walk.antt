@@ -203,13 +203,6 @@ module _ (f ps : List ℕ) (e : recordsOf f ≡ starts ps) where
   pub instruction-below : (p : ℕ) → Mem p (instructions f) → p < length f
   instruction-below p h = let a = instruction-whole p h in let b = after-above f p in omega arith
 
-  pub instruction-above : (p : ℕ) → Mem p (instructions f) → 0 < p
-  instruction-above p h = pick (ℕ-discrete p 0)
-    where
-      pick : Dec (p ≡ 0) → 0 < p
-      pick (yes z) = absurd (ins-in p h .1 (rw z first-head))
-      pick (no z) = omega arith
-
   -- procedures
   zero-in : (qs : List ℕ) → Walk f 0 qs → Mem 0 qs
   zero-in [] w = absurd (empty f w first-head)

@@ -47,8 +47,6 @@ pub record Grown (h h′ os ps ws : List ℕ) : Type 0 where
   pub word : (k : ℕ) → k < 2 + (length ps + length ws) → wordAt h′ (markOf h + k) ≡ wordAt (viewOf ps ws) k
   pub ptrs : (q : ℕ) → Mem q os → ptrsAt h′ q ≡ ptrsAt h q
   pub size : (q : ℕ) → Mem q os → sizeAt h′ q ≡ sizeAt h q
-  pub new-ptrs : ptrsAt h′ (markOf h) ≡ length ps
-  pub new-size : sizeAt h′ (markOf h) ≡ 2 + (length ps + length ws)
 
 module _ {h os : List ℕ} (H : Heap h os) (ps ws : List ℕ) (few : length ps < 16777216)
     (room : markOf h + (2 + (length ps + length ws)) ≤ length h) where
@@ -132,8 +130,6 @@ module _ {h os : List ℕ} (H : Heap h os) (ps ws : List ℕ) (few : length ps <
         word = view-at;
         ptrs = λ q i. ptrs-alike (old q i);
         size = λ q i. size-alike (old q i);
-        new-ptrs = view-ptrs;
-        new-size = view-size;
       }
     where
       ptr-at : (j : ℕ) → j < length ps → wordAt view (markOf h + (2 + j)) ≡ wordAt ps j

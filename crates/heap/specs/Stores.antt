@@ -50,11 +50,6 @@ module _ {h os : List ℕ} (H : Heap h os) where
       let c = H .high in
       record { low = t .0; holds = a; ends = b; inside = omega arith; second = omega arith }
 
-  -- a pointer is nil, or below the heap's length
-  pub pointer-below : (v : ℕ) → Pointer os v → v < length h
-  pointer-below v (inl e) = omega (arith, H .low, H .high)
-  pointer-below v (inr m) = let l = object-lies v m in omega arith
-
   pub read-ptr : (o s : ℕ) → Mem o os → inPtrs h o s ≡ true → Pointer os (wordAt h (o + s)) × (o + s < length h)
   read-ptr o s m e =
       let g = in-ptrs h o s e in

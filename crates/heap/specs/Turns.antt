@@ -1,7 +1,7 @@
 -- What a turn of each loop of the audit shows. A loop's invariant says that the definition gives for the whole what it gives for the
 -- part still to come; each turn takes one step of the definition.
-use Prim.Native.Nat.{ℕ, zero, suc, _+_, _-_, _<_, _≤_}
-use mathlib.Core.Path.{_≡_, refl, sym, _∙_}
+use Prim.Native.Nat.{ℕ, zero, suc, _+_, _-_, _%_, _<_, _≤_}
+use mathlib.Core.Path.{_≡_, refl, sym, _∙_, ap}
 use mathlib.Core.Bool.{Bool, true, false, not, _&&_, _||_}
 use mathlib.Core.List.{List, [], _∷_, _++_}
 use mathlib.Core.Logic.{_≢_}
@@ -18,6 +18,7 @@ use Rattle.heap.specs.declared.HeapAudit.{HeapAudit}
 use Rattle.heap.specs.declared.HeapAudit.the-variants.{Clean, Fault}
 use Rattle.heap.specs.First.{firstBad, walked, orElse, orAudit, zeroAt, bad-append}
 use Rattle.heap.specs.Audited.{good-object}
+use Rattle.heap.specs.Every.{oneIf}
 use Rattle.heap.specs.Table.{Small, marked, Marks, isMarked, markedAt, Range, judged, found, Walked}
 
 -- A range of words
@@ -56,6 +57,10 @@ pointer-bad h t i r e f = sym e ∙ not-true r f
 pub pointer-good : (h : List ℕ) (t : List Bool) (i : ℕ) (r : Bool) → r ≡ isMarked t (wordAt h i) → not r ≡ false → markedAt t h i ≡ true
 unfolding markedAt
 pointer-good h t i r e f = sym e ∙ not-false r f
+
+pub pointer-one : (h : List ℕ) (t : List Bool) (i r : ℕ) → r ≡ oneIf (isMarked t (wordAt h i)) → r ≡ oneIf (markedAt t h i)
+unfolding markedAt
+pointer-one h t i r e = e
 
 pub zero-bad : (h : List ℕ) (i : ℕ) → wordAt h i ≢ 0 → zeroAt h i ≡ false
 unfolding zeroAt
@@ -140,6 +145,12 @@ marked-nil t v i b S e = rw (eq-eqb v 0 (sym (S .is) ∙ e))
 pub marked-in : (t : List Bool) (v i b : ℕ) → Small b v i → i ≢ 0 → i < 16384 → getD t i false ≡ isMarked t v
 unfolding isMarked marked
 marked-in t v i b S e a = rw (← (S .is), ne-eqb i 0 e, lt-ltb i 16384 a)
+
+-- the mark read at the word modulo the table's length, once the word is known to be below it
+pub marked-low : (t : List Bool) (v i b : ℕ) (r : Bool) → Small b v i → i ≢ 0 → i < 16384 → getD t (i % 16384) false ≡ r → r ≡ isMarked t v
+marked-low t v i b r S e a f =
+    let m : i % 16384 ≡ i = omega arith in
+    sym f ∙ ap (λ k. getD t k false) m ∙ marked-in t v i b S e a
 
 pub marked-out : (t : List Bool) (v i b : ℕ) → Small b v i → i ≢ 0 → 16384 ≤ i → false ≡ isMarked t v
 unfolding isMarked marked

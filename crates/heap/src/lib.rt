@@ -11,6 +11,7 @@ ghost use Rattle.model.specs.Heap.{markOf, kindAt, ptrsAt, sizeAt, viewKind, in
 ghost use Rattle.model.specs.Sound.{pointers, zeros};
 ghost use Rattle.heap.specs.First.{firstBad, zeroAt, freeWords};
 ghost use Rattle.heap.specs.Zeros.{Zeros};
+ghost use Rattle.heap.specs.Every.{oneIf, Every};
 ghost use Rattle.heap.specs.Table.{Small, Marks, isMarked, markedAt, found, Range, judged, Walked, Audited};
 
 // What the audit answers: the heap is sound, or the index of the word at fault.
@@ -116,15 +117,41 @@ fn mark_objects(heap: &[u32], marks: &mut [bool; 16384]) -> HeapAudit
     HeapAudit::Clean
 }
 
-// A word is nil or marked.
-pub fn is_pointer(marks: &[bool; 16384], v: u32) -> bool
-    ensures { λ r. ⌜ r ≡ isMarked (now (marks .entry)) v ⌝ }
+// 1 for a word that is nil or marked, 0 for any other. The mark is read in any case, so that the compiler needs no branch here: which words
+// are nil no branch can foresee.
+fn pointer_count(marks: &[bool; 16384], v: u32) -> usize
+    ensures { λ r. ⌜ r ≡ oneIf (isMarked (now (marks .entry)) v) ⌝ }
 {
     let i = wide(v);
+    let at = i % 16384;
+    let known = marks[at];
     if i == 0 {
-        return true;
+        return 1;
     }
-    if i < 16384 { marks[i] } else { false }
+    if 16384 <= i {
+        return 0;
+    }
+    if known { 1 } else { 0 }
+}
+
+fn is_pointer(marks: &[bool; 16384], v: u32) -> bool
+    ensures { λ r. ⌜ r ≡ isMarked (now (marks .entry)) v ⌝ }
+{
+    pointer_count(marks, v) == 1
+}
+
+// Every word from `from` up to `end` is a pointer.
+fn all_pointers(words: &[u32], marks: &[bool; 16384], from: usize, end: usize) -> bool
+    requires { ⌜ (from ≤ end) × (end ≤ length (now words)) ⌝ }
+    ensures { λ r. ⌜ Every (markedAt (now (marks .entry)) (now (words .entry))) from end r ⌝ }
+{
+    let mut good = 0;
+    let mut i = from;
+    while i < end {
+        good += pointer_count(marks, words[i]);
+        i += 1;
+    }
+    good == end - from
 }
 
 // The first of the words from `from` up to `end` that is no pointer.
@@ -132,6 +159,9 @@ fn bad_pointer(words: &[u32], marks: &[bool; 16384], from: usize, end: usize) ->
     requires { ⌜ (from ≤ end) × (end ≤ length (now words)) ⌝ }
     ensures { λ r. ⌜ r ≡ firstBad (markedAt (now (marks .entry)) (now (words .entry))) (range from (end - from)) ⌝ }
 {
+    if all_pointers(words, marks, from, end) {
+        return HeapAudit::Clean;
+    }
     let mut i = from;
     while i < end {
         if !is_pointer(marks, words[i]) {
@@ -232,16 +262,9 @@ fn least(a: usize, b: usize) -> usize
 }
 
 // Every word of the pointer stack is a pointer of the heap whose marks these are, if those from `top` on are 0.
-// A loop of its own and downwards: with fewer values in it, it keeps to registers where it is inlined.
 pub fn audit_pointers(ptr: &[u32], top: usize, marks: &[bool; 16384]) -> bool
     ensures { λ r. ⌜ ((os : List ℕ) → Marks os (now (marks .entry)) → zeros (drop top (now (ptr .entry))) ≡ true → r ≡ pointers os (now (ptr .entry))) ⌝ }
 {
-    let mut i = least(top, ptr.len());
-    while 0 < i {
-        i -= 1;
-        if !is_pointer(marks, ptr[i]) {
-            return false;
-        }
-    }
-    true
+    let n = least(top, ptr.len());
+    all_pointers(ptr, marks, 0, n)
 }

@@ -127,9 +127,3 @@ module _ {f map table : List ℕ} {m : Machine} (A : Alive f map table m) where
         heap = K .heap;
         sound = K .sound;
       }
-
-  -- the registers are words
-  pub alive-small : Small (m .regs)
-  alive-small =
-      let z = A .sizes in
-      sound-small f map (Pointer (A .objects)) m alive-laws (omega arith) (omega arith) (omega arith) (z .main-fits) (z .ptr-fits) (A .sound)

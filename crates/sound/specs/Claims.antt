@@ -130,22 +130,6 @@ module _ (H : HeapLaws) where
       (λ v p. rw (H .clean-audit (l .heap) (I .state .objects) (I .state .heap)) (true-pointer (I .state .objects) v p))
       (I .state .sound))
 
-  -- what a run is let through on is held, whatever call left it
-  pub run-held : (l : Lent) (os : List ℕ) → Bytes (l .file) → verdictOf (l .file) (l .map) ≡ pass (l .map) → All (lengthTests l) →
-      heapOf (l .heap) ≡ clean os → length (l .bytes) ≡ registerBytes → sound? (l .file) (l .map) (machineOf l) ≡ true → Held l
-  unfolding objectsOf
-  run-held l os B P T c r s =
-      record {
-        bytes = B;
-        passes = P;
-        sizes = T;
-        registers = r;
-        state =
-            kept-here (machineOf l) os (H .audit-clean (l .heap) os c)
-            (sound-with (l .file) (l .map) (Audited (machineOf l)) (Pointer os) (machineOf l) (λ v p. pointer-true os v (rw c at p))
-            (sound?-true (l .file) (l .map) (machineOf l) s));
-      }
-
   call-held : (c : Call) (l : Lent) → Held l → NotRefused (callOf c l .answer) × Held (callOf c l .lists)
   unfolding callOf checkOf startOf runOf
   call-held check l I = rw (I .passes) (tt, I)

@@ -126,16 +126,6 @@ module _ (f map : List ℕ) (m : Machine) (os : List ℕ) (i j : ℕ) where
     abbrev passed : Ins → List (ℕ × State)
     passed x = passes f (m .regs .place) x now (outer (assigned map) now)
 
-    -- the new tops lie within the stacks
-    pub moves-fit : (put : Put) → Moves put → (put .mtop ≤ length (m .main)) × (put .ptop ≤ length (m .ptr))
-    moves-fit put M =
-        let F = stack-frame f map (length (m .main)) (length (m .ptr)) (m .ctl) n (R .stack) in
-        let I = M .is in
-        let D = rw (I .proc, I .main, I .ptr) at (depth-most f map L (put .place) (I .here)) in
-        let e1 = M .main-top in
-        let e2 = M .ptr-top in
-        (omega arith, omega arith)
-
     -- the words that the instruction pops are there, above the bases
     pub above : (x : Ins) → At x → (effectOf f x .popMain + i ≤ mtop m) × (effectOf f x .popPtr + j ≤ ptop m)
     above x e =
