@@ -1,10 +1,10 @@
--- `effects::depth_ok`: by the definition's own tests.
+-- `transfer::depth_ok`: by the definition's own tests.
 use mathlib.Core.Path.{_∙_, sym}
 use borrow.Author.Tests.{not-true, not-false}
-use Rattle.effects.specs.Tests.{depthOk}
+use Rattle.transfer.specs.Tests.{depthOk}
 use borrow.Author.Needs.{needs}
-use Rattle.effects.proofs.depth_ok.Statement.{statement}
-use Rattle.effects.proofs.depth_ok.Tie as tie
+use Rattle.transfer.proofs.depth_ok.Statement.{statement}
+use Rattle.transfer.proofs.depth_ok.Tie as tie
 
 stack-ok-requires : tie.Need-stack-ok-requires
 stack-ok-requires c κs = search needs

@@ -11,11 +11,11 @@ use native.Mathlib.Omega.{arith}
 use Rattle.model.specs.Choice.{if_then_else_, yes?, all, if-both}
 use Rattle.model.specs.File.{onMain, onPtr, Basic, local, assign, field, setField, form, literal, nil, root, setRoot, retract, binary, samePtr, unary, Ins, basic, jump, branch, branchKeep, call, return, enter, exit, raise, after, procAt, resultsMain, resultsPtr, mostMain, mostPtr}
 use Rattle.model.specs.Checker.{none, State, state, Effect, effect, basicEffect, effectOf, moved, goesOn, passes, own, targetTests, nextTests, wordTests, moreTests, depthTests, leaveTests}
 use Rattle.effects.specs.declared.Way.{Way}
 use Rattle.effects.specs.declared.Way.the-variants.{Next, Jump, Branch, Keep, Open, Close, Return, Raise}
 use Rattle.effects.specs.declared.Shape.{Shape}
-use Rattle.effects.specs.declared.State.{State as Words}
+use Rattle.transfer.specs.declared.State.{State as Words}
 use Rattle.effects.specs.Shape.{words, shapeOf}
 
 -- the code's state as the model's
 abbrev pub asState : Words → State

@@ -1,4 +1,4 @@
--- `effects::stack_ok`: by the definition's own tests, turned into differences.
+-- `transfer::stack_ok`: by the definition's own tests, turned into differences.
 use mathlib.Core.Bool.{Bool, false}
 use mathlib.Core.Path.{_≡_, _∙_}
 use Prim.Native.Nat.{ℕ, _+_, _-_, _<_, _≤_}
@@ -6,10 +6,10 @@ use native.Mathlib.Decide.{decLe}
 use native.Mathlib.Omega.{arith}
 use lib.Dec.{leb}
 use borrow.Author.Tests.{le-leb, lt-leb}
-use Rattle.effects.specs.Tests.{stackOk}
+use Rattle.transfer.specs.Tests.{stackOk}
 use borrow.Author.Needs.{needs}
-use Rattle.effects.proofs.stack_ok.Statement.{statement}
-use Rattle.effects.proofs.stack_ok.Tie as tie
+use Rattle.transfer.proofs.stack_ok.Statement.{statement}
+use Rattle.transfer.proofs.stack_ok.Tie as tie
 
 above : (rest push x : ℕ) → rest ≤ x → leb push (x - rest) ≡ leb (rest + push) x
 above rest push x h = elim (decLe push (x - rest)) [

@@ -1,10 +1,10 @@
--- `effects::target_state`: what `main_at_target` makes of the depths before and after.
+-- `transfer::target_state`: what `main_at_target` makes of the depths before and after.
 use mathlib.Core.Path.{ap}
 use Rattle.model.specs.Checker.{State}
-use Rattle.effects.specs.Tests.{targetState}
+use Rattle.transfer.specs.Tests.{targetState}
 use borrow.Author.Needs.{needs}
-use Rattle.effects.proofs.target_state.Statement.{statement}
-use Rattle.effects.proofs.target_state.Tie as tie
+use Rattle.transfer.proofs.target_state.Statement.{statement}
+use Rattle.transfer.proofs.target_state.Tie as tie
 
 moved-requires : tie.Need-moved-requires
 moved-requires c κs = search needs

@@ -1,10 +1,10 @@
--- `effects::target_ok`: by the definition's own tests.
+-- `transfer::target_ok`: by the definition's own tests.
 use mathlib.Core.Path.{_∙_, sym}
 use borrow.Author.Tests.{not-true, not-false}
-use Rattle.effects.specs.Tests.{targetOk}
+use Rattle.transfer.specs.Tests.{targetOk}
 use borrow.Author.Needs.{needs}
-use Rattle.effects.proofs.target_ok.Statement.{statement}
-use Rattle.effects.proofs.target_ok.Tie as tie
+use Rattle.transfer.proofs.target_ok.Statement.{statement}
+use Rattle.transfer.proofs.target_ok.Tie as tie
 
 jumps-to-requires : tie.Need-jumps-to-requires
 jumps-to-requires c κs = search needs

@@ -1,10 +1,10 @@
--- `effects::next_state`: the depths of `moved`, the handler of `inner_after`.
+-- `transfer::next_state`: the depths of `moved`, the handler of `inner_after`.
 use mathlib.Core.Path.{ap}
 use Rattle.model.specs.Checker.{State}
-use Rattle.effects.specs.Tests.{nextState}
+use Rattle.transfer.specs.Tests.{nextState}
 use borrow.Author.Needs.{needs}
-use Rattle.effects.proofs.next_state.Statement.{statement}
-use Rattle.effects.proofs.next_state.Tie as tie
+use Rattle.transfer.proofs.next_state.Statement.{statement}
+use Rattle.transfer.proofs.next_state.Tie as tie
 
 inner-after-requires : tie.Need-inner-after-requires
 inner-after-requires c κs = search needs

@@ -1,11 +1,11 @@
--- `effects::leave_ok`: by the definition's own tests.
+-- `transfer::leave_ok`: by the definition's own tests.
 use mathlib.Core.Path.{_∙_, sym}
 use borrow.Author.Tests.{not-true, not-false}
 use Rattle.model.specs.Laws.{cases}
-use Rattle.effects.specs.Tests.{leaveOk}
+use Rattle.transfer.specs.Tests.{leaveOk}
 use borrow.Author.Needs.{needs}
-use Rattle.effects.proofs.leave_ok.Statement.{statement}
-use Rattle.effects.proofs.leave_ok.Tie as tie
+use Rattle.transfer.proofs.leave_ok.Statement.{statement}
+use Rattle.transfer.proofs.leave_ok.Tie as tie
 
 closes-requires : tie.Need-closes-requires
 closes-requires c κs = search needs
