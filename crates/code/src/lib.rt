@@ -267,7 +267,8 @@ const BODY: [u8; 256] = [
     255, // 255
 ];
 
-fn wide(b: u8) -> usize
+// A byte as a number.
+pub fn wide(b: u8) -> usize
     ensures { λ r. ⌜ Small 256 b r ⌝ }
 {
     b as usize

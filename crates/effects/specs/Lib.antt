@@ -1,4 +1,3 @@
 pub mod Shape
 pub mod Site
 pub mod Kinds
-pub mod Tests

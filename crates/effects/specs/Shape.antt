@@ -1,5 +1,5 @@
 -- What the checker looks at in an instruction, as one record: the shape of an instruction. Every rule of the flow is a test on it
--- (`Tests`).
+-- (`transfer`).
 use Prim.Native.Nat.{ℕ, suc}
 use mathlib.Core.Bool.{Bool, true}
 use mathlib.Core.List.{List}

@@ -11,14 +11,14 @@ use borrow.Author.Tests.{lt-ltb, le-ltb, eq-eqb, ne-eqb, ltb-true}
 use Rattle.model.specs.Choice.{if_then_else_, all, if-both}
 use Rattle.model.specs.File.{byteAt, Ins, insAt, after, procAt, headOf, resultsMain, resultsPtr, mostMain, mostPtr}
 use Rattle.model.specs.Checker.{none, State, state, sameState, outer, passes, own, targetTests, nextTests, depthTests, leaveTests, Step, bad, next, need, meet, andThen}
-use Rattle.effects.specs.declared.State.{State as Numbers}
+use Rattle.transfer.specs.declared.State.{State as Numbers}
 use Rattle.effects.specs.declared.Shape.{Shape}
 use Rattle.effects.specs.Shape.{shapeOf}
 use Rattle.effects.specs.Site.{Table, Site}
 use Rattle.exact.specs.Walk.{after-above}
 use Rattle.effects.specs.declared.Way.{Way}
 use Rattle.effects.specs.declared.Way.the-variants.{Next, Jump, Branch, Keep, Open, Close, Return, Raise}
-use Rattle.effects.specs.Tests.{asState, goesBy, jumpsBy, opensBy, innerBy, targetMain, depth-fits, targetOk, depthOk, leaveOk, nextState, targetState, Fits, target-tests, next-tests, depth-tests, leave-tests, passes-are}
+use Rattle.transfer.specs.Tests.{asState, goesBy, jumpsBy, opensBy, innerBy, targetMain, depth-fits, targetOk, depthOk, leaveOk, nextState, targetState, Fits, target-tests, next-tests, depth-tests, leave-tests, passes-are}
 use Rattle.scan.specs.Marks.{unreached, stateIn, putIn, getD-any}
 use Rattle.code.specs.Heads.{HeadIs, headBytes}
 use Rattle.code.specs.declared.Head.{Head}

@@ -8,15 +8,15 @@ ghost use Rattle.model.specs.Choice.{if_then_else_};
 ghost use Rattle.model.specs.File as model;
 ghost use Rattle.model.specs.Checker.{state, outer, passes};
 ghost use Rattle.code.specs.Table.{lengths};
-ghost use Rattle.effects.specs.Tests.{asState};
+ghost use Rattle.transfer.specs.Tests.{asState};
 ghost use Rattle.scan.specs.Marks.{stateIn};
 ghost use Rattle.flow.specs.Own.{ownIn};
 ghost use Rattle.flow.specs.Takes.{passOneIn, passAllIn, takeIn};
 ghost use Rattle.flow.specs.Faults.{passAns, takeAns, StateIs, OuterIs, Held, Target, Room, shapePasses, earlyOf, lateOf, Here, endIn};
 ghost use Rattle.flow.specs.Flowing.{Begun, Flowed};
 use effects::Shape;
-use effects::State;
 use model::Answer;
+use transfer::State;
 
 // An instruction starts here that no state has reached yet.
 const UNREACHED: usize = 65534;
@@ -109,10 +109,10 @@ fn pass_on(m: &mut [u16], sh: Shape, p: usize, next: usize, s: State, o: State) 
 {
     let way = sh.way;
     let target = sh.target;
-    let to_next = effects::next_state(sh, p, s, o);
-    let to_target = effects::target_state(sh, s);
-    let jumps = effects::jumps_to(way);
-    if effects::goes(way) {
+    let to_next = transfer::next_state(sh, p, s, o);
+    let to_target = transfer::target_state(sh, s);
+    let jumps = transfer::jumps_to(way);
+    if transfer::goes(way) {
         if pass_one(m, next, to_next) {
             return pass_target(m, jumps, target, to_target);
         }
@@ -129,11 +129,11 @@ fn early(m: &[u16], sh: Shape, head: usize, end: usize, p: usize, next: usize, s
     let way = sh.way;
     let target = sh.target;
     let there = own(m, head, end, target);
-    if effects::target_ok(way, sh.known, there, target, p) {
+    if transfer::target_ok(way, sh.known, there, target, p) {
         if UNREACHED <= s.main {
             return 6;
         }
-        if effects::goes(way) {
+        if transfer::goes(way) {
             if own(m, head, end, next) {
                 return 0;
             }
@@ -151,8 +151,8 @@ fn late(file: &[u8], head: usize, sh: Shape, s: State, o: State) -> u32
 {
     let way = sh.way;
     let h = code::head_at(file, head);
-    if effects::depth_ok(sh, s, o, h.x, h.y) {
-        if effects::leave_ok(way, s, h.r, h.s) {
+    if transfer::depth_ok(sh, s, o, h.x, h.y) {
+        if transfer::leave_ok(way, s, h.r, h.s) {
             return 0;
         }
         return 8;

@@ -17,11 +17,11 @@ use Rattle.model.specs.Control.{Machine, recordWords, down, records}
 use Rattle.model.specs.Sound.{mainAt, ptrAt, innerAt, zeros, pointers, stackTests, runningTests, finishedTests, sound?}
 use Rattle.model.specs.declared.Regs.{Regs}
 use Rattle.heap.specs.Zeros.{Zeros, none, more}
-use Rattle.frames.specs.declared.Reading.{Reading}
+use Rattle.records.specs.declared.Reading.{Reading}
 use Rattle.code.specs.declared.Head.{Head}
-use Rattle.frames.specs.Places.{HeadFor}
-use Rattle.frames.specs.Tests.{Fails, test, fails, last, all-both, alone}
-use Rattle.frames.specs.Records.{reading, stackOf}
+use Rattle.places.specs.Places.{HeadFor}
+use Rattle.records.specs.Tests.{Fails, test, fails, last, all-both, alone}
+use Rattle.records.specs.Records.{reading, stackOf}
 
 module _ (map : List ℕ) (r : Regs) (n : ℕ) where
   -- running: state and tops; n is the length of the control stack

@@ -1,5 +1,2 @@
-pub mod Registers
-pub mod Tests
-pub mod Places
-pub mod Records
+pub mod Descent
 pub mod Audit

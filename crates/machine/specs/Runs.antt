@@ -20,7 +20,7 @@ use Rattle.exact.specs.Exact.{Formed, passed-as}
 use Rattle.exact.specs.Walk.{heads-rise, getD-in, procs-some}
 use Rattle.scan.specs.Heading.{Placed}
 use Rattle.heap.specs.Table.{Marks}
-use Rattle.frames.specs.Places.{Ready, passed-ready}
+use Rattle.places.specs.Places.{Ready, passed-ready}
 use Rattle.safe.specs.Alive.{Alive, alive-run}
 use Rattle.run.specs.Going.{Runs}
 use Rattle.machine.specs.Admit.{Admitted, Shown, tested-refused, tested-on, first-whole}

@@ -135,7 +135,7 @@ pub fn start(
         ctop: RECORD,
         state: 0,
     };
-    frames::put_regs(bytes, first);
+    registers::put_regs(bytes, first);
     Answer::Ready
 }
 
@@ -183,11 +183,11 @@ pub fn run(
         return a;
     };
     let k = count(&table);
-    let regs = frames::regs_from(bytes);
+    let regs = registers::regs_from(bytes);
     if frames::sound_state(file, map, &table, k, main, ptr, ctl, &marks, regs) {
         let out = run::run_on(file, &table, main, ptr, ctl, heap, regs, budget);
         let left = out.regs;
-        frames::put_regs(bytes, left);
+        registers::put_regs(bytes, left);
         return out.answer;
     }
     Answer::Refused(12, 0)

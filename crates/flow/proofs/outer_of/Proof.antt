@@ -1,6 +1,6 @@
 -- `flow::outer_of` meets its contract: with no handler open the floor is 0, else the map has the handler's state.
 use native.Mathlib.Omega.{arith}
-use Rattle.effects.specs.Tests.{asState}
+use Rattle.transfer.specs.Tests.{asState}
 use Rattle.flow.specs.Faults.{outer-none, outer-some}
 use mathlib.Core.Logic.{⊎-elim}
 use Rattle.flow.specs.Faults.{outer-none, outer-some}

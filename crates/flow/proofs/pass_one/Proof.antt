@@ -1,5 +1,5 @@
 -- `flow::pass_one` meets its contract: a new state is written, a known one is compared number by number.
-use Rattle.effects.specs.Tests.{asState}
+use Rattle.transfer.specs.Tests.{asState}
 use Rattle.flow.specs.Faults.{pass-new, pass-main, pass-ptr, pass-inner}
 use borrow.Author.Needs.{needs}
 use Rattle.flow.proofs.pass_one.Statement.{statement}

@@ -1,5 +1,5 @@
 -- `flow::pass_target` meets its contract: one state, or none.
-use Rattle.effects.specs.Tests.{asState}
+use Rattle.transfer.specs.Tests.{asState}
 use Rattle.flow.specs.Faults.{pass-last, pass-none}
 use borrow.Author.Needs.{needs}
 use Rattle.flow.proofs.pass_target.Statement.{statement}

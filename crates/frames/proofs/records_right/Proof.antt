@@ -4,7 +4,8 @@ use Prim.Native.Nat.{_≤_}
 use native.Mathlib.Omega.{arith}
 use borrow.Author.Needs.{needs}
 use Rattle.model.specs.Control.{down}
-use Rattle.frames.specs.Records.{Near, stackOf, read-none, read-end, read-on}
+use Rattle.records.specs.Records.{Near, stackOf}
+use Rattle.frames.specs.Descent.{read-none, read-end, read-on}
 use Rattle.frames.proofs.records_right.Statement.{statement}
 use Rattle.frames.proofs.records_right.Tie as tie
 

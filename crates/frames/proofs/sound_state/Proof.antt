@@ -4,7 +4,7 @@ use native.Mathlib.Omega.{arith}
 use borrow.Author.Tests.{not-true, not-false}
 use borrow.Author.Needs.{needs}
 use Rattle.frames.specs.Audit.{tops-room, sound-done, sound-undone, sound-tops, sound-records, sound-rest}
-use Rattle.frames.specs.Places.{some-proc}
+use Rattle.places.specs.Places.{some-proc}
 use Rattle.frames.proofs.sound_state.Statement.{statement}
 use Rattle.frames.proofs.sound_state.Tie as tie
 

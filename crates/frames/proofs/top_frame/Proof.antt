@@ -4,7 +4,7 @@ use Prim.Native.Nat.{_-_}
 use native.Mathlib.Omega.{arith}
 use borrow.Author.Needs.{needs}
 use Rattle.frames.specs.Audit.{topmost}
-use Rattle.frames.specs.Records.{reading}
+use Rattle.records.specs.Records.{reading}
 use Rattle.frames.proofs.top_frame.Statement.{statement}
 use Rattle.frames.proofs.top_frame.Tie as tie
 

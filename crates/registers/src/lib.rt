@@ -1,0 +1,60 @@
+// Registers as bytes: seven words, most significant byte first.
+// Document 01, Memory, third paragraph.
+ghost use mathlib.Core.Path.{_≡_};
+ghost use Prim.Native.Nat.{_+_, _*_, _/_, _<_};
+ghost use lib.ListN.{length};
+ghost use Rattle.model.specs.Control.{wordFrom, regsFrom, regBytes};
+ghost use Rattle.code.specs.Parts.{Small};
+ghost use Rattle.registers.specs.Registers.{Words, Stored};
+use model::Regs;
+
+// Register `i`.
+fn word_from(bytes: &[u8], i: usize) -> usize
+    requires { ⌜ (length (now bytes) ≡ 28) × (i < 7) ⌝ }
+    ensures { λ r. ⌜ Small 4294967296 (wordFrom (now (bytes .entry)) i) r ⌝ }
+{
+    let at = 4 * i;
+    let high = code::wide(bytes[at]) * 256 + code::wide(bytes[at + 1]);
+    let low = code::wide(bytes[at + 2]) * 256 + code::wide(bytes[at + 3]);
+    high * 65536 + low
+}
+
+pub fn regs_from(bytes: &[u8]) -> Regs
+    requires { ⌜ length (now bytes) ≡ 28 ⌝ }
+    ensures { λ r. ⌜ (r ≡ regsFrom (now (bytes .entry))) × Words r ⌝ }
+{
+    Regs {
+        place: word_from(bytes, 0),
+        frame: word_from(bytes, 1),
+        handler: word_from(bytes, 2),
+        mtop: word_from(bytes, 3),
+        ptop: word_from(bytes, 4),
+        ctop: word_from(bytes, 5),
+        state: word_from(bytes, 6),
+    }
+}
+
+// Puts register `i`, most significant byte first.
+fn put_word(bytes: &mut [u8], i: usize, w: usize)
+    requires { ⌜ (length (now bytes) ≡ 28) × (i < 7) ⌝ }
+    ensures { λ _. ⌜ Stored (now (bytes .entry)) i w (now (bytes .exit)) ⌝ }
+{
+    let at = 4 * i;
+    bytes[at] = (w / 16777216 % 256) as u8;
+    bytes[at + 1] = (w / 65536 % 256) as u8;
+    bytes[at + 2] = (w / 256 % 256) as u8;
+    bytes[at + 3] = (w % 256) as u8;
+}
+
+pub fn put_regs(bytes: &mut [u8], regs: Regs)
+    requires { ⌜ length (now bytes) ≡ 28 ⌝ }
+    ensures { λ _. ⌜ now (bytes .exit) ≡ regBytes regs ⌝ }
+{
+    put_word(bytes, 0, regs.place);
+    put_word(bytes, 1, regs.frame);
+    put_word(bytes, 2, regs.handler);
+    put_word(bytes, 3, regs.mtop);
+    put_word(bytes, 4, regs.ptop);
+    put_word(bytes, 5, regs.ctop);
+    put_word(bytes, 6, regs.state);
+}
