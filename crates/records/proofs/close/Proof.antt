@@ -1,9 +1,9 @@
--- `writes::close` meets its contract: the topmost record is zeroed, and the outer handler was read from it.
+-- `records::close` meets its contract: the topmost record is zeroed, and the outer handler was read from it.
 use native.Mathlib.Omega.{arith}
-use Rattle.writes.specs.Laws.{close-writes}
+use Rattle.records.specs.Laws.{close-writes}
 use borrow.Author.Needs.{needs}
-use Rattle.writes.proofs.close.Statement.{statement}
-use Rattle.writes.proofs.close.Tie as tie
+use Rattle.records.proofs.close.Statement.{statement}
+use Rattle.records.proofs.close.Tie as tie
 
 sub-load : tie.Need-sub-load
 sub-load c = search needs

@@ -1,9 +1,9 @@
--- `writes::leave` meets its contract: the topmost record is zeroed, and the caller was read from it.
+-- `records::leave` meets its contract: the topmost record is zeroed, and the caller was read from it.
 use native.Mathlib.Omega.{arith}
-use Rattle.writes.specs.Laws.{leave-writes}
+use Rattle.records.specs.Laws.{leave-writes}
 use borrow.Author.Needs.{needs}
-use Rattle.writes.proofs.leave.Statement.{statement}
-use Rattle.writes.proofs.leave.Tie as tie
+use Rattle.records.proofs.leave.Statement.{statement}
+use Rattle.records.proofs.leave.Tie as tie
 
 sub-load : tie.Need-sub-load
 sub-load c = search needs

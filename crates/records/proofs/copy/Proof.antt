@@ -1,4 +1,4 @@
--- `writes::copy` meets its contract: before each turn the words from start to i are copied.
+-- `records::copy` meets its contract: before each turn the words from start to i are copied.
 use mathlib.Core.Path.{_≡_, refl, ap, _∙_}
 use mathlib.Core.List.{List}
 use Prim.Native.Nat.{ℕ, _+_, _-_, _≤_}
@@ -6,9 +6,9 @@ use native.Mathlib.Omega.{arith}
 use lib.ListN.{length, getD, set, length-set}
 use lib.Seq.{sets, slice, slice-empty}
 use borrow.Author.Needs.{needs}
-use Rattle.writes.specs.Lists.{copy-more}
-use Rattle.writes.proofs.copy.Statement.{statement}
-use Rattle.writes.proofs.copy.Tie as tie
+use Rattle.records.specs.Lists.{copy-more}
+use Rattle.records.proofs.copy.Statement.{statement}
+use Rattle.records.proofs.copy.Tie as tie
 
 abbrev Inv-loop : tie.InvT-loop
 Inv-loop heap₀ to from start end i₀ j₀ heap i j =

@@ -1,11 +1,11 @@
--- `writes::put_record` meets its contract: five stores, one behind another.
+-- `records::put_record` meets its contract: five stores, one behind another.
 use mathlib.Core.Path.{_≡_}
 use Prim.Native.Nat.{suc, _+_}
 use native.Mathlib.Omega.{arith}
 use lib.ListN.{length-set}
 use borrow.Author.Needs.{needs}
-use Rattle.writes.proofs.put_record.Statement.{statement}
-use Rattle.writes.proofs.put_record.Tie as tie
+use Rattle.records.proofs.put_record.Statement.{statement}
+use Rattle.records.proofs.put_record.Tie as tie
 
 mul-ctl : tie.Need-mul-ctl
 mul-ctl c = search needs

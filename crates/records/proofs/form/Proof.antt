@@ -1,11 +1,11 @@
--- `writes::form` meets its contract: header, pointers and plain words are stored one behind another, then the mark.
+-- `records::form` meets its contract: header, pointers and plain words are stored one behind another, then the mark.
 use native.Mathlib.Omega.{arith}
 use lib.ListN.{length-set}
 use lib.Seq.{length-sets}
-use Rattle.writes.specs.Laws.{form-writes}
+use Rattle.records.specs.Laws.{form-writes}
 use borrow.Author.Needs.{needs}
-use Rattle.writes.proofs.form.Statement.{statement}
-use Rattle.writes.proofs.form.Tie as tie
+use Rattle.records.proofs.form.Statement.{statement}
+use Rattle.records.proofs.form.Tie as tie
 
 sub-pointers : tie.Need-sub-pointers
 sub-pointers c = search needs

@@ -1,8 +1,8 @@
--- `writes::open` meets its contract: the record is written on top.
-use Rattle.writes.specs.Laws.{open-writes}
+-- `records::open` meets its contract: the record is written on top.
+use Rattle.records.specs.Laws.{open-writes}
 use borrow.Author.Needs.{needs}
-use Rattle.writes.proofs.open.Statement.{statement}
-use Rattle.writes.proofs.open.Tie as tie
+use Rattle.records.proofs.open.Statement.{statement}
+use Rattle.records.proofs.open.Tie as tie
 
 cast-put-record : tie.Need-cast-put-record
 cast-put-record c = search needs

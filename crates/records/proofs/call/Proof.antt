@@ -1,8 +1,8 @@
--- `writes::call` meets its contract: the record is written on top, and its words are the model's.
-use Rattle.writes.specs.Laws.{call-writes}
+-- `records::call` meets its contract: the record is written on top, and its words are the model's.
+use Rattle.records.specs.Laws.{call-writes}
 use borrow.Author.Needs.{needs}
-use Rattle.writes.proofs.call.Statement.{statement}
-use Rattle.writes.proofs.call.Tie as tie
+use Rattle.records.proofs.call.Statement.{statement}
+use Rattle.records.proofs.call.Tie as tie
 
 operand-requires : tie.Need-operand-requires
 operand-requires c κs = search needs
