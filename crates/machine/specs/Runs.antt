@@ -22,7 +22,7 @@ use Rattle.scan.specs.Heading.{Placed}
 use Rattle.heap.specs.Table.{Marks}
 use Rattle.frames.specs.Places.{Ready, passed-ready}
 use Rattle.safe.specs.Alive.{Alive, alive-run}
-use Rattle.run.specs.Going.{Runs}
+use Rattle.steps.specs.Going.{Runs}
 use Rattle.machine.specs.Admit.{Admitted, Shown, tested-refused, tested-on, first-whole}
 use Rattle.model.specs.declared.Regs.{Regs}
 use Rattle.model.specs.declared.Answer.{Answer}

@@ -1,4 +1,4 @@
--- `run::go_on` meets its contract: each turn is one step of the model, done without a loop; soundness, kept by each step, gives what the plan and its writes ask.
+-- `steps::go_on` meets its contract: each turn is one step of the model, done without a loop; soundness, kept by each step, gives what the plan and its writes ask.
 use mathlib.Core.Path.{_≡_, sym, _∙_}
 use native.Mathlib.Omega.{arith}
 use borrow.Author.Needs.{needs}
@@ -6,9 +6,9 @@ use Rattle.model.specs.Control.{machine}
 use Rattle.exec.proofs.Tags.{no-write}
 use Rattle.safe.specs.Planning.{alive-ready}
 use Rattle.safe.specs.Settling.{alive-settles}
-use Rattle.run.specs.Going.{Going, going-start, going-trans, going-applied, paused-late, stopped-raise}
-use Rattle.run.proofs.go_on.Statement.{statement}
-use Rattle.run.proofs.go_on.Tie as tie
+use Rattle.steps.specs.Going.{Going, going-start, going-trans, going-applied, paused-late, stopped-raise}
+use Rattle.steps.proofs.go_on.Statement.{statement}
+use Rattle.steps.proofs.go_on.Tie as tie
 
 abbrev Inv-loop : tie.InvT-loop
 Inv-loop file table main₀ ptr₀ ctl₀ heap₀ budget r₀ left₀ main ptr ctl heap r left =

@@ -1,28 +1,22 @@
--- A run from its state on: what is left of the budget decides what the whole run comes to, and soundness is kept. Steps add up.
+-- Steps of a run: what is left of the budget decides what the rest of the run comes to, and soundness is kept. Steps add up.
 use Prim.Native.Nat.{ℕ, zero, suc, _+_, _-_, _<_, _≤_}
 use mathlib.Core.Bool.{Bool, true, false}
 use mathlib.Core.List.{List}
 use mathlib.Core.Path.{_≡_, refl, ap, sym, _∙_, subst}
 use native.Mathlib.Omega.{arith}
 use lib.ListN.{length}
-use borrow.Author.Tests.{eq-eqb, ne-eqb}
-use Rattle.model.specs.Choice.{if_then_else_}
+use borrow.Author.Tests.{ne-eqb}
 use Rattle.model.specs.Control.{Machine, machine}
 use Rattle.model.specs.Instructions.{planAt}
-use Rattle.model.specs.Step.{Stepped, next, uncaught, settle, step, Ran, ran, runOn}
+use Rattle.model.specs.Step.{next, settle, step, runOn}
 use Rattle.safe.specs.Alive.{Alive, alive-step}
-use Rattle.exec.specs.Ended.{ended, endedOf, went-on, went-off}
 use Rattle.exec.specs.Applies.{Late, Later, appliedIf}
 use Rattle.exec.specs.declared.Tried.{Tried}
-use Rattle.exec.specs.declared.Outcome.{Outcome}
 use Rattle.model.specs.declared.Regs.{Regs}
-use Rattle.run.specs.declared.Ended.{Ended}
-use Rattle.run.specs.declared.Pause.{Pause}
+use Rattle.steps.specs.declared.Pause.{Pause}
 use Rattle.model.specs.declared.Put.{Put}
 use Rattle.model.specs.declared.Plan.{Plan}
 use Rattle.model.specs.declared.Plan.the-variants.{Write}
-use Rattle.model.specs.declared.Answer.{Answer}
-use Rattle.model.specs.declared.Answer.the-variants.{Passed, Ready, Finished, Spent, Uncaught, Refused}
 
 -- a sound state of a passed file, with some map
 pub record Runs (f table : List ℕ) (m : Machine) : Type 0 where
@@ -35,9 +29,6 @@ pub record Alike (m m₀ : Machine) : Type 0 where
   pub ptr : length (m .ptr) ≡ length (m₀ .ptr)
   pub ctl : length (m .ctl) ≡ length (m₀ .ctl)
   pub heap : length (m .heap) ≡ length (m₀ .heap)
-
-abbrev pub endedWith : Answer → Regs → Ended
-endedWith a r = record { answer = a; regs = r }
 
 abbrev pub pausedAt : Plan → Regs → ℕ → Pause
 pausedAt p r n = record { plan = p; regs = r; left = n }
@@ -71,7 +62,7 @@ stopped-late f m put e L = record { is = e; late = λ put′ u. subst (λ (p : P
     write-one p q u = cc
 
 -- the registers kept and the lists of m: m
-same-lists : (r : Regs) (main ptr ctl heap : List ℕ) (m : Machine) → machine r main ptr ctl heap ≡ m → machine (m .regs) main ptr ctl heap ≡ m
+pub same-lists : (r : Regs) (main ptr ctl heap : List ℕ) (m : Machine) → machine r main ptr ctl heap ≡ m → machine (m .regs) main ptr ctl heap ≡ m
 same-lists r main ptr ctl heap m z = ap (λ (x : Machine). machine (m .regs) (x .main) (x .ptr) (x .ctl) (x .heap)) z
 
 module _ (f table : List ℕ) where
@@ -113,32 +104,12 @@ module _ (f table : List ℕ) where
             };
       }
 
-  pub finished-at : (n k : ℕ) (m : Machine) → m .regs .state ≡ 1 → runOn f n k m ≡ ran (Finished k) m
-  unfolding runOn
-  finished-at zero k m e = rw (eq-eqb (m .regs .state) 1 e)
-  finished-at (suc n) k m e = rw (eq-eqb (m .regs .state) 1 e)
-
-  -- from the start of a run: what it comes to at m, with n steps of the budget left
-  module _ (budget : ℕ) (m₀ : Machine) (n : ℕ) (m : Machine) (G : Going f table budget m₀ n m) where
-    done : runOn f budget 0 m₀ ≡ runOn f n (budget - n) m
-    done = let e : 0 + (budget - n) ≡ budget - n = omega arith in G .same 0 ∙ ap (λ (i : ℕ). runOn f n i m) e
-
-    pub going-finished : m .regs .state ≡ 1 → ran (Finished (budget - n)) m ≡ runOn f budget 0 m₀
-    going-finished e = sym (done ∙ finished-at n (budget - n) m e)
-
-    pub going-spent : n ≤ 0 → (m .regs .state ≡ 1 → ⊥) → ran (Spent budget) m ≡ runOn f budget 0 m₀
-    unfolding runOn
-    going-spent l u =
-        let z : n ≡ 0 = omega arith in
-        let b : budget - 0 ≡ budget = omega arith in
-        sym (done ∙ rw (z, b, ne-eqb (m .regs .state) 1 u))
-
   -- one step further: one step less is left
   module _ (n : ℕ) (m : Machine) (R : Runs f table m) (some : 0 < n) (on? : m .regs .state ≡ 1 → ⊥) where
     left : n ≡ suc (n - 1)
     left = omega arith
 
-    stepped : (m′ : Machine) → step f m ≡ next m′ → Alike m′ m → Going f table n m (n - 1) m′
+    pub stepped : (m′ : Machine) → step f m ≡ next m′ → Alike m′ m → Going f table n m (n - 1) m′
     unfolding runOn
     stepped m′ w a =
         record {
@@ -157,27 +128,3 @@ module _ (f table : List ℕ) where
     unfolding step settle
     going-applied put t main ptr ctl heap e d a l =
         stepped (machine (t .regs) main ptr ctl heap) (rw (← e) (ap next (sym (a ∙ ap (λ (u : Bool). appliedIf u f put m) d)))) l
-
-    -- a plan is settled apart
-    module _ (plan : Plan) (plan-is : plan ≡ planAt f m) (o : Outcome) (main ptr ctl heap : List ℕ)
-        (e : ended o main ptr ctl heap ≡ endedOf m (settle f m plan)) where
-      step-is : (s : Stepped) → settle f m plan ≡ s → step f m ≡ s
-      unfolding step
-      step-is s w = rw (← plan-is) w
-
-      pub going-uncaught : (budget : ℕ) (m₀ : Machine) → Going f table budget m₀ n m → o .on ≡ false →
-          ran (Uncaught (o .code) (m .regs .place) (budget - n)) (machine (m .regs) main ptr ctl heap) ≡ runOn f budget 0 m₀
-      unfolding runOn
-      going-uncaught budget m₀ G t =
-          let w = went-off m o main ptr ctl heap (settle f m plan) e t in
-          let i = same-lists (o .regs) main ptr ctl heap m (w .1) in
-          rw i
-          (sym (done budget m₀ n m G ∙ ap (λ (i : ℕ). runOn f i (budget - n) m) left
-          ∙ rw (ne-eqb (m .regs .state) 1 on?, step-is (uncaught (o .code)) (w .0))))
-
-      pub going-on : (budget : ℕ) (m₀ : Machine) → Going f table budget m₀ n m → o .on ≡ true → Alike (machine (o .regs) main ptr ctl heap) m →
-          Going f table budget m₀ (n - 1) (machine (o .regs) main ptr ctl heap)
-      going-on budget m₀ G t a =
-          going-trans budget m₀ n m (n - 1) (machine (o .regs) main ptr ctl heap) G
-          (stepped (machine (o .regs) main ptr ctl heap)
-          (step-is (next (machine (o .regs) main ptr ctl heap)) (went-on m o main ptr ctl heap (settle f m plan) e t)) a)
