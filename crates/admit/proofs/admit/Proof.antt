@@ -1,14 +1,14 @@
--- `machine::admit` meets its contract: each refusal is the model's, and where there is none the tests' facts hold.
+-- `admit::admit` meets its contract: each refusal is the model's, and where there is none the tests' facts hold.
 use mathlib.Core.Logic.{⊎-elim}
 use mathlib.Core.Path.{sym, _∙_}
 use native.Mathlib.Omega.{arith}
 use lib.ListN.{length}
 use Rattle.model.specs.Choice.{all-true}
 use Rattle.model.specs.Calls.{lent}
-use Rattle.machine.specs.Admit.{lengthList, admit-refused, admit-passes, admit-lengths, admit-heap, admit-bytes, admit-all, first-whole}
+use Rattle.admit.specs.Admit.{lengthList, admit-refused, admit-passes, admit-lengths, admit-heap, admit-bytes, admit-all, first-whole}
 use borrow.Author.Needs.{needs}
-use Rattle.machine.proofs.admit.Statement.{statement}
-use Rattle.machine.proofs.admit.Tie as tie
+use Rattle.admit.proofs.admit.Statement.{statement}
+use Rattle.admit.proofs.admit.Tie as tie
 
 check-with-requires : tie.Need-check-with-requires
 check-with-requires c κs = c .before .before .before .before .before .before .before .before .before .pre .empty

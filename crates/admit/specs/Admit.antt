@@ -1,26 +1,23 @@
 -- Tests 1 to 11 and the register list's length, which start and run share: what the code finds of them decides what the model's
 -- `tested` comes to, whatever follows.
-use Prim.Native.Nat.{ℕ, zero, suc, _+_, _-_, _*_, _<_, _≤_}
-use mathlib.Core.Bool.{Bool, true, false, true≢false}
+use Prim.Native.Nat.{ℕ, _<_}
+use mathlib.Core.Bool.{Bool, true, false}
 use mathlib.Core.List.{List, [], _∷_}
-use mathlib.Core.Path.{_≡_, refl, ap, sym, _∙_, subst}
+use mathlib.Core.Path.{_≡_, refl, ap, sym, _∙_}
 use native.Mathlib.Omega.{arith}
-use lib.Dec.{leb, eqb}
-use lib.ListN.{length, getD, set, replicate}
-use lib.Seq.{sets, set-getD}
-use borrow.Author.Tests.{le-leb, lt-leb, eq-eqb, ne-eqb}
-use Rattle.model.specs.Choice.{if_then_else_, Test, same, most, yes?, all, All, all-true}
-use Rattle.model.specs.Words.{cut}
-use Rattle.model.specs.File.{byteAt, heads, isHead, headOf, entry, procs, mostMain, mostPtr, recordsOf, starts}
-use Rattle.model.specs.Heap.{Audit, fault, clean, heapOf, objectsOf}
-use Rattle.model.specs.Control.{rec, putRec, recordWords, registerBytes, regs, regBytes, Machine}
-use Rattle.model.specs.Calls.{Verdict, pass, refuse, verdictOf, Checked, checked, answered, checkOf, Lent, lent, withMap, After, answers, lengthTests, registered, audited, measured, afterCheck, tested, started, startOf, leaving}
+use lib.ListN.{length, replicate}
+use borrow.Author.Tests.{eq-eqb, ne-eqb}
+use Rattle.model.specs.Choice.{if_then_else_, Test, most, all, All, all-true}
+use Rattle.model.specs.File.{byteAt, heads, isHead, headOf, procs}
+use Rattle.model.specs.Heap.{clean, heapOf, objectsOf}
+use Rattle.model.specs.Control.{registerBytes}
+use Rattle.model.specs.Calls.{Verdict, pass, refuse, verdictOf, Checked, checked, answered, checkOf, Lent, withMap, After, answers, lengthTests, measured, afterCheck, tested}
 use Rattle.exact.specs.Exact.{passed-as}
 use Rattle.exact.specs.Walk.{first-head, after-head}
 use Rattle.scan.specs.Rest.{rest-inv, whole-inside, records-first}
 use Rattle.scan.specs.Heading.{Placed}
 use Rattle.checker.specs.Parts.{Checks}
-use Rattle.code.specs.Heads.{HeadIs, headBytes, procHead, head-of}
+use Rattle.code.specs.Heads.{HeadIs, procHead, head-of}
 use Rattle.code.specs.declared.Head.{Head}
 use Rattle.heap.specs.Table.{Marks, Audited}
 use Rattle.heap.specs.Answers.{audited-clean, audited-fault}
@@ -145,24 +142,6 @@ module _ (l : Lent) (map table : List ℕ) (marks : List Bool) (a : Answer) (C :
                 };
               }
 
--- zeroed stacks, and the first frame's record, which is five zeros
-pub cut-all : (l : List ℕ) → cut 0 l ≡ replicate (length l) 0
-unfolding cut
-cut-all [] = refl
-cut-all (w ∷ l) = ap (λ (r : List ℕ). 0 ∷ r) (cut-all l)
-
-zero-at : (n i : ℕ) → _≡_ {A = ℕ} (getD (replicate n 0) i 0) 0
-zero-at zero i = refl
-zero-at (suc n) zero = refl
-zero-at (suc n) (suc i) = zero-at n i
-
-set-zero : (n i : ℕ) → _≡_ {A = List ℕ} (set (replicate n 0) i 0) (replicate n 0)
-set-zero n i = ap (λ (w : ℕ). set (replicate n 0) i w) (sym (zero-at n i)) ∙ set-getD (replicate n 0) i 0
-
-pub first-record : (n : ℕ) → putRec (replicate n 0) 0 (rec 0 0 0 0 0) ≡ replicate n 0
-unfolding putRec
-first-record n = rw (set-zero n 0, set-zero n 1, set-zero n 2, set-zero n 3, set-zero n 4)
-
 -- the first head of a passed file stands at place 0, and is whole
 pub first-whole : (f map new : List ℕ) → verdictOf f map ≡ pass new → (headOf f 0 ≡ 0) × (6 < length f)
 unfolding headOf heads isHead
@@ -194,16 +173,3 @@ module _ (l : Lent) (map table : List ℕ) (marks : List Bool) (r : Answer) (A :
 
   pub tested-on : (rest : Lent → After) → r ≡ Passed → rest (withMap l map) ≡ tested l rest
   tested-on rest e = sym (A .is rest ∙ ap (λ (a : Answer). admitted a rest (withMap l map)) e)
-
-  pub start-refused : (r ≡ Passed → ⊥) → answers r (withMap l map) ≡ startOf l
-  unfolding startOf
-  start-refused n = tested-refused _ n
-
-  pub start-ready : r ≡ Passed → (main ptr ctl bytes : List ℕ) → main ≡ replicate (length (l .main)) 0 → ptr ≡ replicate (length (l .ptr)) 0 →
-      ctl ≡ replicate (length (l .ctl)) 0 → bytes ≡ regBytes (regs 7 1 0 0 0 5 0) →
-      answers Ready (lent (l .file) map main ptr ctl (l .heap) bytes) ≡ startOf l
-  unfolding startOf started entry
-  start-ready e main ptr ctl bytes em ep ec eb =
-      let z = first-whole (l .file) (l .map) map (A .shown e .passes) .0 in
-      rw (em, ep, ec, eb)
-      (rw (← tested-on (λ k. answers Ready (leaving k (started k))) e, z, cut-all (l .main), cut-all (l .ptr), cut-all (l .ctl), first-record (length (l .ctl))))

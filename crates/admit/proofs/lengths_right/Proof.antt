@@ -1,8 +1,8 @@
--- `machine::lengths_right` meets its contract: the model's tests in their order.
+-- `admit::lengths_right` meets its contract: the model's tests in their order.
 use Rattle.model.specs.Laws.{cases}
-use Rattle.machine.specs.Admit.{test-self}
-use Rattle.machine.proofs.lengths_right.Statement.{statement}
-use Rattle.machine.proofs.lengths_right.Tie as tie
+use Rattle.admit.specs.Admit.{test-self}
+use Rattle.admit.proofs.lengths_right.Statement.{statement}
+use Rattle.admit.proofs.lengths_right.Tie as tie
 
 returns : tie.Need-returns
 returns c = search cases depth 14
