@@ -10,6 +10,7 @@ use lib.Seq.{sets, slice, take-suc, drop-append-le, length-take-le, length-slice
 use Rattle.model.specs.Words.{wordAt, cut}
 use Rattle.sound.specs.Lists.{Zero, cut-same, set-zero}
 
+-- the word at the new top zeroed before the cut
 cut-set : (i : ℕ) (l : List ℕ) → cut (suc i) (set l i 0) ≡ cut i l
 unfolding cut
 cut-set i [] = refl

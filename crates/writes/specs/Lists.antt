@@ -40,7 +40,7 @@ cut-above new old l h t = sym (cut-same new l (λ i k. t .zero i (omega arith)))
 pub cut-last : (new old : ℕ) (l : List ℕ) → new < old → Topped old l → set l (old - 1) 0 ≡ cut (old - 1) l
 cut-last new old l h t = cut-next new old l l h (cut-above old old l (omega arith) t)
 
--- a word above the top zeroed again, and the word at the top
+-- a word above the top zeroed again
 cut-again : (i : ℕ) (l : List ℕ) → set (cut i l) i 0 ≡ cut i l
 unfolding cut
 cut-again i [] = refl
