@@ -15,7 +15,7 @@ use Rattle.model.specs.declared.Into.{Into}
 use Rattle.model.specs.declared.Into.the-variants as into
 use Rattle.model.specs.declared.Put.{Put}
 use Rattle.sound.specs.Lists.{Topped}
-use Rattle.records.specs.Asks.{Pushes, Room}
+use Rattle.control.specs.Asks.{Pushes, Room}
 use Rattle.writes.specs.Asks.{Plain, Retract, Dropping, onwards, plainly, triedOn}
 use Rattle.writes.specs.Asks.{tried as written}
 use Rattle.exec.specs.declared.Tried.{Tried}

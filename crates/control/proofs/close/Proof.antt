@@ -1,9 +1,9 @@
--- `records::close` meets its contract: the topmost record is zeroed, and the outer handler was read from it.
+-- `control::close` meets its contract: the topmost record is zeroed, and the outer handler was read from it.
 use native.Mathlib.Omega.{arith}
-use Rattle.records.specs.Laws.{close-writes}
+use Rattle.control.specs.Laws.{close-writes}
 use borrow.Author.Needs.{needs}
-use Rattle.records.proofs.close.Statement.{statement}
-use Rattle.records.proofs.close.Tie as tie
+use Rattle.control.proofs.close.Statement.{statement}
+use Rattle.control.proofs.close.Tie as tie
 
 sub-load : tie.Need-sub-load
 sub-load c = search needs

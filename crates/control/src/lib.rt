@@ -9,7 +9,7 @@ ghost use Rattle.model.specs.Heap.{formed};
 ghost use Rattle.model.specs.Control.{machine};
 ghost use Rattle.model.specs.Step.{called, returned, opened, closed};
 ghost use Rattle.sound.specs.Lists.{Topped};
-ghost use Rattle.records.specs.Asks.{Pushes, Room};
+ghost use Rattle.control.specs.Asks.{Pushes, Room};
 use model::Put;
 use model::RECORD;
 use model::Regs;

@@ -1,8 +1,8 @@
--- `records::open` meets its contract: the record is written on top.
-use Rattle.records.specs.Laws.{open-writes}
+-- `control::open` meets its contract: the record is written on top.
+use Rattle.control.specs.Laws.{open-writes}
 use borrow.Author.Needs.{needs}
-use Rattle.records.proofs.open.Statement.{statement}
-use Rattle.records.proofs.open.Tie as tie
+use Rattle.control.proofs.open.Statement.{statement}
+use Rattle.control.proofs.open.Tie as tie
 
 cast-put-record : tie.Need-cast-put-record
 cast-put-record c = search needs

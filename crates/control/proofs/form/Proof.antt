@@ -1,11 +1,11 @@
--- `records::form` meets its contract: header, pointers and plain words are stored one behind another, then the mark.
+-- `control::form` meets its contract: header, pointers and plain words are stored one behind another, then the mark.
 use native.Mathlib.Omega.{arith}
 use lib.ListN.{length-set}
 use lib.Seq.{length-sets}
-use Rattle.records.specs.Laws.{form-writes}
+use Rattle.control.specs.Laws.{form-writes}
 use borrow.Author.Needs.{needs}
-use Rattle.records.proofs.form.Statement.{statement}
-use Rattle.records.proofs.form.Tie as tie
+use Rattle.control.proofs.form.Statement.{statement}
+use Rattle.control.proofs.form.Tie as tie
 
 sub-pointers : tie.Need-sub-pointers
 sub-pointers c = search needs

@@ -4,8 +4,8 @@ use Prim.Native.Nat.{suc, _+_}
 use native.Mathlib.Omega.{arith}
 use lib.ListN.{length-set}
 use borrow.Author.Needs.{needs}
-use Rattle.records.proofs.put_record.Statement.{statement}
-use Rattle.records.proofs.put_record.Tie as tie
+use Rattle.control.proofs.put_record.Statement.{statement}
+use Rattle.control.proofs.put_record.Tie as tie
 
 mul-ctl : tie.Need-mul-ctl
 mul-ctl c = search needs

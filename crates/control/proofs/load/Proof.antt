@@ -1,8 +1,8 @@
--- `records::load` meets its contract: a word fits a number.
+-- `control::load` meets its contract: a word fits a number.
 use native.Mathlib.Omega.{arith}
 use borrow.Author.Needs.{needs}
-use Rattle.records.proofs.load.Statement.{statement}
-use Rattle.records.proofs.load.Tie as tie
+use Rattle.control.proofs.load.Statement.{statement}
+use Rattle.control.proofs.load.Tie as tie
 
 mul-result : tie.Need-mul-result
 mul-result c = search needs

@@ -6,9 +6,9 @@ use native.Mathlib.Omega.{arith}
 use lib.ListN.{length, getD, set, length-set}
 use lib.Seq.{sets, slice, slice-empty}
 use borrow.Author.Needs.{needs}
-use Rattle.records.specs.Lists.{copy-more}
-use Rattle.records.proofs.copy.Statement.{statement}
-use Rattle.records.proofs.copy.Tie as tie
+use Rattle.control.specs.Lists.{copy-more}
+use Rattle.control.proofs.copy.Statement.{statement}
+use Rattle.control.proofs.copy.Tie as tie
 
 abbrev Inv-loop : tie.InvT-loop
 Inv-loop heap₀ to from start end i₀ j₀ heap i j =

@@ -1,9 +1,9 @@
--- `records::leave` meets its contract: the topmost record is zeroed, and the caller was read from it.
+-- `control::leave` meets its contract: the topmost record is zeroed, and the caller was read from it.
 use native.Mathlib.Omega.{arith}
-use Rattle.records.specs.Laws.{leave-writes}
+use Rattle.control.specs.Laws.{leave-writes}
 use borrow.Author.Needs.{needs}
-use Rattle.records.proofs.leave.Statement.{statement}
-use Rattle.records.proofs.leave.Tie as tie
+use Rattle.control.proofs.leave.Statement.{statement}
+use Rattle.control.proofs.leave.Tie as tie
 
 sub-load : tie.Need-sub-load
 sub-load c = search needs

@@ -14,8 +14,8 @@ use Rattle.model.specs.Step.{called, returned, opened, closed}
 use Rattle.model.specs.declared.Regs.{Regs}
 use Rattle.model.specs.declared.Put.{Put}
 use Rattle.sound.specs.Lists.{Topped}
-use Rattle.records.specs.Lists.{sets-append, cut-zeros}
-use Rattle.records.specs.Asks.{Pushes, Room}
+use Rattle.control.specs.Lists.{sets-append, cut-zeros}
+use Rattle.control.specs.Asks.{Pushes, Room}
 
 put-top : (l : List ℕ) (t k a b c d e : ℕ) → t ≡ recordWords * k → sets l t (a ∷ b ∷ c ∷ d ∷ e ∷ []) ≡ putRec l k (rec a b c d e)
 unfolding putRec

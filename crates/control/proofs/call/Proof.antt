@@ -1,8 +1,8 @@
--- `records::call` meets its contract: the record is written on top, and its words are the model's.
-use Rattle.records.specs.Laws.{call-writes}
+-- `control::call` meets its contract: the record is written on top, and its words are the model's.
+use Rattle.control.specs.Laws.{call-writes}
 use borrow.Author.Needs.{needs}
-use Rattle.records.proofs.call.Statement.{statement}
-use Rattle.records.proofs.call.Tie as tie
+use Rattle.control.proofs.call.Statement.{statement}
+use Rattle.control.proofs.call.Tie as tie
 
 operand-requires : tie.Need-operand-requires
 operand-requires c κs = search needs
