@@ -14,8 +14,9 @@ use Rattle.model.specs.declared.Regs.{Regs}
 use Rattle.model.specs.declared.Into.{Into}
 use Rattle.model.specs.declared.Into.the-variants as into
 use Rattle.model.specs.declared.Put.{Put}
-use Rattle.writes.specs.Lists.{Topped}
-use Rattle.writes.specs.Asks.{Pushes, Room, Plain, Retract, Dropping, onwards, plainly, triedOn}
+use Rattle.sound.specs.Lists.{Topped}
+use Rattle.control.specs.Asks.{Pushes, Room}
+use Rattle.writes.specs.Asks.{Plain, Retract, Dropping, onwards, plainly, triedOn}
 use Rattle.writes.specs.Asks.{tried as written}
 use Rattle.exec.specs.declared.Tried.{Tried}
 use Rattle.exec.specs.Applies.{FitsIn, Forms, Calls, Suits, Applies, Late, Lately, tried, appliedIf}

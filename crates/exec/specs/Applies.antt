@@ -17,8 +17,9 @@ use Rattle.model.specs.declared.Regs.{Regs}
 use Rattle.model.specs.declared.Plan.{Plan}
 use Rattle.model.specs.declared.Plan.the-variants.{Write}
 use Rattle.exec.specs.declared.Tried.{Tried}
-use Rattle.writes.specs.Lists.{Topped}
-use Rattle.writes.specs.Asks.{Fits, Retract, Room, Dropping}
+use Rattle.sound.specs.Lists.{Topped}
+use Rattle.writes.specs.Asks.{Fits, Retract, Dropping}
+use Rattle.control.specs.Asks.{Room}
 
 -- the registers against the lists, in every running sound state
 pub record Stands (f : List ℕ) (m : Machine) : Type 0 where

@@ -17,7 +17,7 @@ use Rattle.model.specs.declared.Plan.{Plan}
 use Rattle.model.specs.declared.Plan.the-variants.{Write, Overflow, NilObject, BadField, HeapFull, NoRoom, Thrown}
 use Rattle.exec.specs.declared.Outcome.{Outcome}
 use Rattle.exec.specs.declared.Guard.{Guard}
-use Rattle.writes.specs.Lists.{Topped}
+use Rattle.sound.specs.Lists.{Topped}
 use Rattle.exec.specs.Applies.{Stands, Applies}
 
 -- the step leads on to a state, or to an uncaught exception, the state being as before it

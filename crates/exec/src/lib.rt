@@ -73,15 +73,15 @@ pub fn apply(
 {
     let into = put.into;
     match into {
-        Into::Frame => done(writes::call(file, ctl, regs, put)),
+        Into::Frame => done(control::call(file, ctl, regs, put)),
         Into::Return => {
             if regs.frame == 1 {
                 return undone(regs);
             }
-            done(writes::leave(ctl, regs, put))
+            done(control::leave(ctl, regs, put))
         }
-        Into::Handler => done(writes::open(ctl, regs, put)),
-        Into::Close => done(writes::close(ctl, regs, put)),
+        Into::Handler => done(control::open(ctl, regs, put)),
+        Into::Close => done(control::close(ctl, regs, put)),
         Into::View => undone(regs),
         _ => {
             if writes::plain(main, ptr, heap, regs, put) {
@@ -109,7 +109,7 @@ fn apply_late(
     let next = onward(regs, put);
     match into {
         Into::View => {
-            writes::form(main, ptr, heap, regs, put);
+            control::form(main, ptr, heap, regs, put);
             writes::cut_to(main, put.mtop, regs.mtop);
             writes::cut_to(ptr, put.ptop, regs.ptop);
             ptr[at] = put.word;
@@ -138,11 +138,11 @@ fn guard_at(ctl: &[u32], handler: usize) -> Guard
 {
     let under = RECORD * (handler - 1);
     Guard {
-        at: writes::load(ctl, under),
-        mtop: writes::load(ctl, under + 1),
-        ptop: writes::load(ctl, under + 2),
-        frame: writes::load(ctl, under + 3),
-        outer: writes::load(ctl, under + 4),
+        at: control::load(ctl, under),
+        mtop: control::load(ctl, under + 1),
+        ptop: control::load(ctl, under + 2),
+        frame: control::load(ctl, under + 3),
+        outer: control::load(ctl, under + 4),
     }
 }
 
@@ -151,7 +151,7 @@ fn target(file: &[u8], table: &[usize; 64], ctl: &[u32], at: usize, frame: usize
     requires { ⌜ Targets (now file) (now table) (now ctl) at frame ⌝ }
     ensures { λ r. ⌜ r ≡ headOf (now (file .entry)) (recOf (now (ctl .entry)) frame .w2) + operand (now (file .entry)) at ⌝ }
 {
-    let proc = writes::load(ctl, RECORD * (frame - 1) + 2);
+    let proc = control::load(ctl, RECORD * (frame - 1) + 2);
     table[proc] + code::operand(file, at)
 }
 

@@ -1,2 +1,2 @@
-pub mod Admit
+pub mod Starts
 pub mod Runs

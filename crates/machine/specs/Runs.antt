@@ -22,8 +22,8 @@ use Rattle.scan.specs.Heading.{Placed}
 use Rattle.heap.specs.Table.{Marks}
 use Rattle.places.specs.Places.{Ready, passed-ready}
 use Rattle.safe.specs.Alive.{Alive, alive-run}
-use Rattle.run.specs.Going.{Runs}
-use Rattle.machine.specs.Admit.{Admitted, Shown, tested-refused, tested-on, first-whole}
+use Rattle.steps.specs.Going.{Runs}
+use Rattle.admit.specs.Admit.{Admitted, Shown, tested-refused, tested-on, first-whole}
 use Rattle.model.specs.declared.Regs.{Regs}
 use Rattle.model.specs.declared.Answer.{Answer}
 use Rattle.model.specs.declared.Answer.the-variants.{Passed, Refused}

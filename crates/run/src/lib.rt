@@ -1,16 +1,14 @@
 // A run: steps until the machine is finished, the budget is spent, or an exception is not caught.
 ghost use mathlib.Core.Path.{_≡_};
-ghost use Prim.Native.Nat.{_+_, _*_, _<_, _≤_};
-ghost use lib.ListN.{length};
 ghost use Rattle.model.specs.Control.{machine};
 ghost use Rattle.model.specs.Step.{ran, runOn};
-ghost use Rattle.run.specs.Going.{Runs, Paused, endedWith, pausedAt};
+ghost use Rattle.steps.specs.Going.{Runs};
+ghost use Rattle.run.specs.Endings.{endedWith};
 use exec::Outcome;
-use exec::Tried;
 use model::Answer;
 use model::Plan;
-use model::Put;
 use model::Regs;
+use steps::Pause;
 
 // An answer, with the registers then.
 pub struct Ended {
@@ -22,54 +20,6 @@ fn answered(answer: Answer, regs: Regs) -> Ended
     ensures { λ r. ⌜ r ≡ endedWith answer regs ⌝ }
 {
     Ended { answer, regs }
-}
-
-// Where the steps pause: before an instruction whose plan is settled apart, or with no step left of the budget.
-pub struct Pause {
-    pub plan: Plan,
-    pub regs: Regs,
-    pub left: u32,
-}
-
-fn stop(plan: Plan, regs: Regs, left: u32) -> Pause
-    ensures { λ r. ⌜ r ≡ pausedAt plan regs left ⌝ }
-{
-    Pause { plan, regs, left }
-}
-
-// Steps on, as far as the budget lasts and no raise and no loop is needed. It is called from two places, which keeps it a function of its own
-// for the compiler: its registers are those of the steps alone. Soundness is what the loop keeps, so that no step tests what it gives.
-fn go_on(
-    file: &[u8],
-    table: &[usize; 64],
-    main: &mut [u32],
-    ptr: &mut [u32],
-    ctl: &mut [u32],
-    heap: &mut [u32],
-    regs: Regs,
-    budget: u32,
-) -> Pause
-    requires { ⌜ Runs (now file) (now table) (machine regs (now main) (now ptr) (now ctl) (now heap)) × (regs .state ≡ 1 → ⊥) ⌝ }
-    ensures { λ r. ⌜ Paused (now (file .entry)) (now (table .entry)) budget (machine regs (now (main .entry)) (now (ptr .entry)) (now (ctl .entry)) (now (heap .entry))) (r .left) (machine (r .regs) (now (main .exit)) (now (ptr .exit)) (now (ctl .exit)) (now (heap .exit))) (r .plan) ⌝ }
-{
-    let mut r = regs;
-    let mut left = budget;
-    while 0 < left {
-        let after = left - 1;
-        let plan = plan::plan_at(file, table, main, ptr, ctl, heap, r);
-        let Plan::Write(put) = plan else {
-            return stop(plan, r, left);
-        };
-        let tried = exec::apply(file, main, ptr, ctl, heap, r, put);
-        let done = tried.done;
-        if done {
-            r = tried.regs;
-            left = after;
-        } else {
-            return stop(Plan::Write(put), r, left);
-        }
-    }
-    stop(Plan::Thrown, r, left)
 }
 
 // The table has the heads of the file's procedures.
@@ -89,7 +39,7 @@ pub fn run_on(
     if regs.state == 1 {
         return answered(Answer::Finished(0), regs);
     }
-    let first = go_on(file, table, main, ptr, ctl, heap, regs, budget);
+    let first = steps::go_on(file, table, main, ptr, ctl, heap, regs, budget);
     let mut r = first.regs;
     let mut plan = first.plan;
     let mut left = first.left;
@@ -106,7 +56,7 @@ pub fn run_on(
             let done = budget - after;
             return answered(Answer::Finished(done), next);
         }
-        let pause = go_on(file, table, main, ptr, ctl, heap, next, after);
+        let pause = steps::go_on(file, table, main, ptr, ctl, heap, next, after);
         r = pause.regs;
         plan = pause.plan;
         left = pause.left;

@@ -25,6 +25,11 @@ Zero t l = (i : ℕ) → t ≤ i → wordAt l i ≡ 0
 abbrev pub Each : (ℕ → Type 0) → List ℕ → Type 0
 Each P l = (i : ℕ) → P (wordAt l i)
 
+-- a stack with its top: it lies in the list, and the words above are 0
+pub record Topped (t : ℕ) (l : List ℕ) : Type 0 where
+  pub fits : t ≤ length l
+  pub zero : Zero t l
+
 -- a stack cut to a top
 pub length-cut : (t : ℕ) (l : List ℕ) → length (cut t l) ≡ length l
 unfolding cut
@@ -46,6 +51,13 @@ cut-zero zero (w ∷ l) zero h = refl
 cut-zero zero (w ∷ l) (suc i) h = cut-zero zero l i (omega arith)
 cut-zero (suc t) (w ∷ l) zero h = absurd (omega arith)
 cut-zero (suc t) (w ∷ l) (suc i) h = cut-zero t l i (omega arith)
+
+-- where the words are 0 already, a cut changes nothing
+pub cut-same : (t : ℕ) (l : List ℕ) → Zero t l → cut t l ≡ l
+unfolding cut
+cut-same t [] z = refl
+cut-same zero (w ∷ l) z = rw (z 0 (omega arith), cut-same zero l (λ i h. z (suc i) (omega arith)))
+cut-same (suc t) (w ∷ l) z = ap (λ (k : List ℕ). w ∷ k) (cut-same t l (λ i h. z (suc i) (omega arith)))
 
 pub cut-each : (P : ℕ → Type 0) (t : ℕ) (l : List ℕ) → P 0 → Each P l → Each P (cut t l)
 cut-each P t l z h i = go (decLt i t)

@@ -1,28 +1,13 @@
--- Lists of words: what is left where popped words are zeroed one by one, and stores one after another. Each law is an induction on the
--- list, or follows from one.
+-- Lists of words: what is left where popped words are zeroed one by one. Each law is an induction on the list, or follows from one.
 use Prim.Native.Nat.{ℕ, zero, suc, _+_, _-_, _<_, _≤_}
 use mathlib.Core.Path.{_≡_, refl, ap, sym, subst, _∙_}
 use mathlib.Core.Logic.{⊎-elim}
 use native.Mathlib.Nat.{eq-or-lt-of-le}
-use mathlib.Core.List.{List, [], _∷_, _++_}
+use mathlib.Core.List.{List, [], _∷_}
 use native.Mathlib.Omega.{arith}
-use native.Mathlib.Numerals.{add-one}
-use lib.ListN.{length, take, drop, set, replicate}
-use lib.Seq.{sets, slice, take-suc, drop-append-le, length-take-le, length-slice}
-use Rattle.model.specs.Words.{wordAt, cut}
-use Rattle.sound.specs.Lists.{Zero, length-cut, cut-zero, set-zero}
-
--- a stack with its top: it lies in the list, and the words above are 0
-pub record Topped (t : ℕ) (l : List ℕ) : Type 0 where
-  pub fits : t ≤ length l
-  pub zero : Zero t l
-
--- where the words are 0 already, a cut changes nothing
-pub cut-same : (t : ℕ) (l : List ℕ) → Zero t l → cut t l ≡ l
-unfolding cut
-cut-same t [] z = refl
-cut-same zero (w ∷ l) z = rw (z 0 (omega arith), cut-same zero l (λ i h. z (suc i) (omega arith)))
-cut-same (suc t) (w ∷ l) z = ap (λ (k : List ℕ). w ∷ k) (cut-same t l (λ i h. z (suc i) (omega arith)))
+use lib.ListN.{length, set}
+use Rattle.model.specs.Words.{cut}
+use Rattle.sound.specs.Lists.{Topped, cut-same, length-cut, cut-zero}
 
 -- one word further down
 pub cut-down : (i : ℕ) (l : List ℕ) → set (cut (suc i) l) i 0 ≡ cut i l
@@ -55,18 +40,12 @@ cut-above new old l h t = sym (cut-same new l (λ i k. t .zero i (omega arith)))
 pub cut-last : (new old : ℕ) (l : List ℕ) → new < old → Topped old l → set l (old - 1) 0 ≡ cut (old - 1) l
 cut-last new old l h t = cut-next new old l l h (cut-above old old l (omega arith) t)
 
--- a word above the top zeroed again, and the word at the top
+-- a word above the top zeroed again
 cut-again : (i : ℕ) (l : List ℕ) → set (cut i l) i 0 ≡ cut i l
 unfolding cut
 cut-again i [] = refl
 cut-again zero (w ∷ l) = refl
 cut-again (suc i) (w ∷ l) = ap (λ (k : List ℕ). w ∷ k) (cut-again i l)
-
-cut-set : (i : ℕ) (l : List ℕ) → cut (suc i) (set l i 0) ≡ cut i l
-unfolding cut
-cut-set i [] = refl
-cut-set zero (w ∷ l) = refl
-cut-set (suc i) (w ∷ l) = ap (λ (k : List ℕ). w ∷ k) (cut-set i l)
 
 -- one word goes, or two
 pub cut-one : (new old : ℕ) (l : List ℕ) → new < old → old ≤ new + 1 → Topped old l → set l new 0 ≡ cut new l
@@ -79,27 +58,3 @@ cut-two new old l h k t = rw (cut-last new old l h t) (go (old - 1) (omega arith
   where
     go : (i : ℕ) → new ≤ i → i ≤ new + 1 → set (cut i l) new 0 ≡ cut new l
     go i a b = ⊎-elim (λ e. rw (← e) (cut-again new l)) (λ u. let e : i ≡ suc new = omega arith in rw e (cut-down new l)) (eq-or-lt-of-le a)
-
--- n words are zeroed, up to the top
-pub cut-zeros : (n i : ℕ) (l : List ℕ) → Zero (i + n) l → sets l i (replicate n 0) ≡ cut i l
-cut-zeros zero i l z = sym (cut-same i l (λ k h. z k (omega arith)))
-cut-zeros (suc n) i l z =
-    cut-zeros n (suc i) (set l i 0) (set-zero (suc i + n) l i 0 (omega arith) (λ k h. z k (omega arith))) ∙ cut-set i l
-
--- stores one after another
-pub sets-append : (xs ys l : List ℕ) (i : ℕ) → sets l i (xs ++ ys) ≡ sets (sets l i xs) (i + length xs) ys
-sets-append [] ys l i = let e : i + 0 ≡ i = omega arith in rw e
-sets-append (x ∷ xs) ys l i =
-    let e : i + suc (length xs) ≡ suc i + length xs = omega arith in rw e (sets-append xs ys (set l i x) (suc i))
-
-slice-snoc : (a i : ℕ) (l : List ℕ) → a ≤ i → i < length l → slice a (suc i) l ≡ slice a i l ++ (wordAt l i ∷ [])
-slice-snoc a i l h k =
-    ap (drop a) (take-suc l i 0 k)
-    ∙ drop-append-le a (take i l) (wordAt l i ∷ []) (rw (length-take-le i l (omega arith)) h)
-
--- one word more is copied
-pub copy-more : (h l : List ℕ) (to a i j : ℕ) → a ≤ i → i < length l → j ≡ to + (i - a) →
-    set (sets h to (slice a i l)) j (wordAt l i) ≡ sets h to (slice a (i + 1) l)
-copy-more h l to a i j low k e =
-    let n : to + length (slice a i l) ≡ j = ap (λ (n : ℕ). to + n) (length-slice a i l (omega arith)) ∙ sym e in
-    sym (rw (add-one i, slice-snoc a i l low k, sets-append (slice a i l) (wordAt l i ∷ []) h to, n) refl)

@@ -2,7 +2,7 @@
 use mathlib.Core.Logic.{⊎-elim}
 use native.Mathlib.Omega.{arith}
 use Rattle.model.specs.Calls.{lent}
-use Rattle.machine.specs.Admit.{start-refused, start-ready}
+use Rattle.machine.specs.Starts.{start-refused, start-ready}
 use borrow.Author.Needs.{needs}
 use Rattle.machine.proofs.start.Statement.{statement}
 use Rattle.machine.proofs.start.Tie as tie

@@ -6,7 +6,8 @@ use native.Mathlib.Omega.{arith}
 use borrow.Author.Needs.{needs}
 use Rattle.model.specs.Control.{machine}
 use Rattle.safe.specs.Settling.{alive-settles}
-use Rattle.run.specs.Going.{Paused, going-start, going-trans, finished-at, going-finished, going-spent, going-uncaught, going-on}
+use Rattle.steps.specs.Going.{Paused, going-start, going-trans}
+use Rattle.run.specs.Endings.{finished-at, going-finished, going-spent, going-uncaught, going-on}
 use Rattle.run.proofs.run_on.Statement.{statement}
 use Rattle.run.proofs.run_on.Tie as tie
 

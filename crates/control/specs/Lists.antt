@@ -1,0 +1,42 @@
+-- Lists of words: what is left where a record's words are zeroed, and stores one after another. Each law is an induction on the list, or
+-- follows from one.
+use Prim.Native.Nat.{ℕ, zero, suc, _+_, _-_, _<_, _≤_}
+use mathlib.Core.Path.{_≡_, refl, ap, sym, _∙_}
+use mathlib.Core.List.{List, [], _∷_, _++_}
+use native.Mathlib.Omega.{arith}
+use native.Mathlib.Numerals.{add-one}
+use lib.ListN.{length, take, drop, set, replicate}
+use lib.Seq.{sets, slice, take-suc, drop-append-le, length-take-le, length-slice}
+use Rattle.model.specs.Words.{wordAt, cut}
+use Rattle.sound.specs.Lists.{Zero, cut-same, set-zero}
+
+-- the word at the new top zeroed before the cut
+cut-set : (i : ℕ) (l : List ℕ) → cut (suc i) (set l i 0) ≡ cut i l
+unfolding cut
+cut-set i [] = refl
+cut-set zero (w ∷ l) = refl
+cut-set (suc i) (w ∷ l) = ap (λ (k : List ℕ). w ∷ k) (cut-set i l)
+
+-- n words are zeroed, up to the top
+pub cut-zeros : (n i : ℕ) (l : List ℕ) → Zero (i + n) l → sets l i (replicate n 0) ≡ cut i l
+cut-zeros zero i l z = sym (cut-same i l (λ k h. z k (omega arith)))
+cut-zeros (suc n) i l z =
+    cut-zeros n (suc i) (set l i 0) (set-zero (suc i + n) l i 0 (omega arith) (λ k h. z k (omega arith))) ∙ cut-set i l
+
+-- stores one after another
+pub sets-append : (xs ys l : List ℕ) (i : ℕ) → sets l i (xs ++ ys) ≡ sets (sets l i xs) (i + length xs) ys
+sets-append [] ys l i = let e : i + 0 ≡ i = omega arith in rw e
+sets-append (x ∷ xs) ys l i =
+    let e : i + suc (length xs) ≡ suc i + length xs = omega arith in rw e (sets-append xs ys (set l i x) (suc i))
+
+slice-snoc : (a i : ℕ) (l : List ℕ) → a ≤ i → i < length l → slice a (suc i) l ≡ slice a i l ++ (wordAt l i ∷ [])
+slice-snoc a i l h k =
+    ap (drop a) (take-suc l i 0 k)
+    ∙ drop-append-le a (take i l) (wordAt l i ∷ []) (rw (length-take-le i l (omega arith)) h)
+
+-- one word more is copied
+pub copy-more : (h l : List ℕ) (to a i j : ℕ) → a ≤ i → i < length l → j ≡ to + (i - a) →
+    set (sets h to (slice a i l)) j (wordAt l i) ≡ sets h to (slice a (i + 1) l)
+copy-more h l to a i j low k e =
+    let n : to + length (slice a i l) ≡ j = ap (λ (n : ℕ). to + n) (length-slice a i l (omega arith)) ∙ sym e in
+    sym (rw (add-one i, slice-snoc a i l low k, sets-append (slice a i l) (wordAt l i ∷ []) h to, n) refl)

@@ -1,0 +1,46 @@
+-- Start: a refusal is the model's, and zeroed stacks with the first registers are the state that it begins with.
+use Prim.Native.Nat.{ℕ, zero, suc}
+use mathlib.Core.Bool.{Bool}
+use mathlib.Core.List.{List, [], _∷_}
+use mathlib.Core.Path.{_≡_, refl, ap, sym, _∙_}
+use lib.ListN.{length, getD, set, replicate}
+use lib.Seq.{set-getD}
+use Rattle.model.specs.Words.{cut}
+use Rattle.model.specs.File.{entry}
+use Rattle.model.specs.Control.{rec, putRec, regs, regBytes}
+use Rattle.model.specs.Calls.{Lent, lent, withMap, answers, started, startOf, leaving}
+use Rattle.admit.specs.Admit.{Admitted, tested-refused, tested-on, first-whole}
+use Rattle.model.specs.declared.Answer.{Answer}
+use Rattle.model.specs.declared.Answer.the-variants.{Passed, Ready}
+
+-- zeroed stacks, and the first frame's record, which is five zeros
+pub cut-all : (l : List ℕ) → cut 0 l ≡ replicate (length l) 0
+unfolding cut
+cut-all [] = refl
+cut-all (w ∷ l) = ap (λ (r : List ℕ). 0 ∷ r) (cut-all l)
+
+zero-at : (n i : ℕ) → _≡_ {A = ℕ} (getD (replicate n 0) i 0) 0
+zero-at zero i = refl
+zero-at (suc n) zero = refl
+zero-at (suc n) (suc i) = zero-at n i
+
+set-zero : (n i : ℕ) → _≡_ {A = List ℕ} (set (replicate n 0) i 0) (replicate n 0)
+set-zero n i = ap (λ (w : ℕ). set (replicate n 0) i w) (sym (zero-at n i)) ∙ set-getD (replicate n 0) i 0
+
+pub first-record : (n : ℕ) → putRec (replicate n 0) 0 (rec 0 0 0 0 0) ≡ replicate n 0
+unfolding putRec
+first-record n = rw (set-zero n 0, set-zero n 1, set-zero n 2, set-zero n 3, set-zero n 4)
+
+module _ (l : Lent) (map table : List ℕ) (marks : List Bool) (r : Answer) (A : Admitted l map table marks r) where
+  pub start-refused : (r ≡ Passed → ⊥) → answers r (withMap l map) ≡ startOf l
+  unfolding startOf
+  start-refused n = tested-refused l map table marks r A _ n
+
+  pub start-ready : r ≡ Passed → (main ptr ctl bytes : List ℕ) → main ≡ replicate (length (l .main)) 0 → ptr ≡ replicate (length (l .ptr)) 0 →
+      ctl ≡ replicate (length (l .ctl)) 0 → bytes ≡ regBytes (regs 7 1 0 0 0 5 0) →
+      answers Ready (lent (l .file) map main ptr ctl (l .heap) bytes) ≡ startOf l
+  unfolding startOf started entry
+  start-ready e main ptr ctl bytes em ep ec eb =
+      let z = first-whole (l .file) (l .map) map (A .shown e .passes) .0 in
+      rw (em, ep, ec, eb)
+      (rw (← tested-on l map table marks r A (λ k. answers Ready (leaving k (started k))) e, z, cut-all (l .main), cut-all (l .ptr), cut-all (l .ctl), first-record (length (l .ctl))))

@@ -1,0 +1,153 @@
+-- `steps::go_on` meets its contract: each turn is one step of the model, done without a loop; soundness, kept by each step, gives what the plan and its writes ask.
+use mathlib.Core.Path.{_≡_, sym, _∙_}
+use native.Mathlib.Omega.{arith}
+use borrow.Author.Needs.{needs}
+use Rattle.model.specs.Control.{machine}
+use Rattle.exec.proofs.Tags.{no-write}
+use Rattle.safe.specs.Planning.{alive-ready}
+use Rattle.safe.specs.Settling.{alive-settles}
+use Rattle.steps.specs.Going.{Going, going-start, going-trans, going-applied, paused-late, stopped-raise}
+use Rattle.steps.proofs.go_on.Statement.{statement}
+use Rattle.steps.proofs.go_on.Tie as tie
+
+abbrev Inv-loop : tie.InvT-loop
+Inv-loop file table main₀ ptr₀ ctl₀ heap₀ budget r₀ left₀ main ptr ctl heap r left =
+    Going file table budget (machine r₀ main₀ ptr₀ ctl₀ heap₀) left (machine r main ptr ctl heap) × (r .state ≡ 1 → ⊥)
+
+abbrev μ-loop : tie.MeasureT-loop
+μ-loop file table main₀ ptr₀ ctl₀ heap₀ budget r₀ left₀ main ptr ctl heap r left = left
+
+loop-holds : tie.Need-loop-holds Inv-loop μ-loop
+loop-holds c =
+    let S = c .before .before .before .before .before in (going-start (S .args .file .now) (S .args .table .now) (S .args .budget) (machine (S .args .regs) (S .args .main .now) (S .args .ptr .now) (S .args .ctl .now) (S .args .heap .now)) (S .pre .0), S .pre .1)
+
+sub-after : tie.Need-sub-after Inv-loop μ-loop
+sub-after c = omega arith
+
+plan-at-requires : tie.Need-plan-at-requires Inv-loop μ-loop
+plan-at-requires c κs =
+    let L = c .before .before .before .before .before .loop in alive-ready (L .inv .0 .runs .alive) (L .inv .1)
+
+enum-known-plan : tie.Need-enum-known-plan Inv-loop μ-loop
+enum-known-plan c = search needs
+
+stop-requires : tie.Need-stop-requires Inv-loop μ-loop
+stop-requires c κs = search needs
+
+same-length : tie.Need-same-length Inv-loop μ-loop
+same-length c = c .before .before .before .before .before .before .before .before .loop .inv .0 .alike .main
+
+same-length-2 : tie.Need-same-length-2 Inv-loop μ-loop
+same-length-2 c = c .before .before .before .before .before .before .before .before .loop .inv .0 .alike .ptr
+
+same-length-3 : tie.Need-same-length-3 Inv-loop μ-loop
+same-length-3 c = c .before .before .before .before .before .before .before .before .loop .inv .0 .alike .ctl
+
+same-length-4 : tie.Need-same-length-4 Inv-loop μ-loop
+same-length-4 c = c .before .before .before .before .before .before .before .before .loop .inv .0 .alike .heap
+
+returns : tie.Need-returns Inv-loop μ-loop
+returns c =
+    let S = c .before .before .before .before .before .before .before .before .before .before .before .before .before .before in
+    let L = c .before .before .before .before .before .before .before .before .loop in
+    rw (c .stop .ensures)
+    (record {
+      going = L .inv .0;
+      on? = L .inv .1;
+      stopped = λ h. stopped-raise (S .args .file .now) (machine (L .r) (L .main) (L .ptr) (L .ctl) (L .heap)) _ (c .before .before .plan-at .ensures) (no-write _ (c .before .match .keys2));
+    })
+
+apply-requires : tie.Need-apply-requires Inv-loop μ-loop
+apply-requires c κs =
+    let L = c .before .before .before .before .before .before .before .before .before .before .before .before .before .loop in alive-settles (L .inv .0 .runs .alive) (L .inv .1) .writes _ (sym (c .before .before .before .before .before .before .before .plan-at .ensures) ∙ c .before .before .before .before .before .plan .given .1)
+
+loop-less : tie.Need-loop-less Inv-loop μ-loop
+loop-less c = let h = c .before .before .before .before .before .before .before .before .before .before .before .before .before .before .before .before .before .before .before .before .before .before .before .loop-test .taken in omega (arith, h)
+
+loop-again : tie.Need-loop-again Inv-loop μ-loop
+loop-again c =
+    let S = c .before .before .before .before .before .before .before .before .before .before .before .before .before .before .before .before .before .before .before .before .before .before .before .before .before .before .before .before .before .before in
+    let L = c .before .before .before .before .before .before .before .before .before .before .before .before .before .before .before .before .before .before .before .before .before .before .before .before .loop in
+    let A = c .before .before .before .before .before .before .before .before .before .before .apply in (
+      going-trans (S .args .file .now) (S .args .table .now) (S .args .budget) (machine (S .args .regs) (S .args .main .now) (S .args .ptr .now) (S .args .ctl .now) (S .args .heap .now)) (L .left) (machine (L .r) (L .main) (L .ptr) (L .ctl) (L .heap)) _ _ (L .inv .0)
+          (going-applied (S .args .file .now) (S .args .table .now) (L .left) (machine (L .r) (L .main) (L .ptr) (L .ctl) (L .heap)) (L .inv .0 .runs) (c .before .before .before .before .before .before .before .before .before .before .before .before .before .before .before .before .before .before .before .before .before .before .before .loop-test .taken) (L .inv .1) _ (A .result) _ _ _ _
+          (sym (c .before .before .before .before .before .before .before .before .before .before .before .before .before .before .before .before .plan .given .1) ∙ c .before .before .before .before .before .before .before .before .before .before .before .before .before .before .before .before .before .before .plan-at .ensures) (c .before .if1 .taken) (A .ensures .0)
+          (record { main = A .kept .1 .0; ptr = A .kept .1 .1 .0; ctl = A .kept .1 .1 .1 .0; heap = A .kept .1 .1 .1 .1 .0 })),
+      λ e. L .inv .1 (sym (A .ensures .1 .0) ∙ e),
+    )
+
+stop-requires-2 : tie.Need-stop-requires-2 Inv-loop μ-loop
+stop-requires-2 c κs = search needs
+
+same-length-5 : tie.Need-same-length-5 Inv-loop μ-loop
+same-length-5 c = c .before .before .before .before .before .before .before .before .before .before .apply .kept .1 .0 ∙ c .before .before .before .before .before .before .before .before .before .before .before .before .before .before .before .before .before .before .before .before .before .before .before .before .loop .inv .0 .alike .main
+
+same-length-6 : tie.Need-same-length-6 Inv-loop μ-loop
+same-length-6 c = c .before .before .before .before .before .before .before .before .before .before .apply .kept .1 .1 .0 ∙ c .before .before .before .before .before .before .before .before .before .before .before .before .before .before .before .before .before .before .before .before .before .before .before .before .loop .inv .0 .alike .ptr
+
+same-length-7 : tie.Need-same-length-7 Inv-loop μ-loop
+same-length-7 c = c .before .before .before .before .before .before .before .before .before .before .apply .kept .1 .1 .1 .0 ∙ c .before .before .before .before .before .before .before .before .before .before .before .before .before .before .before .before .before .before .before .before .before .before .before .before .loop .inv .0 .alike .ctl
+
+same-length-8 : tie.Need-same-length-8 Inv-loop μ-loop
+same-length-8 c = c .before .before .before .before .before .before .before .before .before .before .apply .kept .1 .1 .1 .1 .0 ∙ c .before .before .before .before .before .before .before .before .before .before .before .before .before .before .before .before .before .before .before .before .before .before .before .before .loop .inv .0 .alike .heap
+
+returns-2 : tie.Need-returns-2 Inv-loop μ-loop
+returns-2 c =
+    let S = c .before .before .before .before .before .before .before .before .before .before .before .before .before .before .before .before .before .before .before .before .before .before .before .before .before .before .before .before .before .before in
+    let L = c .before .before .before .before .before .before .before .before .before .before .before .before .before .before .before .before .before .before .before .before .before .before .before .before .loop in
+    let A = c .before .before .before .before .before .before .before .before .before .before .apply in
+    rw (c .stop2 .ensures)
+    (paused-late (S .args .file .now) (S .args .table .now) (S .args .budget) (machine (S .args .regs) (S .args .main .now) (S .args .ptr .now) (S .args .ctl .now) (S .args .heap .now)) (L .left) (machine (L .r) (L .main) (L .ptr) (L .ctl) (L .heap)) _ (A .result) _ _ _ _ (L .inv .0) (L .inv .1)
+    (sym (c .before .before .before .before .before .before .before .before .before .before .before .before .before .before .before .before .plan .given .1) ∙ c .before .before .before .before .before .before .before .before .before .before .before .before .before .before .before .before .before .before .plan-at .ensures) (c .before .if1 .left) (A .ensures .0) (A .ensures .1 .1))
+
+stop-requires-3 : tie.Need-stop-requires-3 Inv-loop μ-loop
+stop-requires-3 c κs = search needs
+
+same-length-9 : tie.Need-same-length-9 Inv-loop μ-loop
+same-length-9 c = c .before .before .loop .inv .0 .alike .main
+
+same-length-10 : tie.Need-same-length-10 Inv-loop μ-loop
+same-length-10 c = c .before .before .loop .inv .0 .alike .ptr
+
+same-length-11 : tie.Need-same-length-11 Inv-loop μ-loop
+same-length-11 c = c .before .before .loop .inv .0 .alike .ctl
+
+same-length-12 : tie.Need-same-length-12 Inv-loop μ-loop
+same-length-12 c = c .before .before .loop .inv .0 .alike .heap
+
+returns-3 : tie.Need-returns-3 Inv-loop μ-loop
+returns-3 c =
+    let L = c .before .before .loop in
+    rw (c .stop3 .ensures) (record { going = L .inv .0; on? = L .inv .1; stopped = λ h. absurd (omega (arith, h, c .before .loop-test .left)) })
+
+pub go-on-spec : {M : Type 1} → statement M
+go-on-spec =
+    tie.close
+    (tie.spec
+    Inv-loop
+    μ-loop
+    loop-holds
+    sub-after
+    plan-at-requires
+    enum-known-plan
+    stop-requires
+    same-length
+    same-length-2
+    same-length-3
+    same-length-4
+    returns
+    apply-requires
+    loop-less
+    loop-again
+    stop-requires-2
+    same-length-5
+    same-length-6
+    same-length-7
+    same-length-8
+    returns-2
+    stop-requires-3
+    same-length-9
+    same-length-10
+    same-length-11
+    same-length-12
+    returns-3)
