@@ -11,7 +11,8 @@ ghost use Rattle.model.specs.Heap.{markOf, kindAt, ptrsAt, sizeAt, viewKind, in
 ghost use Rattle.model.specs.Sound.{pointers, zeros};
 ghost use Rattle.heap.specs.First.{firstBad, zeroAt, freeWords};
 ghost use Rattle.heap.specs.Zeros.{Zeros};
-ghost use Rattle.heap.specs.Every.{oneIf, Every};
+ghost use Rattle.heap.specs.Every.{oneIf, Every, fourOf, oneAt};
+ghost use Rattle.model.specs.Words.{wordAt};
 ghost use Rattle.heap.specs.Table.{Small, Marks, isMarked, markedAt, found, Range, judged, Walked, Audited};
 
 // What the audit answers: the heap is sound, or the index of the word at fault.
@@ -120,7 +121,7 @@ fn mark_objects(heap: &[u32], marks: &mut [bool; 16384]) -> HeapAudit
 // 1 for a word that is nil or marked, 0 for any other. The mark is read in any case, so that the compiler needs no branch here: which words
 // are nil no branch can foresee.
 fn pointer_count(marks: &[bool; 16384], v: u32) -> usize
-    ensures { λ r. ⌜ r ≡ oneIf (isMarked (now (marks .entry)) v) ⌝ }
+    ensures { λ r. ⌜ Small 2 (oneIf (isMarked (now (marks .entry)) v)) r ⌝ }
 {
     let i = wide(v);
     let at = i % 16384;
@@ -191,6 +192,15 @@ fn pointers_right(heap: &[u32], marks: &[bool; 16384]) -> HeapAudit
     HeapAudit::Clean
 }
 
+fn sum_of_four(words: &[u32], i: usize) -> usize
+    requires { ⌜ i + 3 < length (now words) ⌝ }
+    ensures { λ r. ⌜ r ≡ fourOf (wordAt (now (words .entry))) i ⌝ }
+{
+    let low = wide(words[i]) + wide(words[i + 1]);
+    let high = wide(words[i + 2]) + wide(words[i + 3]);
+    low + high
+}
+
 // Where the words from `from` on, taken by four, are no longer all 0, or the list ends: a test for four words is quicker than four.
 pub fn skip_zeros(words: &[u32], from: usize) -> usize
     ensures { λ r. ⌜ Zeros (now (words .entry)) from r ⌝ }
@@ -202,9 +212,7 @@ pub fn skip_zeros(words: &[u32], from: usize) -> usize
     let last = n - 4;
     let mut i = from;
     while i <= last {
-        let low = wide(words[i]) + wide(words[i + 1]);
-        let high = wide(words[i + 2]) + wide(words[i + 3]);
-        if low + high != 0 {
+        if sum_of_four(words, i) != 0 {
             return i;
         }
         i += 4;
@@ -261,10 +269,30 @@ fn least(a: usize, b: usize) -> usize
     if a < b { a } else { b }
 }
 
+// How many of the four words from `i` on are pointers. Four that are nil are told by one test.
+fn count_of_four(words: &[u32], marks: &[bool; 16384], i: usize) -> usize
+    requires { ⌜ i + 3 < length (now words) ⌝ }
+    ensures { λ r. ⌜ Small 5 (fourOf (oneAt (now (marks .entry)) (now (words .entry))) i) r ⌝ }
+{
+    if sum_of_four(words, i) == 0 {
+        return 4;
+    }
+    let low = pointer_count(marks, words[i]) + pointer_count(marks, words[i + 1]);
+    let high = pointer_count(marks, words[i + 2]) + pointer_count(marks, words[i + 3]);
+    low + high
+}
+
 // Every word of the pointer stack is a pointer of the heap whose marks these are, if those from `top` on are 0.
 pub fn audit_pointers(ptr: &[u32], top: usize, marks: &[bool; 16384]) -> bool
     ensures { λ r. ⌜ ((os : List ℕ) → Marks os (now (marks .entry)) → zeros (drop top (now (ptr .entry))) ≡ true → r ≡ pointers os (now (ptr .entry))) ⌝ }
 {
     let n = least(top, ptr.len());
-    all_pointers(ptr, marks, 0, n)
+    let mut i = 0;
+    while 4 <= n - i {
+        if count_of_four(ptr, marks, i) != 4 {
+            return false;
+        }
+        i += 4;
+    }
+    all_pointers(ptr, marks, i, n)
 }
