@@ -1,6 +1,6 @@
 // The calls that firmware reaches: check, start and run on numbers and lists. An answer travels as four numbers.
 ghost use mathlib.Core.Path.{_≡_};
-ghost use Rattle.model.specs.Calls.{toldOf, checkOf, lent, startOf, runOf};
+ghost use Rattle.model.specs.Calls.{told, toldOf, checkOf, lent, startOf, runOf};
 ghost use Rattle.exports.specs.Replies.{asTold, replies, repliesTo, checks, checksTo};
 use model::Answer;
 
@@ -12,46 +12,28 @@ pub struct Reply {
     pub steps: u32, // the steps done, of an answer to run that is no refusal, else 0
 }
 
+fn numbers(kind: u32, number: u32, place: usize, steps: u32) -> Reply
+    ensures { λ r. ⌜ asTold r ≡ told kind number place steps ⌝ }
+{
+    Reply {
+        kind,
+        number,
+        place,
+        steps,
+    }
+}
+
+// An answer in numbers, as the paper gives them.
 fn told(answer: Answer) -> Reply
     ensures { λ r. ⌜ asTold r ≡ toldOf answer ⌝ }
 {
     match answer {
-        Answer::Passed => Reply {
-            kind: 0,
-            number: 0,
-            place: 0,
-            steps: 0,
-        },
-        Answer::Ready => Reply {
-            kind: 1,
-            number: 0,
-            place: 0,
-            steps: 0,
-        },
-        Answer::Finished(steps) => Reply {
-            kind: 2,
-            number: 0,
-            place: 0,
-            steps,
-        },
-        Answer::Spent(steps) => Reply {
-            kind: 3,
-            number: 0,
-            place: 0,
-            steps,
-        },
-        Answer::Uncaught(code, place, steps) => Reply {
-            kind: 4,
-            number: code,
-            place,
-            steps,
-        },
-        Answer::Refused(number, place) => Reply {
-            kind: 5,
-            number,
-            place,
-            steps: 0,
-        },
+        Answer::Passed => numbers(0, 0, 0, 0),
+        Answer::Ready => numbers(1, 0, 0, 0),
+        Answer::Finished(steps) => numbers(2, 0, 0, steps),
+        Answer::Spent(steps) => numbers(3, 0, 0, steps),
+        Answer::Uncaught(code, place, steps) => numbers(4, code, place, steps),
+        Answer::Refused(number, place) => numbers(5, number, place, 0),
     }
 }
 

@@ -1,6 +1,7 @@
 // start and run over lent lists.
 ghost use mathlib.Core.Path.{_≡_};
 ghost use lib.ListN.{length, replicate};
+ghost use Rattle.model.specs.Control.{regs};
 ghost use Rattle.model.specs.Calls.{lent, answers, startOf, runOf};
 ghost use Rattle.machine.specs.Runs.{CountIs};
 use model::Answer;
@@ -15,6 +16,21 @@ fn clear(l: &mut [u32])
     while i < l.len() {
         l[i] = 0;
         i += 1;
+    }
+}
+
+// At the first instruction of procedure 0, in its frame, with empty stacks.
+fn first() -> Regs
+    ensures { λ r. ⌜ r ≡ regs 7 1 0 0 0 5 0 ⌝ }
+{
+    Regs {
+        place: 7,
+        frame: 1,
+        handler: 0,
+        mtop: 0,
+        ptop: 0,
+        ctop: RECORD,
+        state: 0,
     }
 }
 
@@ -49,16 +65,7 @@ pub fn start(
     clear(main);
     clear(ptr);
     clear(ctl);
-    let first = Regs {
-        place: 7,
-        frame: 1,
-        handler: 0,
-        mtop: 0,
-        ptop: 0,
-        ctop: RECORD,
-        state: 0,
-    };
-    registers::put_regs(bytes, first);
+    registers::put_regs(bytes, first());
     Answer::Ready
 }
 
