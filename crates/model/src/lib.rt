@@ -1,4 +1,5 @@
-// The types that all crates share. Document 01's chapter "Memory" and "Refused".
+// The types that all crates share. Regs is of document 01's chapter "Memory"; Value, Into, Put and Plan are of "The code file"; Answer is of
+// "Refused" and "Start, run, bench".
 
 // The words of a control record.
 pub const RECORD: usize = 5;

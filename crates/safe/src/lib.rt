@@ -1,1 +1,1 @@
-// Theorems about the machine's calls; they are in specs/.
+// No code: theorems in specs/. A sound state has what planning and settling a step ask for.

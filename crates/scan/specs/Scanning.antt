@@ -1,5 +1,5 @@
 -- The scan of the records: what is still to be scanned decides what all the records come to (`Going`), and at the end the marks are
--- those of all the instructions (`scanned-shows`).
+-- those of all the instructions (`Scanned.marks`; `marked-shows` in Marks.antt says what they show).
 use Prim.Native.Nat.{ℕ, zero, suc, _+_, _-_, _*_, _<_, _≤_}
 use mathlib.Core.Bool.{Bool, true, false, true≢false, not, _&&_}
 use mathlib.Core.List.{List, [], _∷_}

@@ -1,1 +1,1 @@
-// Theorems about the definitions; they are in specs/.
+// No code: the theorem in specs/ is demand 3 on calls.

@@ -1,4 +1,4 @@
-// The writes of a plan into the stacks and into a heap word: words popped, and a word stored.
+// The writes of a plan into the stacks and into a heap word: words popped, and a word stored. Also the end of a run.
 ghost use mathlib.Core.Path.{_≡_};
 ghost use mathlib.Core.Bool.{false};
 ghost use mathlib.Core.List.{List};

@@ -1,4 +1,4 @@
--- `records::copy` meets its contract: before each turn the words from start to i are copied.
+-- `control::copy` meets its contract: before each turn the words from start to i are copied.
 use mathlib.Core.Path.{_≡_, refl, ap, _∙_}
 use mathlib.Core.List.{List}
 use Prim.Native.Nat.{ℕ, _+_, _-_, _≤_}

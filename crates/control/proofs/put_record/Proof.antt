@@ -1,4 +1,4 @@
--- `records::put_record` meets its contract: five stores, one behind another.
+-- `control::put_record` meets its contract: five stores, one behind another.
 use mathlib.Core.Path.{_≡_}
 use Prim.Native.Nat.{suc, _+_}
 use native.Mathlib.Omega.{arith}
