@@ -167,6 +167,7 @@ plainly-state into.Nothing put m = refl
 plainly-state into.Main put m = refl
 plainly-state into.Pointer put m = refl
 plainly-state into.Heap put m = refl
+plainly-state into.Read put m = refl
 plainly-state into.Drop put m = refl
 plainly-state into.DropMain put m = refl
 plainly-state into.DropPointer put m = refl

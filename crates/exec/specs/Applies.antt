@@ -65,6 +65,7 @@ Suits f into.Nothing put m = FitsIn into.Nothing put m
 Suits f into.Main put m = FitsIn into.Main put m
 Suits f into.Pointer put m = FitsIn into.Pointer put m
 Suits f into.Heap put m = FitsIn into.Heap put m
+Suits f into.Read put m = FitsIn into.Read put m
 Suits f into.Drop put m = FitsIn into.Drop put m
 Suits f into.DropMain put m = FitsIn into.DropMain put m
 Suits f into.DropPointer put m = FitsIn into.DropPointer put m

@@ -13,7 +13,7 @@ use Rattle.model.specs.Control.{Machine, Rec, recOf, recordWords, mainBa
 use Rattle.model.specs.declared.Value.{Value}
 use Rattle.model.specs.declared.Value.the-variants.{Word, Outside}
 use Rattle.model.specs.declared.Into.{Into}
-use Rattle.model.specs.declared.Into.the-variants.{Nothing, Main, Pointer, Heap, Drop, DropMain, DropPointer, View, Frame, Return, Handler, Close}
+use Rattle.model.specs.declared.Into.the-variants.{Nothing, Main, Pointer, Heap, Read, Drop, DropMain, DropPointer, View, Frame, Return, Handler, Close}
 use Rattle.model.specs.declared.Put.{Put}
 use Rattle.model.specs.declared.Plan.{Plan}
 use Rattle.model.specs.declared.Plan.the-variants.{Write, Overflow, NilObject, BadField, HeapFull, NoRoom, Thrown}
@@ -56,7 +56,7 @@ basicPlan m q (assign onMain s) = write Main q (mtop m - 1) (ptop m) (mainBase m
 basicPlan m q (assign onPtr s) = write Pointer q (mtop m) (ptop m - 1) (ptrBase m + s) (ptrWord m 1)
 basicPlan m q (field onMain s) =
     onObject (ptrWord m 1) (inPlain (m .heap) (ptrWord m 1) s)
-    (write Main q (mtop m + 1) (ptop m - 1) (mtop m) (wordAt (m .heap) (ptrWord m 1 + s)))
+    (write Read q (mtop m + 1) (ptop m - 1) (mtop m) (wordAt (m .heap) (ptrWord m 1 + s)))
 basicPlan m q (field onPtr s) =
     onObject (ptrWord m 1) (inPtrs (m .heap) (ptrWord m 1) s)
     (write Pointer q (mtop m) (ptop m) (ptop m - 1) (wordAt (m .heap) (ptrWord m 1 + s)))
@@ -79,7 +79,7 @@ basicPlan m q (retract keepPtr k n) = write DropPointer q (mtop m - k) (ptop m -
 basicPlan m q (retract keepNone k n) = write Drop q (mtop m - k) (ptop m - n) 0 0
 basicPlan m q (binary o) =
     onValue (operate o (mainWord m 2) (mainWord m 1)) (λ w. write Main q (mtop m - 1) (ptop m) (mtop m - 2) w)
-basicPlan m q samePtr = write Main q (mtop m + 1) (ptop m - 2) (mtop m) (bit (eqb (ptrWord m 2) (ptrWord m 1)))
+basicPlan m q samePtr = write Read q (mtop m + 1) (ptop m - 2) (mtop m) (bit (eqb (ptrWord m 2) (ptrWord m 1)))
 basicPlan m q (unary o) = onValue (operate1 o (mainWord m 1)) (λ w. write Main q (mtop m) (ptop m) (mtop m - 1) w)
 
 -- a callee's bases: "its parameters become its frame's lowest words"; "a callee's x, y or five control words don't fit" is exception 5

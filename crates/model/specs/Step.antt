@@ -13,7 +13,7 @@ use Rattle.model.specs.Control.{Machine, machine, Rec, rec, recOf, putRe
 use Rattle.model.specs.Instructions.{planAt, mainWord}
 use Rattle.model.specs.declared.Regs.{Regs}
 use Rattle.model.specs.declared.Into.{Into}
-use Rattle.model.specs.declared.Into.the-variants.{Nothing, Main, Pointer, Heap, Drop, DropMain, DropPointer, View, Frame, Return, Handler, Close}
+use Rattle.model.specs.declared.Into.the-variants.{Nothing, Main, Pointer, Heap, Read, Drop, DropMain, DropPointer, View, Frame, Return, Handler, Close}
 use Rattle.model.specs.declared.Put.{Put}
 use Rattle.model.specs.declared.Plan.{Plan}
 use Rattle.model.specs.declared.Plan.the-variants.{Write, Overflow, NilObject, BadField, HeapFull, NoRoom, Thrown}
@@ -100,6 +100,7 @@ applyInto f Nothing p m = cutOnly p m
 applyInto f Main p m = mainSet p m
 applyInto f Pointer p m = ptrSet p m
 applyInto f Heap p m = machine (onward p m) (mainCut p m) (ptrCut p m) (m .ctl) (set (m .heap) (p .at) (p .word))
+applyInto f Read p m = mainSet p m
 applyInto f Drop p m = cutOnly p m
 applyInto f DropMain p m = mainSet p m
 applyInto f DropPointer p m = ptrSet p m

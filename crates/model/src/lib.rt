@@ -27,6 +27,7 @@ pub enum Into {
     Main, // a word of the main stack
     Pointer, // a word of the pointer stack
     Heap, // a word of the heap
+    Read, // a word of the main stack, read off pointers, which go
     Drop, // nothing; words of both stacks go, as many as the instruction says
     DropMain, // a word of the main stack, set aside while words of both stacks go
     DropPointer, // the same with a word of the pointer stack

@@ -81,7 +81,7 @@ fn plain_fields(file: &[u8], main: &[u32], ptr: &[u32], heap: &[u32], regs: Regs
     let at = object + s;
     if kind == 30 {
         return plans::writes(
-            Into::Main,
+            Into::Read,
             place + 3,
             regs.mtop + 1,
             top,
@@ -206,7 +206,7 @@ fn same_ptr(ptr: &[u32], regs: Regs) -> Plan
     let first = regs.ptop - 2;
     let word = words::eq_w(ptr[first], ptr[second]);
     plans::writes(
-        Into::Main,
+        Into::Read,
         regs.place + 1,
         regs.mtop + 1,
         first,

@@ -93,18 +93,18 @@ module _ {f table : List ℕ} {m : Machine} (Y : Ready f table m) (open-one : he
   basic-suits : (q : ℕ) (b : Basic) → At (basic b) → Suited (basicPlan m q b)
   unfolding basicPlan basicEffect effectOf
   basic-suits q (local onMain s) e =
-      let t = taken (basic (local onMain s)) e in (omega arith, gone 1 2 _ (omega arith) (omega arith))
+      let t = taken (basic (local onMain s)) e in (omega arith, gone 1 0 _ (omega arith) (omega arith))
   basic-suits q (local onPtr s) e =
       let t = taken (basic (local onPtr s)) e in (omega arith, gone 0 1 _ (omega arith) (omega arith))
   basic-suits q (assign onMain s) e =
-      let a = Y .assign-main s e in let b = Y .main-top in (omega arith, gone 1 2 _ (omega arith) (omega arith))
+      let a = Y .assign-main s e in let b = Y .main-top in (omega arith, gone 1 0 _ (omega arith) (omega arith))
   basic-suits q (assign onPtr s) e =
       let a = Y .assign-ptr s e in let b = Y .ptr-top in (omega arith, gone 0 1 _ (omega arith) (omega arith))
   basic-suits q (field onMain s) e =
       let t = taken (basic (field onMain s)) e in
       on-object (ptrWord m 1) (inPlain (m .heap) (ptrWord m 1) s)
-      (write into.Main q (mtop m + 1) (ptop m - 1) (mtop m) (wordAt (m .heap) (ptrWord m 1 + s)))
-      (λ u v. (omega arith, gone 1 2 _ (omega arith) (omega arith)))
+      (write into.Read q (mtop m + 1) (ptop m - 1) (mtop m) (wordAt (m .heap) (ptrWord m 1 + s)))
+      (λ u v. (omega arith, gone 0 2 _ (omega arith) (omega arith)))
   basic-suits q (field onPtr s) e =
       let t = taken (basic (field onPtr s)) e in
       on-object (ptrWord m 1) (inPtrs (m .heap) (ptrWord m 1) s)
@@ -125,7 +125,7 @@ module _ {f table : List ℕ} {m : Machine} (Y : Ready f table m) (open-one : he
       (λ u. let r = leb-true (markOf (m .heap) + (2 + k + l)) (length (m .heap)) u in
       record { words = omega arith; pointers = omega arith; below = omega arith; room = omega arith })
   basic-suits q (literal w) e =
-      let t = taken (basic (literal w)) e in (omega arith, gone 1 2 _ (omega arith) (omega arith))
+      let t = taken (basic (literal w)) e in (omega arith, gone 1 0 _ (omega arith) (omega arith))
   basic-suits q nil e = let t = taken (basic nil) e in (omega arith, gone 0 1 _ (omega arith) (omega arith))
   basic-suits q root e = let t = taken (basic root) e in (omega arith, gone 0 1 _ (omega arith) (omega arith))
   basic-suits q setRoot e = let h = Y .heap-least in (omega arith, gone 1 2 _ (omega arith) (omega arith))
@@ -141,13 +141,13 @@ module _ {f table : List ℕ} {m : Machine} (Y : Ready f table m) (open-one : he
   basic-suits q (binary o) e =
       let t = taken (basic (binary o)) e in
       on-value (operate o (mainWord m 2) (mainWord m 1)) (λ w. write into.Main q (mtop m - 1) (ptop m) (mtop m - 2) w)
-      (λ w. (omega arith, gone 1 2 _ (omega arith) (omega arith)))
+      (λ w. (omega arith, gone 1 0 _ (omega arith) (omega arith)))
   basic-suits q samePtr e =
-      let t = taken (basic samePtr) e in (omega arith, gone 1 2 _ (omega arith) (omega arith))
+      let t = taken (basic samePtr) e in (omega arith, gone 0 2 _ (omega arith) (omega arith))
   basic-suits q (unary o) e =
       let t = taken (basic (unary o)) e in
       on-value (operate1 o (mainWord m 1)) (λ w. write into.Main q (mtop m) (ptop m) (mtop m - 1) w)
-      (λ w. (omega arith, gone 1 2 _ (omega arith) (omega arith)))
+      (λ w. (omega arith, gone 1 0 _ (omega arith) (omega arith)))
 
   ins-suits : (x : Ins) → At x → Suited (planOf f m (after f (placeOf m)) x)
   unfolding planOf effectOf

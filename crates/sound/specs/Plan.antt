@@ -70,6 +70,7 @@ module _ (f map : List ℕ) (m : Machine) (os : List ℕ) (i j : ℕ) where
   Written into.Nothing put = Unit {0}
   Written into.Main put = put .at < put .mtop
   Written into.Pointer put = (put .at < put .ptop) × Pointer os (put .word)
+  Written into.Read put = put .at < put .mtop
   Written into.Drop put = Unit {0}
   Written into.DropMain put = put .at < put .mtop
   Written into.DropPointer put = (put .at < put .ptop) × Pointer os (put .word)
@@ -206,7 +207,7 @@ module _ (f map : List ℕ) (m : Machine) (os : List ℕ) (i j : ℕ) where
     basic-fits (assign onPtr s) e = fits (onwards (assign onPtr s) _ e refl (omega arith) (omega arith)) (assign-ptr s e, pointer _)
     basic-fits (field onMain s) e =
         on-object (ptrWord m 1) (inPlain (m .heap) (ptrWord m 1) s)
-        (write into.Main next (mtop m + 1) (ptop m - 1) (mtop m) (wordAt (m .heap) (ptrWord m 1 + s)))
+        (write into.Read next (mtop m + 1) (ptop m - 1) (mtop m) (wordAt (m .heap) (ptrWord m 1 + s)))
         (λ u v. fits (onwards (field onMain s) _ e refl (omega arith) (omega arith)) (omega arith))
     basic-fits (field onPtr s) e =
         let a = above (basic (field onPtr s)) e in

@@ -104,6 +104,7 @@ module _ (f map : List ℕ) (L : CodeLaws f map) (m : Machine) (os : List ℕ) (
     kept-plain into.Nothing W = kept-cut
     kept-plain into.Main W = kept-main W
     kept-plain into.Pointer W = kept-ptr (W .0) (W .1)
+    kept-plain into.Read W = kept-main W
     kept-plain into.Drop W = kept-cut
     kept-plain into.DropMain W = kept-main W
     kept-plain into.DropPointer W = kept-ptr (W .0) (W .1)

@@ -18,16 +18,16 @@ use Rattle.writes.specs.Asks.{Fits, Plain, Retract, Drops, Dropping, InM
 
 -- all but DropMain and DropPointer: no word is put back
 abbrev noneAside : List ℕ
-noneAside = 0 ∷ 1 ∷ 2 ∷ 3 ∷ 4 ∷ 7 ∷ 8 ∷ 9 ∷ 10 ∷ 11 ∷ []
+noneAside = 0 ∷ 1 ∷ 2 ∷ 3 ∷ 4 ∷ 5 ∷ 8 ∷ 9 ∷ 10 ∷ 11 ∷ 12 ∷ []
 
 pub none-aside : (i : Into) (put : Put) (m : Machine) → OneOf noneAside (tagOf made.the-type i) → Retract i → cutOnly put m ≡ plainly i put m
 none-aside i put m k (inl e) = rw e
-none-aside i put m k (inr (inl e)) = absurd (miss noneAside 5 tt (rw e at k))
-none-aside i put m k (inr (inr e)) = absurd (miss noneAside 6 tt (rw e at k))
+none-aside i put m k (inr (inl e)) = absurd (miss noneAside 6 tt (rw e at k))
+none-aside i put m k (inr (inr e)) = absurd (miss noneAside 7 tt (rw e at k))
 
--- all but Nothing, Main, Pointer and Heap: of these only the retracts are plain writes
+-- all but Nothing, Main, Pointer, Heap and Read: of these only the retracts are plain writes
 abbrev others : List ℕ
-others = 4 ∷ 5 ∷ 6 ∷ 7 ∷ 8 ∷ 9 ∷ 10 ∷ 11 ∷ []
+others = 5 ∷ 6 ∷ 7 ∷ 8 ∷ 9 ∷ 10 ∷ 11 ∷ 12 ∷ []
 
 record Drop (i : Into) (lm lp : ℕ) (r : Regs) (put : Put) : Type 0 where
   retract : Retract i
@@ -44,6 +44,7 @@ drop into.Nothing lm lp lh r put k F = absurd (miss others 0 tt k)
 drop into.Main lm lp lh r put k F = absurd (miss others 1 tt k)
 drop into.Pointer lm lp lh r put k F = absurd (miss others 2 tt k)
 drop into.Heap lm lp lh r put k F = absurd (miss others 3 tt k)
+drop into.Read lm lp lh r put k F = absurd (miss others 4 tt k)
 drop into.Drop lm lp lh r put k F =
     record {
       retract = inl refl;

@@ -26,9 +26,10 @@ pub record Drops (r : Regs) (put : Put) : Type 0 where
 -- a write into a list of the stacks or the heap, whose lengths are lm, lp and lh: the word lies in it, and so many words go at most
 abbrev pub Fits : Into → ℕ → ℕ → ℕ → Regs → Put → Type 0
 Fits into.Nothing lm lp lh r put = Pops 1 0 r put
-Fits into.Main lm lp lh r put = (put .at < lm) × Pops 1 2 r put
+Fits into.Main lm lp lh r put = (put .at < lm) × Pops 1 0 r put
 Fits into.Pointer lm lp lh r put = (put .at < lp) × Pops 0 1 r put
 Fits into.Heap lm lp lh r put = (put .at < lh) × Pops 1 2 r put
+Fits into.Read lm lp lh r put = (put .at < lm) × Pops 0 2 r put
 Fits into.Drop lm lp lh r put = Drops r put
 Fits into.DropMain lm lp lh r put = (put .at < lm) × Drops r put
 Fits into.DropPointer lm lp lh r put = (put .at < lp) × Drops r put
@@ -70,6 +71,7 @@ plainly into.Nothing p m = cutOnly p m
 plainly into.Main p m = mainSet p m
 plainly into.Pointer p m = ptrSet p m
 plainly into.Heap p m = machine (onward p m) (mainCut p m) (ptrCut p m) (m .ctl) (set (m .heap) (p .at) (p .word))
+plainly into.Read p m = mainSet p m
 plainly into.Drop p m = cutOnly p m
 plainly into.DropMain p m = mainSet p m
 plainly into.DropPointer p m = ptrSet p m

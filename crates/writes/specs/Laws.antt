@@ -21,6 +21,10 @@ module _ (put : Put) (m : Machine) (main ptr : List ℕ) (em : main ≡ mainCut 
       machine (onwards put (m .regs)) (set main (put .at) (put .word)) ptr (m .ctl) (m .heap) ≡ plainly (put .into) put m
   main-plainly e = rw (e, em, ep)
 
+  pub read-plainly : put .into ≡ into.Read →
+      machine (onwards put (m .regs)) (set main (put .at) (put .word)) ptr (m .ctl) (m .heap) ≡ plainly (put .into) put m
+  read-plainly e = rw (e, em, ep)
+
   pub ptr-plainly : put .into ≡ into.Pointer →
       machine (onwards put (m .regs)) main (set ptr (put .at) (put .word)) (m .ctl) (m .heap) ≡ plainly (put .into) put m
   ptr-plainly e = rw (e, em, ep)

@@ -152,7 +152,6 @@ pub fn plain(main: &mut [u32], ptr: &mut [u32], heap: &mut [u32], regs: Regs, pu
         }
         Into::Main => {
             pop_one(main, put.mtop, regs.mtop);
-            pop_two(ptr, put.ptop, regs.ptop);
             main[at] = put.word;
             true
         }
@@ -165,6 +164,11 @@ pub fn plain(main: &mut [u32], ptr: &mut [u32], heap: &mut [u32], regs: Regs, pu
             pop_one(main, put.mtop, regs.mtop);
             pop_two(ptr, put.ptop, regs.ptop);
             heap[at] = put.word;
+            true
+        }
+        Into::Read => {
+            pop_two(ptr, put.ptop, regs.ptop);
+            main[at] = put.word;
             true
         }
         _ => drop_few(main, ptr, regs, put),

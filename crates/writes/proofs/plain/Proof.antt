@@ -4,7 +4,7 @@ use native.Mathlib.Omega.{arith}
 use Rattle.model.specs.Control.{machine}
 use Rattle.sound.specs.Lists.{length-cut}
 use Rattle.writes.specs.Lists.{cut-above}
-use Rattle.writes.specs.Laws.{nothing-plainly, main-plainly, ptr-plainly, heap-plainly, fits-at}
+use Rattle.writes.specs.Laws.{nothing-plainly, main-plainly, read-plainly, ptr-plainly, heap-plainly, fits-at}
 use Rattle.writes.proofs.Tags.{dropping}
 use borrow.Author.Needs.{needs}
 use Rattle.writes.proofs.plain.Statement.{statement}
@@ -24,17 +24,13 @@ pop-one-requires-2 : tie.Need-pop-one-requires-2
 pop-one-requires-2 c κs =
     let S = c .before .before .before .before .before .before in (S .pre .main-top, fits-at _ (S .args .main .now) (S .args .ptr .now) (S .args .regs) (S .args .put) (S .pre) (c .before .enum-told2 .given .1) .1 .main)
 
-pop-two-requires : tie.Need-pop-two-requires
-pop-two-requires c κs =
-    let S = c .before .before .before .before .before .before .before .before .before .before in (S .pre .ptr-top, fits-at _ (S .args .main .now) (S .args .ptr .now) (S .args .regs) (S .args .put) (S .pre) (c .before .before .before .before .before .enum-told2 .given .1) .1 .ptr)
-
 mul-main : tie.Need-mul-main
 mul-main c =
-    let S = c .before .before .before .before .before .before .before .before .before .before .before .before .before in omega (arith, fits-at _ (S .args .main .now) (S .args .ptr .now) (S .args .regs) (S .args .put) (S .pre) (c .before .before .before .before .before .before .before .before .enum-told2 .given .1) .0)
+    let S = c .before .before .before .before .before .before .before .before .before in omega (arith, fits-at _ (S .args .main .now) (S .args .ptr .now) (S .args .regs) (S .args .put) (S .pre) (c .before .before .before .before .enum-told2 .given .1) .0)
 
 slice-write-main : tie.Need-slice-write-main
 slice-write-main c =
-    let S = c .before .before .before .before .before .before .before .before .before .before .before .before .before in rw (c .before .before .before .before .before .before .pop-one2 .ensures, length-cut) (fits-at _ (S .args .main .now) (S .args .ptr .now) (S .args .regs) (S .args .put) (S .pre) (c .before .before .before .before .before .before .before .before .enum-told2 .given .1) .0)
+    let S = c .before .before .before .before .before .before .before .before .before in rw (c .before .before .pop-one2 .ensures, length-cut) (fits-at _ (S .args .main .now) (S .args .ptr .now) (S .args .regs) (S .args .put) (S .pre) (c .before .before .before .before .enum-told2 .given .1) .0)
 
 enum-told-3 : tie.Need-enum-told-3
 enum-told-3 c = search needs
@@ -58,8 +54,8 @@ pop-one-requires-4 : tie.Need-pop-one-requires-4
 pop-one-requires-4 c κs =
     let S = c .before .before .before .before .before .before in (S .pre .main-top, fits-at _ (S .args .main .now) (S .args .ptr .now) (S .args .regs) (S .args .put) (S .pre) (c .before .enum-told4 .given .1) .1 .main)
 
-pop-two-requires-2 : tie.Need-pop-two-requires-2
-pop-two-requires-2 c κs =
+pop-two-requires : tie.Need-pop-two-requires
+pop-two-requires c κs =
     let S = c .before .before .before .before .before .before .before .before .before .before in (S .pre .ptr-top, fits-at _ (S .args .main .now) (S .args .ptr .now) (S .args .regs) (S .args .put) (S .pre) (c .before .before .before .before .before .enum-told4 .given .1) .1 .ptr)
 
 mul-heap : tie.Need-mul-heap
@@ -70,9 +66,24 @@ slice-write-heap : tie.Need-slice-write-heap
 slice-write-heap c =
     let S = c .before .before .before .before .before .before .before .before .before .before .before .before .before in fits-at _ (S .args .main .now) (S .args .ptr .now) (S .args .regs) (S .args .put) (S .pre) (c .before .before .before .before .before .before .before .before .enum-told4 .given .1) .0
 
+enum-told-5 : tie.Need-enum-told-5
+enum-told-5 c = search needs
+
+pop-two-requires-2 : tie.Need-pop-two-requires-2
+pop-two-requires-2 c κs =
+    let S = c .before .before .before .before .before .before in (S .pre .ptr-top, fits-at _ (S .args .main .now) (S .args .ptr .now) (S .args .regs) (S .args .put) (S .pre) (c .before .enum-told5 .given .1) .1 .ptr)
+
+mul-main-2 : tie.Need-mul-main-2
+mul-main-2 c =
+    let S = c .before .before .before .before .before .before .before .before .before in omega (arith, fits-at _ (S .args .main .now) (S .args .ptr .now) (S .args .regs) (S .args .put) (S .pre) (c .before .before .before .before .enum-told5 .given .1) .0)
+
+slice-write-main-2 : tie.Need-slice-write-main-2
+slice-write-main-2 c =
+    let S = c .before .before .before .before .before .before .before .before .before in fits-at _ (S .args .main .now) (S .args .ptr .now) (S .args .regs) (S .args .put) (S .pre) (c .before .before .before .before .enum-told5 .given .1) .0
+
 drop-few-requires : tie.Need-drop-few-requires
 drop-few-requires c κs =
-    let S = c .before .before .before .before .before .before in dropping _ (S .args .main .now) (S .args .ptr .now) (S .args .regs) (S .args .put) (S .pre) (c .before .before .match .keys5)
+    let S = c .before .before .before .before .before .before in dropping _ (S .args .main .now) (S .args .ptr .now) (S .args .regs) (S .args .put) (S .pre) (c .before .before .match .keys6)
 
 same-length : tie.Need-same-length
 same-length c = search needs
@@ -86,16 +97,14 @@ returns c =
 same-length-2 : tie.Need-same-length-2
 same-length-2 c = search needs
 
-same-length-3 : tie.Need-same-length-3
-same-length-3 c = search needs
-
 returns-2 : tie.Need-returns-2
 returns-2 c =
-    let S = c .before .before .before .before .before .before .before .before .before .before .before .before .before in
-    (λ ctl. main-plainly (S .args .put) (machine (S .args .regs) (S .args .main .now) (S .args .ptr .now) ctl (S .args .heap .now)) _ _ (c .before .before .before .before .before .before .pop-one2 .ensures) (c .before .before .pop-two .ensures) (c .before .before .before .before .before .before .before .before .enum-told2 .given .1), λ e. absurd (true≢false e))
+    let S = c .before .before .before .before .before .before .before .before .before in
+    let u = fits-at _ (S .args .main .now) (S .args .ptr .now) (S .args .regs) (S .args .put) (S .pre) (c .before .before .before .before .enum-told2 .given .1) .1 .ptr in
+    (λ ctl. main-plainly (S .args .put) (machine (S .args .regs) (S .args .main .now) (S .args .ptr .now) ctl (S .args .heap .now)) _ _ (c .before .before .pop-one2 .ensures) (cut-above _ _ _ (omega arith) (S .pre .ptr-top)) (c .before .before .before .before .enum-told2 .given .1), λ e. absurd (true≢false e))
 
-same-length-4 : tie.Need-same-length-4
-same-length-4 c = search needs
+same-length-3 : tie.Need-same-length-3
+same-length-3 c = search needs
 
 returns-3 : tie.Need-returns-3
 returns-3 c =
@@ -103,30 +112,42 @@ returns-3 c =
     let u = fits-at _ (S .args .main .now) (S .args .ptr .now) (S .args .regs) (S .args .put) (S .pre) (c .before .before .before .before .enum-told3 .given .1) .1 .main in
     (λ ctl. ptr-plainly (S .args .put) (machine (S .args .regs) (S .args .main .now) (S .args .ptr .now) ctl (S .args .heap .now)) _ _ (cut-above _ _ _ (omega arith) (S .pre .main-top)) (c .before .before .pop-one3 .ensures) (c .before .before .before .before .enum-told3 .given .1), λ e. absurd (true≢false e))
 
+same-length-4 : tie.Need-same-length-4
+same-length-4 c = search needs
+
 same-length-5 : tie.Need-same-length-5
 same-length-5 c = search needs
 
 same-length-6 : tie.Need-same-length-6
 same-length-6 c = search needs
 
-same-length-7 : tie.Need-same-length-7
-same-length-7 c = search needs
-
 returns-4 : tie.Need-returns-4
 returns-4 c =
     let S = c .before .before .before .before .before .before .before .before .before .before .before .before .before in
-    (λ ctl. heap-plainly (S .args .put) (machine (S .args .regs) (S .args .main .now) (S .args .ptr .now) ctl (S .args .heap .now)) _ _ (c .before .before .before .before .before .before .pop-one4 .ensures) (c .before .before .pop-two2 .ensures) (c .before .before .before .before .before .before .before .before .enum-told4 .given .1), λ e. absurd (true≢false e))
+    (λ ctl. heap-plainly (S .args .put) (machine (S .args .regs) (S .args .main .now) (S .args .ptr .now) ctl (S .args .heap .now)) _ _ (c .before .before .before .before .before .before .pop-one4 .ensures) (c .before .before .pop-two .ensures) (c .before .before .before .before .before .before .before .before .enum-told4 .given .1), λ e. absurd (true≢false e))
+
+same-length-7 : tie.Need-same-length-7
+same-length-7 c = search needs
 
 same-length-8 : tie.Need-same-length-8
 same-length-8 c = search needs
 
+returns-5 : tie.Need-returns-5
+returns-5 c =
+    let S = c .before .before .before .before .before .before .before .before .before in
+    let u = fits-at _ (S .args .main .now) (S .args .ptr .now) (S .args .regs) (S .args .put) (S .pre) (c .before .before .before .before .enum-told5 .given .1) .1 .main in
+    (λ ctl. read-plainly (S .args .put) (machine (S .args .regs) (S .args .main .now) (S .args .ptr .now) ctl (S .args .heap .now)) _ _ (cut-above _ _ _ (omega arith) (S .pre .main-top)) (c .before .before .pop-two2 .ensures) (c .before .before .before .before .enum-told5 .given .1), λ e. absurd (true≢false e))
+
 same-length-9 : tie.Need-same-length-9
 same-length-9 c = search needs
 
-returns-5 : tie.Need-returns-5
-returns-5 c =
+same-length-10 : tie.Need-same-length-10
+same-length-10 c = search needs
+
+returns-6 : tie.Need-returns-6
+returns-6 c =
     let S = c .before .before .before .before .before .before .before .before .before .before .before in
-    (λ ctl. c .before .before .before .before .drop-few .ensures ctl (S .args .heap .now), λ e. dropping _ (S .args .main .now) (S .args .ptr .now) (S .args .regs) (S .args .put) (S .pre) (c .before .before .before .before .before .before .before .match .keys5) .retract)
+    (λ ctl. c .before .before .before .before .drop-few .ensures ctl (S .args .heap .now), λ e. dropping _ (S .args .main .now) (S .args .ptr .now) (S .args .regs) (S .args .put) (S .pre) (c .before .before .before .before .before .before .before .match .keys6) .retract)
 
 pub plain-spec : {M : Type 1} → statement M
 plain-spec =
@@ -136,7 +157,6 @@ plain-spec =
     pop-one-requires
     enum-told-2
     pop-one-requires-2
-    pop-two-requires
     mul-main
     slice-write-main
     enum-told-3
@@ -145,21 +165,27 @@ plain-spec =
     slice-write-ptr
     enum-told-4
     pop-one-requires-4
-    pop-two-requires-2
+    pop-two-requires
     mul-heap
     slice-write-heap
+    enum-told-5
+    pop-two-requires-2
+    mul-main-2
+    slice-write-main-2
     drop-few-requires
     same-length
     returns
     same-length-2
-    same-length-3
     returns-2
-    same-length-4
+    same-length-3
     returns-3
+    same-length-4
     same-length-5
     same-length-6
-    same-length-7
     returns-4
+    same-length-7
     same-length-8
+    returns-5
     same-length-9
-    returns-5)
+    same-length-10
+    returns-6)
