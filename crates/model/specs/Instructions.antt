@@ -47,8 +47,8 @@ onValue Outside plan = Overflow
 -- an instruction that works on words, with q the next place. In the order of the table:
 -- 20, 21 "push word s of the frame"; 22, 23 "pop, store in word s"; 30, 31 "pop object, push its word s"; 32, 33 "pop object, then
 -- pop value, store in word s"; 36 "pop that many words, pointers; push a new view of them", 4 if "the heap has too few free words"; 54, 56, 57;
--- 58 "push heap word 1", 59 "pop into it"; 60, 62, 64 "set the top aside (not 64), drop main and pointer words, put it back"; 130,
--- 140 to 143, 145, 195 to 204 "pop B, pop A, push A op B"; 144, 146 on one word; 131 compares two pointers
+-- 58 "push heap word 1", 59 "pop into it"; 60, 62, 64 "set the top aside (not 64), drop main and pointer words, put it back";
+-- 140 to 143, 145 "pop B, pop A, push A op B"; 130, 195 to 204 push 1 or 0; 144, 146 on one word; 131 compares two pointers
 unfoldable pub basicPlan : Machine → ℕ → Basic → Plan
 basicPlan m q (local onMain s) = write Main q (mtop m + 1) (ptop m) (mtop m) (wordAt (m .main) (mainBase m + s))
 basicPlan m q (local onPtr s) = write Pointer q (mtop m) (ptop m + 1) (ptop m) (wordAt (m .ptr) (ptrBase m + s))

@@ -23,7 +23,8 @@ pub record Drops (r : Regs) (put : Put) : Type 0 where
   pub main : put .mtop ≤ r .mtop
   pub ptr : put .ptop ≤ r .ptop
 
--- a write into a list of the stacks or the heap, whose lengths are lm, lp and lh: the word lies in it, and so many words go at most
+-- a write into a list of the stacks or the heap, whose lengths are lm, lp and lh: the word lies in it, and so many words go at most;
+-- of a retract only that none is added
 abbrev pub Fits : Into → ℕ → ℕ → ℕ → Regs → Put → Type 0
 Fits into.Nothing lm lp lh r put = Pops 1 0 r put
 Fits into.Main lm lp lh r put = (put .at < lm) × Pops 1 0 r put

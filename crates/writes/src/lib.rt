@@ -136,8 +136,8 @@ fn drop_few(main: &mut [u32], ptr: &mut [u32], regs: Regs, put: Put) -> bool
     true
 }
 
-// The stacks are cut, and a word is written into one of them or into the heap; or nothing is done, where many words would be dropped.
-// Each arm pops by itself: a plan made with a known `into` then jumps to its arm, and an arm has no test of what its instructions never do.
+// The stacks are cut, and a word, or none, is written into one of them or into the heap; or nothing is done, where many words would be dropped.
+// Each arm pops by itself: a plan made with a known `into` then jumps to its arm, which looks at no stack that its instructions leave alone.
 pub fn plain(main: &mut [u32], ptr: &mut [u32], heap: &mut [u32], regs: Regs, put: Put) -> bool
     requires { ⌜ Plain (length (now heap)) (now main) (now ptr) regs put ⌝ }
     ensures state { λ r. ⌜ ((ctl : List ℕ) → machine (triedOn r put regs) (now (main .exit)) (now (ptr .exit)) ctl (now (heap .exit)) ≡ tried r (put .into) put (machine regs (now (main .entry)) (now (ptr .entry)) ctl (now (heap .entry)))) ⌝ }
