@@ -1,5 +1,4 @@
--- Registers as bytes: seven words stored one after the other are all the bytes, and 28 bytes that are read as words and stored again
--- are the same, since the digits of a sum of four bytes are these.
+-- Registers as bytes: seven words stored one after the other are all the bytes.
 use Prim.Native.Nat.{ℕ, suc, _+_, _*_, _/_, _%_, _<_, _≤_}
 use mathlib.Core.Path.{_≡_, refl, ap, sym, _∙_}
 use mathlib.Core.List.{List, [], _∷_, _++_}
@@ -55,46 +54,3 @@ registers-stored b₀ b₁ b₂ b₃ b₄ b₅ b₆ b₇ r h s₀ s₁ s₂ s₃
   where
     on : (w : ℕ) {x y : List ℕ} → x ≡ y → x ++ bytesOf w ≡ y ++ bytesOf w
     on w e = ap (λ (l : List ℕ). l ++ bytesOf w) e
-
--- the four digits of a sum of four bytes
-digits : (a b c d : ℕ) → a < 256 → b < 256 → c < 256 → d < 256 →
-    bytesOf (a * 16777216 + b * 65536 + c * 256 + d) ≡ a ∷ b ∷ c ∷ d ∷ []
-digits a b c d ha hb hc hd =
-    let w = a * 16777216 + b * 65536 + c * 256 + d in
-    let x : w / 16777216 % 256 ≡ a = omega arith in
-    let y : w / 65536 % 256 ≡ b = omega arith in
-    let z : w / 256 % 256 ≡ c = omega arith in
-    let v : w % 256 ≡ d = omega arith in
-    λ i. x i ∷ y i ∷ z i ∷ v i ∷ []
-
-module _ (b : List ℕ) (long : length b ≡ registerBytes) (small : (i : ℕ) → wordAt b i < 256) where
-  word-back : (i : ℕ) → i < 7 → bytesOf (wordFrom b i) ≡ take 4 (drop (4 * i) b)
-  unfolding wordFrom
-  word-back i h =
-      digits (wordAt b (4 * i)) (wordAt b (4 * i + 1)) (wordAt b (4 * i + 2)) (wordAt b (4 * i + 3)) (small (4 * i)) (small (4 * i + 1))
-      (small (4 * i + 2))
-      (small (4 * i + 3))
-      ∙ sym four
-    where
-      four : take 4 (drop (4 * i) b) ≡ wordAt b (4 * i) ∷ wordAt b (4 * i + 1) ∷ wordAt b (4 * i + 2) ∷ wordAt b (4 * i + 3) ∷ []
-      four =
-          let two : 4 * i + 2 ≡ suc (suc (4 * i)) = omega arith in
-          let three : 4 * i + 3 ≡ suc (suc (suc (4 * i))) = omega arith in
-          rw (add-one (4 * i), two, three)
-          (simp (
-            drop-cons b (4 * i) 0 (omega arith),
-            drop-cons b (suc (4 * i)) 0 (omega arith),
-            drop-cons b (suc (suc (4 * i))) 0 (omega arith),
-            drop-cons b (suc (suc (suc (4 * i)))) 0 (omega arith),
-          ))
-
-  more : (x : List ℕ) (i : ℕ) → i < 7 → x ≡ take (4 * i) b → x ++ bytesOf (wordFrom b i) ≡ take (4 * i + 4) b
-  more x i h e = (λ j. e j ++ word-back i h j) ∙ sym (take-add (4 * i) 4 b)
-
-  pub bytes-back : regBytes (regsFrom b) ≡ b
-  unfolding regBytes regsFrom
-  bytes-back =
-      more _ 6 (omega arith)
-      (more _ 5 (omega arith)
-      (more _ 4 (omega arith) (more _ 3 (omega arith) (more _ 2 (omega arith) (more _ 1 (omega arith) (more [] 0 (omega arith) refl))))))
-      ∙ take-all 28 b (omega arith)

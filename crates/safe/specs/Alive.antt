@@ -22,17 +22,13 @@ use Rattle.sound.specs.Tests.{pointer-true}
 use Rattle.sound.specs.Laws.{CodeLaws, code-laws}
 use Rattle.sound.specs.Sound.{Running, Sound, Audited, sound-with, sound?-true}
 use Rattle.sound.specs.Steps.{step-keeps}
-use Rattle.sound.specs.Registers.{Small, sound-small}
 use Rattle.heap.specs.Audited.{heap-clean}
 use Rattle.theory.specs.Demand.{heap-laws}
 
 -- the lists' lengths: refusal 10
 pub record Sizes (f : List ℕ) (m : Machine) : Type 0 where
-  pub main-least : 1 ≤ length (m .main)
   pub main-most : length (m .main) ≤ mainMost
-  pub ptr-least : 1 ≤ length (m .ptr)
   pub ptr-most : length (m .ptr) ≤ ptrMost
-  pub ctl-least : recordWords ≤ length (m .ctl)
   pub ctl-most : length (m .ctl) ≤ ctlMost
   pub heap-least : 2 ≤ length (m .heap)
   pub heap-most : length (m .heap) ≤ heapMost
@@ -66,11 +62,8 @@ alive-run l map₀ table os r B P H T c s =
       placed = H;
       sizes =
           record {
-            main-least = omega arith;
             main-most = omega arith;
-            ptr-least = omega arith;
             ptr-most = omega arith;
-            ctl-least = omega arith;
             ctl-most = omega arith;
             heap-least = omega arith;
             heap-most = omega arith;
@@ -112,11 +105,8 @@ module _ {f map table : List ℕ} {m : Machine} (A : Alive f map table m) where
         placed = A .placed;
         sizes =
             record {
-              main-least = omega arith;
               main-most = omega arith;
-              ptr-least = omega arith;
               ptr-most = omega arith;
-              ctl-least = omega arith;
               ctl-most = omega arith;
               heap-least = omega arith;
               heap-most = omega arith;
