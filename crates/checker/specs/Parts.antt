@@ -1,22 +1,22 @@
 -- The checker's answer and map from those of its passes: the part of the map that is the file's is overwritten, the rest is kept.
 use Prim.Native.Nat.{ℕ, zero, suc, _+_, _-_, _*_, _<_, _≤_}
 use mathlib.Core.Bool.{Bool, true, false, true≢false}
-use mathlib.Core.Logic.{_⊎_, inl, inr}
-use mathlib.Core.List.{List, [], _∷_, _++_}
+use mathlib.Core.Logic.{inl}
+use mathlib.Core.List.{List, [], _++_}
 use mathlib.Core.Path.{_≡_, refl, ap, sym, _∙_}
 use native.Mathlib.Omega.{arith}
 use lib.Dec.{leb, eqb}
-use lib.ListN.{length, drop, replicate, length-replicate}
+use lib.ListN.{length, drop, replicate}
 use borrow.Author.Tests.{le-leb, lt-leb}
-use Rattle.model.specs.Choice.{if_then_else_, Mem}
-use Rattle.model.specs.File.{byteAt, Records, broken, starts, recordsOf, startsIn, Heads, wrong, right, headsOf, headOf, entry, procs, paramsMain, paramsPtr}
-use Rattle.model.specs.Checker.{none, Known, stateAt, isSet, Result, refused, passed, flow, firsts, first, mapFrom}
-use Rattle.model.specs.Calls.{mapSize, overMap, wiped, Verdict, pass, refuse, flowed, headed, scanned, verdictOf, Checked, checked, answered, checkOf}
+use Rattle.model.specs.Choice.{if_then_else_}
+use Rattle.model.specs.File.{byteAt, Records, broken, starts, recordsOf, wrong, right, headsOf, headOf, entry, procs, paramsMain, paramsPtr}
+use Rattle.model.specs.Checker.{none, Known, stateAt, isSet, refused, passed, flow, firsts, first, mapFrom}
+use Rattle.model.specs.Calls.{overMap, wiped, pass, refuse, scanned, verdictOf, checked, answered, checkOf}
 use Rattle.exact.specs.Walk.{heads-right, walk, walk-above, after-above}
 use Rattle.scan.specs.Marks.{Shows, marked, marked-shows}
 use Rattle.scan.specs.Scanning.{foundOf, Scanned}
-use Rattle.scan.specs.Heading.{Marked, Placed, Headed}
-use Rattle.flow.specs.Takes.{Good, Fit}
+use Rattle.scan.specs.Heading.{Marked, Placed}
+use Rattle.flow.specs.Takes.{Fit}
 use Rattle.flow.specs.Flowing.{Begun, Flowed}
 use Rattle.scan.specs.declared.Found.{Found}
 use Rattle.scan.specs.declared.Found.the-variants.{Broken, Whole}

@@ -1,7 +1,7 @@
 -- The six bytes of a procedure head as a value, and that they are the numbers that the model gives its procedure.
 use Prim.Native.Nat.{ℕ, _+_, _<_}
 use mathlib.Core.List.{List}
-use mathlib.Core.Path.{_≡_, refl}
+use mathlib.Core.Path.{_≡_}
 use Rattle.model.specs.File.{byteAt, headOf, paramsMain, paramsPtr, resultsMain, resultsPtr, mostMain, mostPtr}
 use Rattle.code.specs.declared.Head.{Head}
 

@@ -1,12 +1,10 @@
 -- The checker is exact: the statements of demand 2 (second sentence) and demand 3 (last two sentences), as the model has them.
 use Prim.Native.Nat.{ℕ}
 use mathlib.Core.List.{List}
-use mathlib.Core.Logic.{_↔_}
-use mathlib.Core.Path.{_≡_}
-use Rattle.model.specs.Claim.{Bytes, InOrder, MapKeeps, MapAlone, RefusedExactly, RightCode, PassedExactly}
+use Rattle.model.specs.Claim.{InOrder, MapKeeps, MapAlone, RefusedExactly, PassedExactly}
 use Rattle.model.specs.Rules.{Assignment, Keeps}
 use Rattle.exact.specs.Walk.{heads-right, right-heads}
-use Rattle.exact.specs.Exact.{Formed, Right, passed-keeps, keeps-unique, refused-exactly, passes-exactly}
+use Rattle.exact.specs.Exact.{Formed, passed-keeps, keeps-unique, refused-exactly, passes-exactly}
 
 formed : (f : List ℕ) → InOrder f → Formed f
 formed f o = record { some = o .some; most = o .few; places = o .places; records = o .records; heads = heads-right f (o .heads) }

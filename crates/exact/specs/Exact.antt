@@ -10,9 +10,9 @@ use lib.Dec.{leb}
 use lib.ListN.{length, getD, drop, length-append, length-drop, List·getD-append}
 use lib.Seq.{drop-at}
 use borrow.Author.Tests.{leb-true, le-leb}
-use Rattle.model.specs.Choice.{if_then_else_, All, Mem}
-use Rattle.model.specs.File.{fileMost, Records, broken, starts, recordsOf, Heads, wrong, right, headsOf, instructions, insAt}
-use Rattle.model.specs.Checker.{none, state, unset, Known, stateAt, Result, refused, passed, targetTests, flow, mapFrom}
+use Rattle.model.specs.Choice.{if_then_else_, Mem}
+use Rattle.model.specs.File.{fileMost, Records, broken, starts, recordsOf, Heads, wrong, right, headsOf, instructions}
+use Rattle.model.specs.Checker.{none, state, unset, Known, stateAt, Result, refused, passed, flow, mapFrom}
 use Rattle.model.specs.Rules.{Assignment, Keeps}
 use Rattle.model.specs.Sound.{mainAt, ptrAt, innerAt}
 use Rattle.model.specs.Calls.{mapSize, overMap, wiped, Verdict, pass, refuse, flowed, headed, scanned, verdictOf}

@@ -3,7 +3,7 @@
 -- because each state comes from an earlier instruction of the same procedure.
 use Prim.Native.Nat.{ℕ, zero, suc, _+_, _<_, _≤_}
 use mathlib.Core.Bool.{Bool, true, false, true≢false, _&&_}
-use mathlib.Core.List.{List, [], _∷_}
+use mathlib.Core.List.{List}
 use mathlib.Core.Logic.{_⊎_, inl, inr}
 use mathlib.Core.Path.{_≡_, refl, ap, sym, _∙_, subst}
 use native.Mathlib.Decide.{ℕ-discrete}
@@ -12,7 +12,7 @@ use lib.Dec.{eqb}
 use borrow.Author.Tests.{eqb-true, eqb-false, ne-eqb}
 use Rattle.model.specs.Choice.{if_then_else_, all, All, all-true, true-all, Mem, member}
 use Rattle.model.specs.File.{byteAt, Ins, basic, jump, branch, branchKeep, call, return, enter, exit, raise, insOf, insAt, starts, recordsOf, procs, headOf, entry, procAt, instructions, paramsMain, mostMain, mostPtr, headTests}
-use Rattle.model.specs.Checker.{none, State, unset, isSet, sameState, Known, stateAt, first, firsts, effectOf, goesOn, passes, own, targetTests, nextTests, depthTests, leaveTests, Step, bad, next, refused, passed, need, meet, andThen, goOn, passOne, passAll, takeWith, take, takeAll, flow}
+use Rattle.model.specs.Checker.{none, State, unset, isSet, Known, stateAt, first, firsts, effectOf, goesOn, passes, own, targetTests, nextTests, depthTests, leaveTests, Step, next, passed, need, passAll, takeWith, take, takeAll, flow}
 use Rattle.model.specs.Rules.{Assignment, Opens, Fine, First, Got, Keeps}
 use Rattle.model.specs.Claim.{Bytes}
 use Rattle.exact.specs.Pass as Pass

@@ -1,6 +1,6 @@
 -- A call's answer in numbers, with every list then.
 use mathlib.Core.List.{List}
-use mathlib.Core.Path.{_≡_, refl, ap, _∙_}
+use mathlib.Core.Path.{_≡_, ap, _∙_}
 use Prim.Native.Nat.{ℕ}
 use Rattle.model.specs.Calls.{Told, told, toldOf, Checked, checked, Lent, After, answers}
 use Rattle.model.specs.declared.Answer.{Answer}

@@ -1,16 +1,16 @@
 -- What the functions of the flow answer, and what they rest on.
 use Prim.Native.Nat.{ℕ, zero, suc, _+_, _-_, _*_, _<_, _≤_}
-use mathlib.Core.Bool.{Bool, true, false, true≢false, not, _&&_}
+use mathlib.Core.Bool.{Bool, true, false, true≢false, _&&_}
 use mathlib.Core.List.{List, [], _∷_, _++_}
-use mathlib.Core.Logic.{_⊎_, inl, inr}
-use mathlib.Core.Path.{_≡_, refl, ap, sym, _∙_, subst}
+use mathlib.Core.Logic.{_⊎_}
+use mathlib.Core.Path.{_≡_, refl, ap, sym, _∙_}
 use native.Mathlib.Omega.{arith}
 use lib.Dec.{ltb, leb, eqb}
 use lib.ListN.{length, getD}
 use borrow.Author.Tests.{lt-ltb, le-ltb, eq-eqb, ne-eqb, ltb-true}
 use Rattle.model.specs.Choice.{if_then_else_, all, if-both}
-use Rattle.model.specs.File.{byteAt, Ins, insAt, after, procAt, headOf, resultsMain, resultsPtr, mostMain, mostPtr}
-use Rattle.model.specs.Checker.{none, State, state, sameState, outer, passes, own, targetTests, nextTests, depthTests, leaveTests, Step, bad, next, need, meet, andThen}
+use Rattle.model.specs.File.{byteAt, insAt, after, procAt, resultsMain, resultsPtr, mostMain, mostPtr}
+use Rattle.model.specs.Checker.{none, State, state, outer, passes, own, Step, bad, next, need, meet, andThen}
 use Rattle.transfer.specs.declared.State.{State as Numbers}
 use Rattle.effects.specs.declared.Shape.{Shape}
 use Rattle.effects.specs.Shape.{shapeOf}

@@ -1,28 +1,27 @@
 -- The instructions in file order: those still to come decide what the flow comes to, and at the end the part is the finished map.
 use Prim.Native.Nat.{ℕ, zero, suc, _+_, _-_, _*_, _<_, _≤_}
-use mathlib.Core.Bool.{Bool, true, false, true≢false, not, _&&_}
-use mathlib.Core.List.{List, [], _∷_, _++_}
+use mathlib.Core.Bool.{Bool, true, false, true≢false, not}
+use mathlib.Core.List.{List, [], _∷_}
 use mathlib.Core.Logic.{_⊎_, inl, inr}
-use mathlib.Core.Path.{_≡_, refl, ap, sym, _∙_, subst}
+use mathlib.Core.Path.{_≡_, refl, ap, sym, _∙_}
 use native.Mathlib.Decide.{ℕ-discrete, decLt}
 use native.Mathlib.Omega.{arith}
-use lib.Dec.{ltb, leb, eqb}
+use lib.Dec.{ltb, eqb}
 use lib.ListN.{length, getD, drop, length-drop}
-use lib.Seq.{getD-drop, drop-drop, ext-getD}
+use lib.Seq.{getD-drop, drop-drop}
 use borrow.Author.Tests.{lt-ltb, le-ltb, eq-eqb, ne-eqb, eqb-true}
 use Rattle.model.specs.Choice.{if_then_else_, Mem, member}
-use Rattle.model.specs.File.{byteAt, after, whole?, Records, starts, recordsOf, startsIn, isHead, select, instructions, heads, procs, headOf, procAt, insAt, headKind, mostMain, mostPtr, bodyOf, bodies}
-use Rattle.model.specs.Checker.{none, State, state, unset, isSet, Known, stateAt, firsts, own, Step, bad, next, Result, refused, passed, goOn, take, takeAll, flow, mapFrom}
-use Rattle.model.specs.Claim.{Bytes}
+use Rattle.model.specs.File.{byteAt, after, whole?, Records, starts, recordsOf, startsIn, isHead, select, instructions, heads, procs, headOf, procAt, mostMain}
+use Rattle.model.specs.Checker.{none, state, unset, isSet, Known, stateAt, firsts, own, Step, bad, next, refused, passed, goOn, take, takeAll, flow, mapFrom}
 use Rattle.exact.specs.Pass.{Set}
-use Rattle.exact.specs.Walk.{Walk, walk, walk-above, records-walk, after-above, after-head, head-in, ins-in, first-head, member-in, in-member, instruction-below, instruction-whole, HeadsHold, heads-right, select-in, getD-in, procs-some, proc-below, in-select}
+use Rattle.exact.specs.Walk.{Walk, walk, walk-above, records-walk, after-above, after-head, head-in, first-head, member-in, in-member, instruction-below, HeadsHold, select-in, getD-in, procs-some, in-select}
 use Rattle.exact.specs.Flow.{own-in, keeps-shape, flow-keeps, flow-rest}
 use Rattle.scan.specs.Rest.{restOf, rest-end, rest-inv, whole-inside, records-first}
-use Rattle.scan.specs.Marks.{stateIn, Shows}
+use Rattle.scan.specs.Marks.{stateIn}
 use Rattle.scan.specs.Heading.{Placed}
-use Rattle.effects.specs.Site.{Table, Site}
-use Rattle.flow.specs.Own.{endOf, between, end-low, own-alike, head-kind}
-use Rattle.flow.specs.Takes.{Good, Fit, Alike, take-alike, takeIn, in-set, in-unset, set-alike}
+use Rattle.effects.specs.Site.{Table}
+use Rattle.flow.specs.Own.{endOf, between, end-low, own-alike}
+use Rattle.flow.specs.Takes.{Good, Alike, take-alike, takeIn, in-set, in-unset}
 use Rattle.flow.specs.Faults.{takeAns, Here, Held, endIn}
 use Rattle.model.specs.declared.Answer.{Answer}
 use Rattle.model.specs.declared.Answer.the-variants.{Passed, Ready, Finished, Spent, Uncaught, Refused}

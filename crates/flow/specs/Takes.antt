@@ -1,23 +1,21 @@
 -- Taking an instruction on the part of the map (`takeIn`) does what the model does on the states that the part shows (`take-alike`):
 -- a place's three numbers are its state where one is known, and 65,534 or more where none is.
-use Prim.Native.Nat.{ℕ, zero, suc, _+_, _-_, _*_, _<_, _≤_}
-use mathlib.Core.Bool.{Bool, true, false, true≢false, not, _&&_}
+use Prim.Native.Nat.{ℕ, _+_, _-_, _<_}
+use mathlib.Core.Bool.{Bool, true, false, _&&_}
 use mathlib.Core.List.{List, [], _∷_}
 use mathlib.Core.Logic.{_⊎_, inl, inr}
-use mathlib.Core.Path.{_≡_, refl, ap, sym, _∙_, subst}
-use native.Mathlib.Decide.{ℕ-discrete}
+use mathlib.Core.Path.{_≡_, refl, _∙_}
 use native.Mathlib.Omega.{arith}
-use lib.Dec.{ltb, leb, eqb}
+use lib.Dec.{ltb, eqb}
 use lib.ListN.{length}
-use borrow.Author.Tests.{lt-ltb, le-ltb, eq-eqb, ne-eqb, eqb-true, eqb-false, not-true, not-false}
+use borrow.Author.Tests.{lt-ltb, eq-eqb, ne-eqb, eqb-false}
 use Rattle.model.specs.Choice.{if_then_else_, all, all-true, Mem, member}
-use Rattle.model.specs.File.{byteAt, Ins, insAt, instructions, headOf, procAt, mostMain, mostPtr, recordsOf, starts}
-use Rattle.model.specs.Checker.{none, State, state, unset, isSet, sameState, Known, stateAt, outer, passes, targetTests, nextTests, depthTests, leaveTests, Step, bad, next, Result, refused, passed, need, meet, andThen, goOn, passOne, passAll, takeWith, take, takeAll}
+use Rattle.model.specs.File.{Ins, insAt, instructions, headOf, procAt, mostMain, mostPtr, recordsOf, starts}
+use Rattle.model.specs.Checker.{none, State, state, unset, isSet, sameState, Known, stateAt, outer, passes, targetTests, nextTests, depthTests, leaveTests, Step, bad, next, need, meet, andThen, passOne, passAll, takeWith, take}
 use Rattle.model.specs.Claim.{Bytes}
-use Rattle.exact.specs.Pass.{and-true}
 use Rattle.exact.specs.Walk.{in-member, member-in, instruction-below}
-use Rattle.exact.specs.Flow.{Fits, Depths, Inner, Moves, moves}
-use Rattle.scan.specs.Marks.{unreached, stateIn, putIn, shown, Shows, put-shows}
+use Rattle.exact.specs.Flow.{Depths, Inner, Moves, moves}
+use Rattle.scan.specs.Marks.{unreached, stateIn, putIn, Shows, put-shows}
 
 -- a state is known where the first number is below 65,534
 abbrev pub isSetIn : State → Bool

@@ -1,29 +1,27 @@
 -- Run: what its tests let through is a sound state, and the answer and every list are the model's.
-use Prim.Native.Nat.{ℕ, zero, suc, _+_, _-_, _*_, _<_, _≤_}
+use Prim.Native.Nat.{ℕ, zero, suc, _+_, _-_, _<_, _≤_}
 use mathlib.Core.Bool.{Bool, true, false}
 use mathlib.Core.List.{List, [], _∷_}
-use mathlib.Core.Logic.{_⊎_, inl, inr}
-use mathlib.Core.Path.{_≡_, refl, ap, sym, _∙_, subst}
+use mathlib.Core.Path.{_≡_, refl, ap, sym, _∙_}
 use native.Mathlib.Decide.{decLt, ℕ-discrete}
 use native.Mathlib.Omega.{arith}
 use lib.ListN.{length, getD}
-use Rattle.model.specs.Choice.{if_then_else_, All, Mem}
-use Rattle.model.specs.File.{byteAt, heads, headOf, procs}
+use Rattle.model.specs.File.{heads, headOf, procs}
 use Rattle.model.specs.Heap.{objectsOf}
-use Rattle.model.specs.Control.{Machine, machine, regsFrom, regBytes}
+use Rattle.model.specs.Control.{machine, regsFrom, regBytes}
 use Rattle.model.specs.Sound.{sound?}
-use Rattle.model.specs.Step.{Ran, ran, runOn}
+use Rattle.model.specs.Step.{ran, runOn}
 use Rattle.model.specs.Claim.{Bytes}
-use Rattle.model.specs.Calls.{verdictOf, pass, Lent, lent, withMap, After, answers, lengthTests, machineOf, leaving, tested, ranFrom, runOf}
+use Rattle.model.specs.Calls.{verdictOf, pass, Lent, lent, withMap, answers, lengthTests, machineOf, tested, ranFrom, runOf}
 use Rattle.exact.specs.Pass.{Rising}
 use Rattle.exact.specs.Exact.{Formed, passed-as}
 use Rattle.exact.specs.Walk.{heads-rise, getD-in, procs-some}
 use Rattle.scan.specs.Heading.{Placed}
 use Rattle.heap.specs.Table.{Marks}
 use Rattle.places.specs.Places.{Ready, passed-ready}
-use Rattle.safe.specs.Alive.{Alive, alive-run}
+use Rattle.safe.specs.Alive.{alive-run}
 use Rattle.steps.specs.Going.{Runs}
-use Rattle.admit.specs.Admit.{Admitted, Shown, tested-refused, tested-on, first-whole}
+use Rattle.admit.specs.Admit.{Admitted, Shown, tested-refused, tested-on}
 use Rattle.model.specs.declared.Regs.{Regs}
 use Rattle.model.specs.declared.Answer.{Answer}
 use Rattle.model.specs.declared.Answer.the-variants.{Passed, Refused}

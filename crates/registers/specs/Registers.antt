@@ -1,13 +1,12 @@
 -- Registers as bytes: seven words stored one after the other are all the bytes.
 use Prim.Native.Nat.{ℕ, suc, _+_, _*_, _/_, _%_, _<_, _≤_}
-use mathlib.Core.Path.{_≡_, refl, ap, sym, _∙_}
-use mathlib.Core.List.{List, [], _∷_, _++_}
+use mathlib.Core.Path.{_≡_, ap, sym, _∙_}
+use mathlib.Core.List.{List, _++_}
 use native.Mathlib.Numerals.{add-one}
 use native.Mathlib.Omega.{arith}
 use lib.ListN.{length, take, drop, set, length-append}
-use lib.Seq.{sets, sets-eq, length-sets, take-all, take-at, take-add, drop-cons, length-take-le}
-use Rattle.model.specs.Words.{wordAt}
-use Rattle.model.specs.Control.{registerBytes, wordFrom, regsFrom, bytesOf, regBytes}
+use lib.Seq.{sets, sets-eq, length-sets, take-all, take-at, length-take-le}
+use Rattle.model.specs.Control.{registerBytes, bytesOf, regBytes}
 use Rattle.model.specs.declared.Regs.{Regs}
 
 -- the registers are words

@@ -10,7 +10,7 @@ use lib.ListN.{length}
 use Rattle.model.specs.Choice.{All}
 use Rattle.model.specs.File.{fileMost, procs, mostMain, mostPtr}
 use Rattle.model.specs.Heap.{Heap, Pointer, clean, heapOf, objectsOf}
-use Rattle.model.specs.Control.{Machine, machine, recordWords}
+use Rattle.model.specs.Control.{Machine, machine}
 use Rattle.model.specs.Step.{next, step}
 use Rattle.model.specs.Sound.{sound?}
 use Rattle.model.specs.Calls.{mainMost, ptrMost, ctlMost, heapMost, pass, verdictOf, Lent, lengthTests}

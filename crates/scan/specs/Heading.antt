@@ -1,24 +1,23 @@
 -- The heads of a file in file order: what is still to come decides what all the heads come to (`Heading`); at the end the table has
 -- every head and the map shows the first instruction of each procedure.
 use Prim.Native.Nat.{ℕ, zero, suc, _+_, _-_, _*_, _<_, _≤_}
-use mathlib.Core.Bool.{Bool, true, false, true≢false, not, _&&_}
+use mathlib.Core.Bool.{Bool, true, false, true≢false, not}
 use mathlib.Core.List.{List, [], _∷_}
-use mathlib.Core.Logic.{_⊎_, inl, inr}
-use mathlib.Core.Path.{_≡_, refl, ap, sym, _∙_, subst}
+use mathlib.Core.Path.{_≡_, refl, ap, sym, _∙_}
 use native.Mathlib.Decide.{ℕ-discrete, decLt}
 use native.Mathlib.Omega.{arith}
 use lib.Dec.{ltb, leb, eqb}
 use lib.ListN.{length, getD, set, replicate, drop, length-set, length-replicate, length-drop}
 use lib.Seq.{getD-set-same, getD-set-other, getD-drop, drop-drop}
 use borrow.Author.Tests.{eq-eqb, ne-eqb, eqb-true, lt-ltb, le-ltb, le-leb, lt-leb}
-use Rattle.model.specs.Choice.{if_then_else_, Test, same, most, yes?, all, All, all-true, Mem, member}
-use Rattle.model.specs.File.{byteAt, bodyOf, bodies, after, whole?, Records, broken, starts, more, recordsOf, startsIn, isHead, select, instructions, heads, procs, headOf, entry, headKind, headSize, headTests, Heads, wrong, right, headsFrom, headsOf, paramsMain, paramsPtr, resultsMain, resultsPtr, mostMain, mostPtr}
-use Rattle.model.specs.Checker.{none, State, state, unset, isSet, Known, stateAt, first, firsts}
-use Rattle.exact.specs.Walk.{walk-above, walk, Walk, after-above, instruction-below, member-in, in-member}
-use Rattle.code.specs.Heads.{headBytes, procHead, HeadIs, head-of}
+use Rattle.model.specs.Choice.{if_then_else_, Test, same, most, yes?, all, All, all-true, member}
+use Rattle.model.specs.File.{byteAt, bodyOf, bodies, after, whole?, Records, broken, starts, more, recordsOf, startsIn, isHead, select, instructions, heads, procs, headOf, entry, headKind, headTests, Heads, wrong, right, headsFrom, headsOf, paramsMain, paramsPtr}
+use Rattle.model.specs.Checker.{none, state, first, firsts}
+use Rattle.exact.specs.Walk.{instruction-below, member-in}
+use Rattle.code.specs.Heads.{procHead, HeadIs, head-of}
 use Rattle.code.specs.declared.Head.{Head}
 use Rattle.scan.specs.Rest.{restOf, rest-end, rest-inv, whole-inside, records-first}
-use Rattle.scan.specs.Marks.{stateIn, putIn, Shows, starts-here, put-shows, marked-shows, marked}
+use Rattle.scan.specs.Marks.{putIn, Shows, starts-here, put-shows}
 use Rattle.scan.specs.Scanning.{foundOf}
 use Rattle.scan.specs.declared.Found.{Found}
 use Rattle.scan.specs.declared.Found.the-variants.{Broken, Whole}

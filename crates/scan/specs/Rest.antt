@@ -3,13 +3,13 @@
 use Prim.Native.Nat.{ℕ, zero, suc, _+_, _-_, _<_, _≤_}
 use mathlib.Core.Bool.{Bool, true, false, true≢false, not, _&&_}
 use mathlib.Core.List.{List, [], _∷_}
-use mathlib.Core.Path.{_≡_, refl, ap, sym, _∙_}
+use mathlib.Core.Path.{_≡_, refl, sym, _∙_}
 use native.Mathlib.Omega.{arith}
 use lib.Dec.{ltb, leb, eqb}
 use lib.ListN.{length}
 use borrow.Author.Tests.{lt-ltb, le-ltb, lt-leb, eq-eqb, ne-eqb, le-leb, leb-true}
 use Rattle.model.specs.Choice.{if_then_else_}
-use Rattle.model.specs.File.{byteAt, headKind, bodyOf, unknown, after, whole?, Records, broken, starts, more, recordsFrom, recordsOf, startsIn}
+use Rattle.model.specs.File.{byteAt, bodyOf, unknown, after, whole?, Records, broken, starts, more, recordsFrom, recordsOf}
 use Rattle.exact.specs.Walk.{after-above}
 
 -- the records from p on

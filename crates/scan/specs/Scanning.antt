@@ -1,21 +1,16 @@
 -- The scan of the records: what is still to be scanned decides what all the records come to (`Going`), and at the end the marks are
 -- those of all the instructions (`Scanned.marks`; `marked-shows` in Marks.antt says what they show).
-use Prim.Native.Nat.{ℕ, zero, suc, _+_, _-_, _*_, _<_, _≤_}
-use mathlib.Core.Bool.{Bool, true, false, true≢false, not, _&&_}
+use Prim.Native.Nat.{ℕ, _+_, _-_, _*_, _<_, _≤_}
+use mathlib.Core.Bool.{true, false}
 use mathlib.Core.List.{List, [], _∷_}
-use mathlib.Core.Logic.{_⊎_, inl, inr}
-use mathlib.Core.Path.{_≡_, refl, ap, sym, _∙_, subst}
-use native.Mathlib.Decide.{ℕ-discrete}
+use mathlib.Core.Path.{_≡_, refl, ap, sym, _∙_}
 use native.Mathlib.Omega.{arith}
-use lib.Dec.{ltb, leb, eqb}
-use lib.ListN.{length, getD, set, replicate, length-set, length-replicate, getD-replicate, List·getD-eq-default}
-use borrow.Author.Tests.{eq-eqb, ne-eqb, eqb-true, eqb-false}
-use Rattle.model.specs.Choice.{if_then_else_, Mem, member}
-use Rattle.model.specs.File.{byteAt, bodyOf, after, whole?, Records, broken, starts, more, recordsOf, startsIn, isHead, select, instructions}
-use Rattle.model.specs.Checker.{none, State, state, unset, isSet, Known, stateAt}
-use Rattle.exact.specs.Walk.{walk-above, walk, Walk, after-above}
+use lib.Dec.{eqb}
+use lib.ListN.{length, getD, set}
+use Rattle.model.specs.Choice.{if_then_else_}
+use Rattle.model.specs.File.{byteAt, bodyOf, after, whole?, Records, broken, starts, more, recordsOf, startsIn, isHead}
 use Rattle.scan.specs.Rest.{restOf, rest-end, rest-more, rest-broken, whole-yes, whole-unknown, whole-cut, records-first, records-other}
-use Rattle.scan.specs.Marks.{unreached, stateIn, marked, length-marked, length-mark, mark-same, mark-other, Shows, shown}
+use Rattle.scan.specs.Marks.{unreached, marked, length-mark}
 use Rattle.scan.specs.declared.Found.{Found}
 use Rattle.scan.specs.declared.Found.the-variants.{Broken, Whole}
 

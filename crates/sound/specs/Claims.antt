@@ -19,10 +19,10 @@ use Rattle.model.specs.Calls.{Verdict, pass, refuse, verdictOf, checkOf, Lent, 
 use Rattle.model.specs.Claim.{Call, check, start, run, callOf, NotRefused, Depths, Pointers, Before, Claim, Bytes, Calls}
 use Rattle.model.specs.declared.Answer.the-variants as answer
 use Rattle.exact.specs.Exact.{passed-again}
-use Rattle.sound.specs.Tests.{pointer-true, true-pointer}
+use Rattle.sound.specs.Tests.{true-pointer}
 use Rattle.sound.specs.Lists.{length-cut, length-put}
 use Rattle.sound.specs.Laws.{CodeLaws, code-laws}
-use Rattle.sound.specs.Sound.{Sound, Audited, sound-with, sound?-true, true-sound?, running-depths}
+use Rattle.sound.specs.Sound.{Sound, Audited, sound-with, true-sound?, running-depths}
 use Rattle.sound.specs.Keep.{start-sound}
 use Rattle.sound.specs.Plan.{HeapLaws}
 use Rattle.sound.specs.Steps.{Kept, kept-here, kept-on, step-keeps}

@@ -30,7 +30,7 @@ use Rattle.model.specs.Claim.{assigned}
 use Rattle.exact.specs.Pass.{and-true}
 use Rattle.sound.specs.Lists.{Each, slice-each}
 use Rattle.sound.specs.Stack.{stack-frame}
-use Rattle.sound.specs.Laws.{Is, CodeLaws, leads, pops, rules, depth-most}
+use Rattle.sound.specs.Laws.{Is, CodeLaws, leads, pops, rules}
 use Rattle.sound.specs.Sound.{Running}
 use Rattle.sound.specs.Keep.{framePut, returnPut, behindPut, running-here, running-fits}
 

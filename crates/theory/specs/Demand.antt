@@ -1,14 +1,14 @@
 -- Demand 3 on calls, whole: the heap's laws, as the heap's theory has them, put into the claim over lists of calls.
-use Prim.Native.Nat.{ℕ, _+_, _<_}
-use mathlib.Core.List.{List, [], _∷_, _++_}
+use Prim.Native.Nat.{_+_, _<_}
+use mathlib.Core.List.{[], _∷_, _++_}
 use native.Mathlib.Omega.{arith}
 use lib.ListN.{length}
-use Rattle.model.specs.Heap.{Heap, Pointer, markOf, formed}
+use Rattle.model.specs.Heap.{Heap, markOf}
 use Rattle.model.specs.Claim.{Calls}
 use Rattle.heap.specs.Audited.{clean-heap, heap-clean}
 use Rattle.heap.specs.Stores.{store-plain, store-ptr, store-root}
 use Rattle.heap.specs.Formed.{pointer-more, pointer-new, form-kept}
-use Rattle.sound.specs.Plan.{HeapLaws, Formed}
+use Rattle.sound.specs.Plan.{HeapLaws}
 use Rattle.sound.specs.Claims.{calls}
 
 pub heap-laws : HeapLaws

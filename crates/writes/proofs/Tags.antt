@@ -14,7 +14,7 @@ use Rattle.model.specs.declared.Regs.{Regs}
 use Rattle.model.specs.declared.Into.{Into}
 use Rattle.model.specs.declared.Into.the-variants as into
 use Rattle.model.specs.declared.Put.{Put}
-use Rattle.writes.specs.Asks.{Fits, Plain, Retract, Drops, Dropping, InMain, InPtr, plainly}
+use Rattle.writes.specs.Asks.{Fits, Plain, Retract, Drops, Dropping, plainly}
 
 -- all but DropMain and DropPointer: no word is put back
 abbrev noneAside : List ℕ

@@ -1,6 +1,6 @@
 -- `checker::check_part` meets its contract: a refused file has its part filled.
 use mathlib.Core.Logic.{⊎-elim}
-use mathlib.Core.Path.{sym, _∙_}
+use mathlib.Core.Path.{_∙_}
 use native.Mathlib.Omega.{arith}
 use Rattle.checker.specs.Parts.{fill-kept, fill-refused}
 use borrow.Author.Needs.{needs}

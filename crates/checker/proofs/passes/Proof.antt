@@ -1,6 +1,5 @@
 -- `checker::passes` meets its contract: the records decide, or else the heads and the flow.
-use native.Mathlib.Omega.{arith}
-use mathlib.Core.Path.{sym, _∙_}
+use mathlib.Core.Path.{_∙_}
 use Rattle.checker.specs.Parts.{look-broken, look-whole}
 use borrow.Author.Needs.{needs}
 use Rattle.checker.proofs.passes.Statement.{statement}

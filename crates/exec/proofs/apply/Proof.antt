@@ -1,5 +1,5 @@
 -- `exec::apply` meets its contract: each arm knows where the plan writes, and what it calls leaves what the model applies there; what is left is late.
-use mathlib.Core.Path.{refl, _∙_, sym}
+use mathlib.Core.Path.{refl}
 use mathlib.Core.Logic.{inl, inr}
 use Rattle.model.specs.Control.{machine}
 use Rattle.model.specs.Step.{applied}

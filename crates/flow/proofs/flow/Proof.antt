@@ -1,11 +1,11 @@
 -- `flow::flow` meets its contract: the instructions still to come decide what the flow comes to.
-use mathlib.Core.Path.{_≡_, refl, sym, _∙_}
-use Prim.Native.Nat.{ℕ, _-_}
+use mathlib.Core.Path.{_≡_, refl}
+use Prim.Native.Nat.{_-_}
 use native.Mathlib.Omega.{arith}
 use lib.ListN.{length}
 use borrow.Author.Needs.{needs}
 use Rattle.exact.specs.Walk.{after-above}
-use Rattle.flow.specs.Flowing.{Flowing, flowing-start, flowing-inside, flowing-head, flowing-here, flowing-fault, flowing-take, flowing-end}
+use Rattle.flow.specs.Flowing.{Flowing, flowing-start, flowing-head, flowing-here, flowing-fault, flowing-take, flowing-end}
 use Rattle.flow.proofs.flow.Statement.{statement}
 use Rattle.flow.proofs.flow.Tie as tie
 

@@ -1,11 +1,10 @@
 -- `machine::count` meets its contract: every entry passed is not 0.
-use mathlib.Core.Path.{_≡_, sym, _∙_}
+use mathlib.Core.Path.{_≡_}
 use Prim.Native.Nat.{ℕ, _-_, _≤_, _<_}
 use native.Mathlib.Omega.{arith}
-use native.Mathlib.Decide.{ℕ-discrete}
 use borrow.Author.Needs.{needs}
 use lib.ListN.{getD}
-use Rattle.machine.specs.Runs.{CountIs, count-more}
+use Rattle.machine.specs.Runs.{count-more}
 use Rattle.machine.proofs.count.Statement.{statement}
 use Rattle.machine.proofs.count.Tie as tie
 

@@ -1,10 +1,10 @@
 -- `scan::scan` meets its contract: what is still to be scanned decides what all the records come to.
-use mathlib.Core.Path.{_≡_, refl, ap, sym, _∙_}
-use Prim.Native.Nat.{ℕ, _+_, _-_, _*_, _≤_, _<_}
+use mathlib.Core.Path.{_≡_, refl}
+use Prim.Native.Nat.{_-_, _≤_}
 use native.Mathlib.Omega.{arith}
 use lib.ListN.{length}
 use borrow.Author.Needs.{needs}
-use Rattle.scan.specs.Scanning.{Scanned, Going, going-first, going-end, scan-unknown, scan-cut, scan-more, scanned-other}
+use Rattle.scan.specs.Scanning.{Going, going-first, going-end, scan-unknown, scan-cut, scan-more, scanned-other}
 use Rattle.scan.proofs.scan.Statement.{statement}
 use Rattle.scan.proofs.scan.Tie as tie
 use Rattle.scan.proofs.scan.Reads as reads

@@ -1,7 +1,6 @@
 -- `writes::put_back` meets its contract: an arm knows which stack the word goes to, and the last arm writes none.
 use native.Mathlib.Omega.{arith}
 use Rattle.writes.proofs.Tags.{none-aside}
-use mathlib.Core.Path.{_∙_}
 use borrow.Author.Needs.{needs}
 use Rattle.writes.proofs.put_back.Statement.{statement}
 use Rattle.writes.proofs.put_back.Tie as tie
