@@ -8,7 +8,7 @@ use Rattle.model.specs.Calls.{ptrMost, ctlMost, heapMost}
 use Rattle.model.specs.Heap.{markOf}
 use Rattle.model.specs.Control.{recordWords}
 use Rattle.model.specs.declared.Regs.{Regs}
-use Rattle.model.specs.declared.Put.{Put}
+use Rattle.bridge.specs.declared.Put.{Put}
 
 -- a record is pushed on the control stack
 pub record Pushes (r : Regs) (ctl : List ℕ) : Type 0 where

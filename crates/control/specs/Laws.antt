@@ -8,11 +8,11 @@ use lib.ListN.{length, set}
 use lib.Seq.{sets, slice, length-slice}
 use Rattle.model.specs.Words.{wordAt, cut}
 use Rattle.model.specs.File.{operand, after}
-use Rattle.model.specs.Heap.{markOf, formed}
+use Rattle.model.specs.Heap.{markOf, viewKind, made}
 use Rattle.model.specs.Control.{machine, rec, recAt, putRec, regs, recordWords}
-use Rattle.model.specs.Step.{called, returned, opened, closed}
+use Rattle.bridge.specs.Settled.{called, returned, opened, closed}
 use Rattle.model.specs.declared.Regs.{Regs}
-use Rattle.model.specs.declared.Put.{Put}
+use Rattle.bridge.specs.declared.Put.{Put}
 use Rattle.sound.specs.Lists.{Topped}
 use Rattle.control.specs.Lists.{sets-append, cut-zeros}
 use Rattle.control.specs.Asks.{Pushes, Room}
@@ -56,8 +56,8 @@ module _ (r : Regs) (put : Put) (ctl ctl′ main ptr heap : List ℕ) where
 -- the header, the pointers and the plain words, then the mark
 form-words : (h h₁ h₂ ps ws : List ℕ) (n k : ℕ) → n ≡ length ps → k ≡ length ws →
     h₁ ≡ sets (set (set h (markOf h) (16777216 + n)) (markOf h + 1) (2 + (n + k))) (markOf h + 2) ps →
-    h₂ ≡ sets h₁ (markOf h + 2 + n) ws → set h₂ 0 (markOf h + (2 + (n + k))) ≡ formed h ps ws
-unfolding formed
+    h₂ ≡ sets h₁ (markOf h + 2 + n) ws → set h₂ 0 (markOf h + (2 + (n + k))) ≡ made viewKind ps ws h
+unfolding made
 form-words h h₁ h₂ ps ws n k en ek e₁ e₂ =
     let a : markOf h + 1 ≡ suc (markOf h) = omega arith in
     let b : markOf h + 2 ≡ suc (suc (markOf h)) = omega arith in
@@ -72,7 +72,7 @@ pub form-writes : (main ptr h h₁ h₂ : List ℕ) (r : Regs) (put : Put) →
     h₂ ≡ sets h₁ (markOf h + 2 + (r .ptop - put .at)) (slice (put .mtop) (r .mtop) main) →
     Room (length main) (length ptr) h r put →
     set h₂ 0 (markOf h + (2 + ((r .ptop - put .at) + (r .mtop - put .mtop))))
-    ≡ formed h (slice (put .at) (r .ptop) ptr) (slice (put .mtop) (r .mtop) main)
+    ≡ made viewKind (slice (put .at) (r .ptop) ptr) (slice (put .mtop) (r .mtop) main) h
 form-writes main ptr h h₁ h₂ r put e₁ e₂ R =
     form-words h h₁ h₂ (slice (put .at) (r .ptop) ptr) (slice (put .mtop) (r .mtop) main) (r .ptop - put .at) (r .mtop - put .mtop)
     (sym (length-slice (put .at) (r .ptop) ptr (R .ptr-fits))) (sym (length-slice (put .mtop) (r .mtop) main (R .main-fits))) e₁ e₂

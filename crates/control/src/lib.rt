@@ -5,12 +5,12 @@ ghost use Prim.Native.Nat.{ℕ, _+_, _-_, _*_, _<_, _≤_};
 ghost use lib.ListN.{length, getD};
 ghost use lib.Seq.{sets, slice};
 ghost use Rattle.model.specs.File.{after};
-ghost use Rattle.model.specs.Heap.{formed};
+ghost use Rattle.model.specs.Heap.{viewKind, made};
 ghost use Rattle.model.specs.Control.{machine};
-ghost use Rattle.model.specs.Step.{called, returned, opened, closed};
+ghost use Rattle.bridge.specs.Settled.{called, returned, opened, closed};
 ghost use Rattle.sound.specs.Lists.{Topped};
 ghost use Rattle.control.specs.Asks.{Pushes, Room};
-use model::Put;
+use bridge::Put;
 use model::RECORD;
 use model::Regs;
 
@@ -147,7 +147,7 @@ pub fn close(ctl: &mut [u32], regs: Regs, put: Put) -> Regs
 // 36: a view of the words popped, at the mark; pointers first.
 pub fn form(main: &[u32], ptr: &[u32], heap: &mut [u32], regs: Regs, put: Put)
     requires { ⌜ Room (length (now main)) (length (now ptr)) (now heap) regs put ⌝ }
-    ensures { λ _. ⌜ now (heap .exit) ≡ formed (now (heap .entry)) (slice (put .at) (regs .ptop) (now (ptr .entry))) (slice (put .mtop) (regs .mtop) (now (main .entry))) ⌝ }
+    ensures { λ _. ⌜ now (heap .exit) ≡ made viewKind (slice (put .at) (regs .ptop) (now (ptr .entry))) (slice (put .mtop) (regs .mtop) (now (main .entry))) (now (heap .entry)) ⌝ }
 {
     let at = put.at;
     let low = put.mtop;

@@ -6,15 +6,15 @@ use native.Mathlib.Omega.{arith}
 use mathlib.Core.List.{List, [], _∷_}
 use types.Run.{OneOf, miss}
 use denote.Enum.Declared.{tagOf}
-use Rattle.model.proofs.Into as made
-use Rattle.model.proofs.Plan as planned
+use Rattle.bridge.proofs.Into as made
+use Rattle.bridge.proofs.Plan as planned
 use Rattle.model.specs.Control.{Machine}
-use Rattle.model.specs.Step.{applyInto}
-use Rattle.model.specs.declared.Into.{Into}
-use Rattle.model.specs.declared.Into.the-variants as into
-use Rattle.model.specs.declared.Put.{Put}
-use Rattle.model.specs.declared.Plan.{Plan}
-use Rattle.model.specs.declared.Plan.the-variants.{Write}
+use Rattle.bridge.specs.Settled.{applyInto}
+use Rattle.bridge.specs.declared.Into.{Into}
+use Rattle.bridge.specs.declared.Into.the-variants as into
+use Rattle.bridge.specs.declared.Put.{Put}
+use Rattle.bridge.specs.declared.Plan.{Plan}
+use Rattle.bridge.specs.declared.Plan.the-variants.{Write}
 use Rattle.model.specs.declared.Regs.{Regs}
 use Rattle.writes.specs.Asks.{Retract, plainly}
 use Rattle.exec.specs.Applies.{FitsIn, Suits, Late}

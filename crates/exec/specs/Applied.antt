@@ -9,11 +9,12 @@ use lib.ListN.{length, set}
 use borrow.Author.Tests.{eq-eqb, ne-eqb}
 use Rattle.model.specs.File.{after}
 use Rattle.model.specs.Control.{Machine, machine, recordWords}
-use Rattle.model.specs.Step.{mainCut, ptrCut, formedFrom, called, finished, returned, opened, closed, applyInto, applied}
+use Rattle.model.specs.Instructions.{finished}
+use Rattle.bridge.specs.Settled.{mainCut, ptrCut, formedFrom, called, returned, opened, closed, applyInto, applied}
 use Rattle.model.specs.declared.Regs.{Regs}
-use Rattle.model.specs.declared.Into.{Into}
-use Rattle.model.specs.declared.Into.the-variants as into
-use Rattle.model.specs.declared.Put.{Put}
+use Rattle.bridge.specs.declared.Into.{Into}
+use Rattle.bridge.specs.declared.Into.the-variants as into
+use Rattle.bridge.specs.declared.Put.{Put}
 use Rattle.sound.specs.Lists.{Topped}
 use Rattle.control.specs.Asks.{Pushes, Room}
 use Rattle.writes.specs.Asks.{Plain, Retract, Dropping, onwards, plainly, triedOn}

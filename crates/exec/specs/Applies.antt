@@ -9,13 +9,13 @@ use Rattle.model.specs.File.{fileMost, after}
 use Rattle.model.specs.Calls.{mainMost, ptrMost, ctlMost, heapMost}
 use Rattle.model.specs.Heap.{markOf}
 use Rattle.model.specs.Control.{Machine, recordWords, records}
-use Rattle.model.specs.Step.{applied}
-use Rattle.model.specs.declared.Into.{Into}
-use Rattle.model.specs.declared.Into.the-variants as into
-use Rattle.model.specs.declared.Put.{Put}
+use Rattle.bridge.specs.Settled.{applied}
+use Rattle.bridge.specs.declared.Into.{Into}
+use Rattle.bridge.specs.declared.Into.the-variants as into
+use Rattle.bridge.specs.declared.Put.{Put}
 use Rattle.model.specs.declared.Regs.{Regs}
-use Rattle.model.specs.declared.Plan.{Plan}
-use Rattle.model.specs.declared.Plan.the-variants.{Write}
+use Rattle.bridge.specs.declared.Plan.{Plan}
+use Rattle.bridge.specs.declared.Plan.the-variants.{Write}
 use Rattle.exec.specs.declared.Tried.{Tried}
 use Rattle.sound.specs.Lists.{Topped}
 use Rattle.writes.specs.Asks.{Fits, Retract, Dropping}

@@ -9,12 +9,13 @@ use Rattle.model.specs.Words.{wordAt, cut}
 use Rattle.model.specs.Calls.{mainMost, ctlMost}
 use Rattle.model.specs.File.{fileMost, procsMost, headOf, operand}
 use Rattle.model.specs.Control.{Machine, machine, regs, recOf, recordWords}
-use Rattle.model.specs.Instructions.{mtop}
-use Rattle.model.specs.Step.{Stepped, next, uncaught, caught, raised, settle}
+use Rattle.model.specs.Moves.{mtop}
+use Rattle.model.specs.Step.{Stepped, next, uncaught, caught, raised}
+use Rattle.bridge.specs.Settled.{settle}
 use Rattle.model.specs.declared.Regs.{Regs}
-use Rattle.model.specs.declared.Put.{Put}
-use Rattle.model.specs.declared.Plan.{Plan}
-use Rattle.model.specs.declared.Plan.the-variants.{Write, Overflow, NilObject, BadField, HeapFull, NoRoom, Thrown}
+use Rattle.bridge.specs.declared.Put.{Put}
+use Rattle.bridge.specs.declared.Plan.{Plan}
+use Rattle.bridge.specs.declared.Plan.the-variants.{Write, Overflow, NilObject, BadField, HeapFull, NoRoom, Thrown}
 use Rattle.exec.specs.declared.Outcome.{Outcome}
 use Rattle.exec.specs.declared.Guard.{Guard}
 use Rattle.sound.specs.Lists.{Topped}

@@ -6,13 +6,14 @@ ghost use Prim.Native.Nat.{ℕ, _+_, _*_, _<_, _≤_};
 ghost use lib.ListN.{length};
 ghost use Rattle.model.specs.File.{operand, headOf};
 ghost use Rattle.model.specs.Control.{machine, recOf};
-ghost use Rattle.model.specs.Step.{applied, raised, settle};
+ghost use Rattle.model.specs.Step.{raised};
+ghost use Rattle.bridge.specs.Settled.{applied, settle};
 ghost use Rattle.writes.specs.Asks.{onwards};
 ghost use Rattle.exec.specs.Applies.{Applies, Late, Lately, Later, tried, appliedIf};
 ghost use Rattle.exec.specs.Ended.{Targets, Raises, Settles, ended, endedOf, guardAt, resumed, codeOf};
-use model::Into;
-use model::Plan;
-use model::Put;
+use bridge::Into;
+use bridge::Plan;
+use bridge::Put;
 use model::RECORD;
 use model::Regs;
 

@@ -9,7 +9,7 @@ use Rattle.model.specs.Words.{wordAt}
 use Rattle.model.specs.File.{byteAt, bodyOf, after, operand, insOf, insAt}
 use Rattle.model.specs.Checker.{effectOf}
 use Rattle.model.specs.Control.{Machine, mainBase, ptrBase}
-use Rattle.model.specs.Instructions.{mtop, ptop}
+use Rattle.model.specs.Moves.{mtop, ptop}
 use Rattle.heap.specs.Stores.{Lies, object-lies}
 use Rattle.code.specs.Bodies.{after-above}
 use Rattle.plans.specs.Given.{Body, Within, Record, Callee}

@@ -9,7 +9,8 @@ use Rattle.model.specs.File.{Ins, basic, local, assign, onMain, onPtr, call, by
 use Rattle.model.specs.Checker.{effectOf}
 use Rattle.model.specs.Heap.{Heap, Pointer}
 use Rattle.model.specs.Control.{Machine, mainBase, ptrBase}
-use Rattle.model.specs.Instructions.{mtop, ptop, planAt}
+use Rattle.model.specs.Moves.{mtop, ptop}
+use Rattle.bridge.specs.Planned.{planAt}
 use Rattle.plans.specs.Given.{planned}
 
 -- where the machine is

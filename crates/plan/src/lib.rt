@@ -1,8 +1,8 @@
 // Document 01, the table of codes with their effects: what the instruction at the machine's place is about to do. Nothing is written
 // here. Codes of one family share a function and an arm. Inside its arm the code is chosen again, so that the family's function gets
 // it as a constant; the compiler makes one jump table of all the matches.
-use model::Into;
-use model::Plan;
+use bridge::Into;
+use bridge::Plan;
 use model::RECORD;
 use model::Regs;
 ghost use mathlib.Core.Path.{_≡_};
@@ -13,7 +13,7 @@ ghost use lib.ListN.{length};
 ghost use Rattle.model.specs.Words.{wordAt};
 ghost use Rattle.model.specs.File as model;
 ghost use Rattle.model.specs.Control.{machine, recOf};
-ghost use Rattle.model.specs.Instructions.{planAt};
+ghost use Rattle.bridge.specs.Planned.{planAt};
 ghost use Rattle.code.specs.Kinds.{NoneOf};
 ghost use Rattle.code.specs.Parts.{Small};
 ghost use Rattle.heap.specs.Stores.{Lies};

@@ -10,12 +10,13 @@ use Rattle.model.specs.Choice.{if_then_else_, most, all}
 use Rattle.model.specs.Words.{truth}
 use Rattle.model.specs.File.{call, operand, headOf, entry, insOf, paramsMain, paramsPtr, mostMain, mostPtr}
 use Rattle.model.specs.Control.{Machine}
-use Rattle.model.specs.Instructions.{mainWord, mtop, ptop, write, onValue, planOf}
+use Rattle.model.specs.Moves.{mainWord, mtop, ptop}
+use Rattle.bridge.specs.Planned.{write, onValue, planOf}
 use Rattle.model.specs.declared.Regs.{Regs}
 use Rattle.model.specs.declared.Value.{Value}
-use Rattle.model.specs.declared.Into.the-variants.{Main, Frame}
-use Rattle.model.specs.declared.Plan.{Plan}
-use Rattle.model.specs.declared.Plan.the-variants.{NoRoom}
+use Rattle.bridge.specs.declared.Into.the-variants.{Main, Frame}
+use Rattle.bridge.specs.declared.Plan.{Plan}
+use Rattle.bridge.specs.declared.Plan.the-variants.{NoRoom}
 use Rattle.code.specs.declared.Head.{Head}
 use Rattle.code.specs.Heads.{procHead, HeadIs, head-of}
 

@@ -1,8 +1,8 @@
 // Document 01, the table of codes with their effects: what the instructions are about to do that go elsewhere, compute or open a record.
 // Nothing is written here. Codes of one family share a function.
-use model::Into;
-use model::Plan;
-use model::Put;
+use bridge::Into;
+use bridge::Plan;
+use bridge::Put;
 use model::RECORD;
 use model::Regs;
 use model::Value;
@@ -12,7 +12,7 @@ ghost use mathlib.Core.Logic.{_⊎_};
 ghost use Prim.Native.Nat.{ℕ, _+_, _<_, _≤_};
 ghost use Rattle.model.specs.Words.{valueOf};
 ghost use Rattle.model.specs.Control.{machine};
-ghost use Rattle.model.specs.Instructions.{write, onValue};
+ghost use Rattle.bridge.specs.Planned.{write, onValue};
 ghost use Rattle.code.specs.Parts.{Small};
 ghost use Rattle.plans.specs.Given.{planned, Body, Within, Record, Callee, Binary};
 

@@ -6,14 +6,16 @@ use mathlib.Core.Path.{_≡_, ap, sym, _∙_}
 use native.Mathlib.Omega.{arith}
 use borrow.Author.Tests.{eq-eqb, ne-eqb}
 use Rattle.model.specs.Control.{Machine, machine}
-use Rattle.model.specs.Instructions.{planAt}
-use Rattle.model.specs.Step.{Stepped, next, uncaught, settle, step, ran, runOn}
+use Rattle.bridge.specs.Planned.{planAt}
+use Rattle.model.specs.Step.{Stepped, next, uncaught, step, ran, runOn}
+use Rattle.bridge.specs.Settled.{settle}
 use Rattle.exec.specs.Ended.{ended, endedOf, went-on, went-off}
 use Rattle.exec.specs.declared.Outcome.{Outcome}
+use Rattle.safe.specs.Alive.{alive-plan}
 use Rattle.steps.specs.Going.{Runs, Alike, Going, same-lists, going-trans, stepped}
 use Rattle.run.specs.declared.Ended.{Ended}
 use Rattle.model.specs.declared.Regs.{Regs}
-use Rattle.model.specs.declared.Plan.{Plan}
+use Rattle.bridge.specs.declared.Plan.{Plan}
 use Rattle.model.specs.declared.Answer.{Answer}
 use Rattle.model.specs.declared.Answer.the-variants.{Finished, Spent, Uncaught}
 
@@ -45,8 +47,7 @@ module _ (f table : List ℕ) where
   module _ (n : ℕ) (m : Machine) (R : Runs f table m) (some : 0 < n) (on? : m .regs .state ≡ 1 → ⊥) (plan : Plan) (plan-is : plan ≡ planAt f m)
       (o : Outcome) (main ptr ctl heap : List ℕ) (e : ended o main ptr ctl heap ≡ endedOf m (settle f m plan)) where
     step-is : (s : Stepped) → settle f m plan ≡ s → step f m ≡ s
-    unfolding step
-    step-is s w = rw (← plan-is) w
+    step-is s w = sym (alive-plan (R .alive) on?) ∙ rw (← plan-is) w
 
     pub going-uncaught : (budget : ℕ) (m₀ : Machine) → Going f table budget m₀ n m → o .on ≡ false →
         ran (Uncaught (o .code) (m .regs .place) (budget - n)) (machine (m .regs) main ptr ctl heap) ≡ runOn f budget 0 m₀

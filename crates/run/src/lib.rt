@@ -4,9 +4,9 @@ ghost use Rattle.model.specs.Control.{machine};
 ghost use Rattle.model.specs.Step.{ran, runOn};
 ghost use Rattle.steps.specs.Going.{Runs};
 ghost use Rattle.run.specs.Endings.{endedWith};
+use bridge::Plan;
 use exec::Outcome;
 use model::Answer;
-use model::Plan;
 use model::Regs;
 use steps::Pause;
 

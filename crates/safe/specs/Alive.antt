@@ -1,14 +1,14 @@
 -- What holds of every state of a run, `Alive`: run's tests let nothing else through, and a step keeps it. Its registers are small. Each
 -- follows from the soundness theory, since a passed check gives the laws of the code.
 use Prim.Native.Nat.{ℕ, _≤_}
-use mathlib.Core.Path.{_≡_}
+use mathlib.Core.Path.{_≡_, refl}
 use mathlib.Core.Bool.{true}
 use mathlib.Core.List.{List}
 use mathlib.Core.Logic.{inl, inr}
 use native.Mathlib.Omega.{arith}
 use lib.ListN.{length}
 use Rattle.model.specs.Choice.{All}
-use Rattle.model.specs.File.{fileMost, procs, mostMain, mostPtr}
+use Rattle.model.specs.File.{fileMost, insAt, procs, mostMain, mostPtr}
 use Rattle.model.specs.Heap.{Heap, Pointer, clean, heapOf, objectsOf}
 use Rattle.model.specs.Control.{Machine, machine}
 use Rattle.model.specs.Step.{next, step}
@@ -21,7 +21,11 @@ use Rattle.scan.specs.Heading.{Placed}
 use Rattle.sound.specs.Tests.{pointer-true}
 use Rattle.sound.specs.Laws.{CodeLaws, code-laws}
 use Rattle.sound.specs.Sound.{Running, Sound, Audited, sound-with, sound?-true}
-use Rattle.sound.specs.Steps.{step-keeps}
+use Rattle.sound.specs.Keep.{running-fits}
+use Rattle.sound.specs.Rules.{above, step-keeps}
+use Rattle.bridge.specs.Bridge.{bridge}
+use Rattle.bridge.specs.Planned.{planAt}
+use Rattle.bridge.specs.Settled.{settle}
 use Rattle.heap.specs.Audited.{heap-clean}
 use Rattle.theory.specs.Demand.{heap-laws}
 
@@ -88,12 +92,30 @@ module _ {f map table : List ℕ} {m : Machine} (A : Alive f map table m) where
       go (inl S) = S
       go (inr D) = absurd (u (D .state-is))
 
+  -- the plan comes to the step
+  pub alive-plan : (m .regs .state ≡ 1 → ⊥) → settle f m (planAt f m) ≡ step f m
+  alive-plan u =
+      let S = alive-running u in
+      let z = A .sizes in
+      let a =
+      above f map m (A .objects) (S .1) (S .2) (S .0) alive-laws heap-laws (S .3) (A .heap) (omega arith) (insAt f (m .regs .place)) refl in
+      let t = running-fits f map alive-laws (Pointer (A .objects)) m (S .0) (S .1) (S .2) (S .3) in
+      bridge f m
+      (record {
+        pop-main = omega arith;
+        pop-ptr = omega arith;
+        main-fits = t .0;
+        ptr-fits = t .1;
+        main-zero = S .3 .words .zero-main;
+        ptr-zero = S .3 .words .zero-ptr;
+      })
+
   pub alive-step : {m′ : Machine} → (m .regs .state ≡ 1 → ⊥) → step f m ≡ next m′ → Alive f map table m′
   alive-step {m′} u e =
       let S = alive-running u in
       let z = A .sizes in
       let K =
-      step-keeps f map alive-laws m (A .objects) (S .0) (S .1) (S .2) (S .3) (A .heap) heap-laws (omega arith) m′ e in
+      step-keeps f map m (A .objects) (S .1) (S .2) (S .0) alive-laws heap-laws (S .3) (A .heap) (omega arith) m′ e in
       let e0 = K .same-main in
       let e1 = K .same-ptr in
       let e2 = K .same-ctl in

@@ -12,14 +12,14 @@ use Rattle.model.specs.File.{local, assign, onMain, onPtr, call, heads, headOf,
 use Rattle.model.specs.Checker.{effectOf, depthTests, targetTests}
 use Rattle.model.specs.Heap.{Pointer}
 use Rattle.model.specs.Control.{Machine, recOf, down}
-use Rattle.model.specs.Instructions.{mtop, ptop}
+use Rattle.model.specs.Moves.{mtop, ptop}
 use Rattle.model.specs.Sound.{isIns, frameTests}
 use Rattle.exact.specs.Walk.{member-in, getD-in, walk, walk-above, head-in, after-head, instruction-whole}
 use Rattle.sound.specs.Stack.{stack-frame, stack-numbers}
 use Rattle.sound.specs.Laws.{CodeLaws, rules}
 use Rattle.sound.specs.Sound.{Running}
 use Rattle.sound.specs.Keep.{running-here, running-fits}
-use Rattle.sound.specs.Plan.{bases, frame-words}
+use Rattle.sound.specs.Rules.{bases, frame-words}
 use Rattle.theory.specs.Demand.{heap-laws}
 use Rattle.plan.specs.Ready.{Ready, placeOf, here}
 use Rattle.safe.specs.Alive.{Alive, alive-laws, alive-running}

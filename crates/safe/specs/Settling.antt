@@ -16,21 +16,22 @@ use Rattle.model.specs.Checker.{none, basicEffect, effectOf}
 use Rattle.model.specs.Rules.{Opens}
 use Rattle.model.specs.Heap.{Pointer, markOf, inPtrs, inPlain}
 use Rattle.model.specs.Control.{Machine, recAt, down, recordWords}
-use Rattle.model.specs.Instructions.{mtop, ptop, mainWord, ptrWord, write, onObject, onValue, callTests, basicPlan, planOf, planAt}
+use Rattle.model.specs.Moves.{mtop, ptop, mainWord, ptrWord}
+use Rattle.model.specs.Instructions.{callTests}
+use Rattle.bridge.specs.Planned.{write, onObject, onValue, basicPlan, planOf, planAt, framePut, behindPut}
 use Rattle.model.specs.Sound.{innerAt}
 use Rattle.model.specs.declared.Value.{Value}
 use Rattle.model.specs.declared.Value.the-variants.{Word, Outside}
-use Rattle.model.specs.declared.Into.the-variants as into
-use Rattle.model.specs.declared.Put.{Put}
-use Rattle.model.specs.declared.Plan.{Plan}
-use Rattle.model.specs.declared.Plan.the-variants.{Write, Overflow, NilObject, BadField, HeapFull, NoRoom, Thrown}
+use Rattle.bridge.specs.declared.Into.the-variants as into
+use Rattle.bridge.specs.declared.Put.{Put}
+use Rattle.bridge.specs.declared.Plan.{Plan}
+use Rattle.bridge.specs.declared.Plan.the-variants.{Write, Overflow, NilObject, BadField, HeapFull, NoRoom, Thrown}
 use Rattle.exact.specs.Walk.{instruction-below, instruction-whole, proc-below}
 use Rattle.heap.specs.Stores.{read-ptr, read-plain}
 use Rattle.sound.specs.Lists.{down-length}
 use Rattle.sound.specs.Stack.{Stack, first, frame, handler, stack-here, stack-frame, stack-numbers, Found, find}
 use Rattle.sound.specs.Laws.{CodeLaws, call-byte, call-after, at-exit, depth-most, inner-opens}
 use Rattle.sound.specs.Sound.{Running}
-use Rattle.sound.specs.Keep.{framePut, behindPut}
 use Rattle.plan.specs.Ready.{Ready, placeOf, here}
 use Rattle.writes.specs.Asks.{Pops}
 use Rattle.exec.specs.Applies.{Stands, Suits}

@@ -24,8 +24,7 @@ use Rattle.sound.specs.Lists.{length-cut, length-put}
 use Rattle.sound.specs.Laws.{CodeLaws, code-laws}
 use Rattle.sound.specs.Sound.{Sound, Audited, sound-with, true-sound?, running-depths}
 use Rattle.sound.specs.Keep.{start-sound}
-use Rattle.sound.specs.Plan.{HeapLaws}
-use Rattle.sound.specs.Steps.{Kept, kept-here, kept-on, step-keeps}
+use Rattle.sound.specs.Rules.{HeapLaws, Kept, kept-here, kept-on, step-keeps}
 use Rattle.sound.specs.Runs.{after-keeps, run-keeps}
 use Rattle.sound.specs.Registers.{registers-length, registers-back, sound-small}
 
@@ -69,7 +68,7 @@ module _ (H : HeapLaws) where
         go (inl R) =
             let h = S .same-heap in
             kept-on S
-            (step-keeps (l .file) (l .map) L m (S .objects) (R .0) (R .1) (R .2) (R .3) (S .heap) H (omega arith) m′ e)
+            (step-keeps (l .file) (l .map) m (S .objects) (R .1) (R .2) (R .0) L H (R .3) (S .heap) (omega arith) m′ e)
         go (inr D) = absurd (u (D .state-is))
 
     -- what a state leaves is held: its registers come back from their bytes

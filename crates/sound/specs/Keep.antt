@@ -14,38 +14,15 @@ use Rattle.model.specs.Words.{cut}
 use Rattle.model.specs.File.{call, return, enter, exit, operand, after, entry, headOf, insAt, procAt, paramsMain, paramsPtr, resultsMain, resultsPtr, mostMain, mostPtr}
 use Rattle.model.specs.Checker.{State, state, none, handlerAt}
 use Rattle.model.specs.Control.{Machine, machine, regs, rec, recAt, recOf, down, recordWords, records}
-use Rattle.model.specs.Instructions.{mtop, ptop, callTests}
-use Rattle.model.specs.Step.{called, returned, finished, opened, closed, caught, applyInto}
+use Rattle.model.specs.Moves.{mtop, ptop, goTo, openFrame, openHandler, closeFrame, closeHandler}
+use Rattle.model.specs.Instructions.{callTests, finished}
+use Rattle.model.specs.Step.{caught}
 use Rattle.model.specs.Sound.{mainAt, ptrAt, innerAt, isIns, isCall}
 use Rattle.model.specs.Calls.{Lent, started}
-use Rattle.model.specs.declared.Into.{Into}
-use Rattle.model.specs.declared.Into.the-variants.{Frame, Return, Handler, Close}
-use Rattle.model.specs.declared.Put.{Put}
 use Rattle.sound.specs.Lists.{Zero, Each, length-cut, cut-zero, cut-each, set-zero, length-put, put-zero, down-put, down-cut, down-length}
 use Rattle.sound.specs.Stack.{Stack, first, frame, handler, stack-here, stack-move, stack-some, stack-frame, Found, find}
 use Rattle.sound.specs.Laws.{Is, CodeLaws, some, small, at-entry, no-params, at-call, at-return, at-enter, at-exit, inner-opens, depth-most, call-byte, byte-call, call-after}
 use Rattle.sound.specs.Sound.{Words, Running, Sound}
-
--- what a call writes, as `planOf` has it
-abbrev pub framePut : List ℕ → Machine → ℕ → Put
-framePut f m k =
-    record {
-      into = Frame;
-      place = entry f k;
-      mtop = mtop m;
-      ptop = ptop m;
-      at = mtop m - paramsMain f k;
-      word = ptop m - paramsPtr f k;
-    }
-
--- and a return
-abbrev pub returnPut : Machine → Put
-returnPut m =
-    record { into = Return; place = recOf (m .ctl) (m .regs .frame) .w3; mtop = mtop m; ptop = ptop m; at = 0; word = 0 }
-
--- a 160 and a 161
-abbrev pub behindPut : Into → List ℕ → Machine → Put
-behindPut into f m = record { into = into; place = after f (m .regs .place); mtop = mtop m; ptop = ptop m; at = 0; word = 0 }
 
 module _ (f map : List ℕ) where
   pub running-here : (Ptr : ℕ → Type 0) (m : Machine) (n i j : ℕ) → Running f map Ptr m n i j → isIns f (m .regs .place) ≡ true
@@ -86,7 +63,8 @@ module _ (f map : List ℕ) where
 
     -- 72: the callee's frame on top
     pub keep-call : (n i j k : ℕ) → Running f map Ptr m n i j → insAt f (m .regs .place) ≡ call k → All (callTests f m k) →
-        Running f map Ptr (called f (framePut f m k) m) (suc n) (mtop m - paramsMain f k) (ptop m - paramsPtr f k)
+        Running f map Ptr
+        (goTo (entry f k) (openFrame (rec (mtop m - paramsMain f k) (ptop m - paramsPtr f k) k (after f (m .regs .place)) (m .regs .frame)) m)) (suc n) (mtop m - paramsMain f k) (ptop m - paramsPtr f k)
     unfolding isCall
     keep-call n i j k R e T =
         let p = m .regs .place in
@@ -102,7 +80,7 @@ module _ (f map : List ℕ) where
         let c : records m ≡ n = omega arith in
         let one = stack-some f map (length (m .main)) (length (m .ptr)) (R .stack) in
         let len = down-length (m .ctl) n in
-        let w = rec (mtop m - paramsMain f k) (ptop m - paramsPtr f k) (operand f p) (after f p) (m .regs .frame) in
+        let w = rec (mtop m - paramsMain f k) (ptop m - paramsPtr f k) k (after f p) (m .regs .frame) in
         let d = down-put (m .ctl) (records m) n w c (omega arith) in
         record {
           main-top = rw (I .main) (omega arith);
@@ -119,7 +97,7 @@ module _ (f map : List ℕ) where
               {j′ = j}
               (I .inner)
               (omega arith)
-              (I .here, (omega arith, (refl, (refl, (o ∙ sym (I .proc), (rw (I .proc) (T .0), (rw (I .proc) (T .1 .0), tt)))))))
+              (I .here, (omega arith, (refl, (refl, (sym (I .proc), (rw (I .proc) (T .0), (rw (I .proc) (T .1 .0), tt)))))))
               (eq-eqb _ 72 b, (o ∙ sym (I .proc), (call-after f p b, (rw (I .proc) (omega arith), (rw (I .proc) (omega arith), tt)))))
               (rw (I .proc) (omega arith))
               (rw (I .proc) (omega arith))
@@ -129,8 +107,8 @@ module _ (f map : List ℕ) where
 
     -- 73: the topmost record goes, a frame's, since a return has no handler open
     pub keep-return : (n i j : ℕ) → Running f map Ptr m n i j → insAt f (m .regs .place) ≡ return →
-        Sound f map Ptr (applyInto f Return (returnPut m) m)
-    unfolding applyInto isCall
+        Sound f map Ptr (if eqb (m .regs .frame) 1 then finished m else goTo (recOf (m .ctl) (m .regs .frame) .w3) (closeFrame m))
+    unfolding isCall
     keep-return zero i j R e = absurd (omega (arith, stack-some f map (length (m .main)) (length (m .ptr)) (R .stack)))
     keep-return (suc n) i j R e = go (R .stack)
       where
@@ -140,7 +118,7 @@ module _ (f map : List ℕ) where
 
         go : Stack f map (length (m .main)) (length (m .ptr)) (down (m .ctl) (suc n)) (innerAt map (m .regs .place)) (m .regs .place)
             (m .regs .frame) (m .regs .handler) i j →
-            Sound f map Ptr (if eqb (m .regs .frame) 1 then finished m else returned (returnPut m) m)
+            Sound f map Ptr (if eqb (m .regs .frame) 1 then finished m else goTo (recOf (m .ctl) (m .regs .frame) .w3) (closeFrame m))
         go (first z u F T) =
             let e1 = R .main-top ∙ ap (λ (d : ℕ). i + d) (E .main ∙ ap (resultsMain f) (T .0)) in
             let e2 = R .ptr-top ∙ ap (λ (d : ℕ). j + d) (E .ptr ∙ ap (resultsPtr f) (T .0)) in
@@ -193,7 +171,8 @@ module _ (f map : List ℕ) where
 
     -- 160: a handler's record on top
     pub keep-enter : (n i j s : ℕ) → Running f map Ptr m n i j → insAt f (m .regs .place) ≡ enter s →
-        m .regs .ctop + recordWords ≤ length (m .ctl) → Running f map Ptr (opened (behindPut Handler f m) m) (suc n) i j
+        m .regs .ctop + recordWords ≤ length (m .ctl) → Running f map Ptr
+        (goTo (after f (m .regs .place)) (openHandler (rec (m .regs .place) (mtop m) (ptop m) (m .regs .frame) (m .regs .handler)) m)) (suc n) i j
     keep-enter n i j s R e fits =
         let p = m .regs .place in
         let h = running-here Ptr m n i j R in
@@ -218,7 +197,7 @@ module _ (f map : List ℕ) where
 
     -- 161: the topmost record goes, a handler's, since one is open
     pub keep-exit : (n i j : ℕ) → Running f map Ptr m n i j → insAt f (m .regs .place) ≡ exit →
-        Running f map Ptr (closed (behindPut Close f m) m) (n - 1) i j
+        Running f map Ptr (goTo (after f (m .regs .place)) (closeHandler m)) (n - 1) i j
     keep-exit zero i j R e = absurd (omega (arith, stack-some f map (length (m .main)) (length (m .ptr)) (R .stack)))
     keep-exit (suc n) i j R e = go (R .stack)
       where
@@ -228,7 +207,7 @@ module _ (f map : List ℕ) where
         X = at-exit f map L (m .regs .place) (running-here Ptr m (suc n) i j R) e
 
         go : Stack f map (length (m .main)) (length (m .ptr)) (down (m .ctl) (suc n)) (innerAt map (m .regs .place)) (m .regs .place)
-            (m .regs .frame) (m .regs .handler) i j → Running f map Ptr (closed (behindPut Close f m) m) (suc n - 1) i j
+            (m .regs .frame) (m .regs .handler) i j → Running f map Ptr (goTo (after f (m .regs .place)) (closeHandler m)) (suc n - 1) i j
         go (first z u F T) = absurd (X .0 z)
         go (frame z u F T ei ej S) = absurd (X .0 z)
         go (handler u T S) =

@@ -4,8 +4,7 @@ pub mod Stack
 pub mod Laws
 pub mod Sound
 pub mod Keep
-pub mod Plan
-pub mod Steps
+pub mod Rules
 pub mod Runs
 pub mod Registers
 pub mod Claims

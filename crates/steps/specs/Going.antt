@@ -7,16 +7,17 @@ use native.Mathlib.Omega.{arith}
 use lib.ListN.{length}
 use borrow.Author.Tests.{ne-eqb}
 use Rattle.model.specs.Control.{Machine, machine}
-use Rattle.model.specs.Instructions.{planAt}
-use Rattle.model.specs.Step.{next, settle, step, runOn}
-use Rattle.safe.specs.Alive.{Alive, alive-step}
+use Rattle.bridge.specs.Planned.{planAt}
+use Rattle.model.specs.Step.{next, step, runOn}
+use Rattle.bridge.specs.Settled.{settle}
+use Rattle.safe.specs.Alive.{Alive, alive-plan, alive-step}
 use Rattle.exec.specs.Applies.{Late, Later, appliedIf}
 use Rattle.exec.specs.declared.Tried.{Tried}
 use Rattle.model.specs.declared.Regs.{Regs}
 use Rattle.steps.specs.declared.Pause.{Pause}
-use Rattle.model.specs.declared.Put.{Put}
-use Rattle.model.specs.declared.Plan.{Plan}
-use Rattle.model.specs.declared.Plan.the-variants.{Write}
+use Rattle.bridge.specs.declared.Put.{Put}
+use Rattle.bridge.specs.declared.Plan.{Plan}
+use Rattle.bridge.specs.declared.Plan.the-variants.{Write}
 
 -- a sound state of a passed file, with some map
 pub record Runs (f table : List ℕ) (m : Machine) : Type 0 where
@@ -125,6 +126,7 @@ module _ (f table : List ℕ) where
     pub going-applied : (put : Put) (t : Tried) (main ptr ctl heap : List ℕ) → Write put ≡ planAt f m → t .done ≡ true →
         machine (t .regs) main ptr ctl heap ≡ appliedIf (t .done) f put m → Alike (machine (t .regs) main ptr ctl heap) m →
         Going f table n m (n - 1) (machine (t .regs) main ptr ctl heap)
-    unfolding step settle
+    unfolding settle
     going-applied put t main ptr ctl heap e d a l =
-        stepped (machine (t .regs) main ptr ctl heap) (rw (← e) (ap next (sym (a ∙ ap (λ (u : Bool). appliedIf u f put m) d)))) l
+        stepped (machine (t .regs) main ptr ctl heap)
+        (sym (alive-plan (R .alive) on?) ∙ rw (← e) (ap next (sym (a ∙ ap (λ (u : Bool). appliedIf u f put m) d)))) l

@@ -2,9 +2,9 @@
 ghost use mathlib.Core.Path.{_≡_};
 ghost use Rattle.model.specs.Control.{machine};
 ghost use Rattle.steps.specs.Going.{Runs, Paused, pausedAt};
+use bridge::Plan;
+use bridge::Put;
 use exec::Tried;
-use model::Plan;
-use model::Put;
 use model::Regs;
 
 // Where the steps pause: before an instruction whose plan is settled apart, or with no step left of the budget.

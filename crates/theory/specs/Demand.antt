@@ -8,7 +8,7 @@ use Rattle.model.specs.Claim.{Calls}
 use Rattle.heap.specs.Audited.{clean-heap, heap-clean}
 use Rattle.heap.specs.Stores.{store-plain, store-ptr, store-root}
 use Rattle.heap.specs.Formed.{pointer-more, pointer-new, form-kept}
-use Rattle.sound.specs.Plan.{HeapLaws}
+use Rattle.sound.specs.Rules.{HeapLaws}
 use Rattle.sound.specs.Claims.{calls}
 
 pub heap-laws : HeapLaws

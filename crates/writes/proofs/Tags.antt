@@ -7,13 +7,13 @@ use native.Mathlib.Omega.{arith}
 use types.Run.{OneOf, miss}
 use lib.ListN.{length}
 use denote.Enum.Declared.{tagOf}
-use Rattle.model.proofs.Into as made
+use Rattle.bridge.proofs.Into as made
 use Rattle.model.specs.Control.{Machine}
-use Rattle.model.specs.Step.{cutOnly}
+use Rattle.bridge.specs.Settled.{cutOnly}
 use Rattle.model.specs.declared.Regs.{Regs}
-use Rattle.model.specs.declared.Into.{Into}
-use Rattle.model.specs.declared.Into.the-variants as into
-use Rattle.model.specs.declared.Put.{Put}
+use Rattle.bridge.specs.declared.Into.{Into}
+use Rattle.bridge.specs.declared.Into.the-variants as into
+use Rattle.bridge.specs.declared.Put.{Put}
 use Rattle.writes.specs.Asks.{Fits, Plain, Retract, Drops, Dropping, plainly}
 
 -- all but DropMain and DropPointer: no word is put back

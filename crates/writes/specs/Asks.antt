@@ -6,11 +6,11 @@ use mathlib.Core.Logic.{_⊎_}
 use mathlib.Core.List.{List}
 use lib.ListN.{length, set}
 use Rattle.model.specs.Control.{Machine, machine, regs}
-use Rattle.model.specs.Step.{onward, mainCut, ptrCut, cutOnly, mainSet, ptrSet}
+use Rattle.bridge.specs.Settled.{onward, mainCut, ptrCut, cutOnly, mainSet, ptrSet}
 use Rattle.model.specs.declared.Regs.{Regs}
-use Rattle.model.specs.declared.Into.{Into}
-use Rattle.model.specs.declared.Into.the-variants as into
-use Rattle.model.specs.declared.Put.{Put}
+use Rattle.bridge.specs.declared.Into.{Into}
+use Rattle.bridge.specs.declared.Into.the-variants as into
+use Rattle.bridge.specs.declared.Put.{Put}
 use Rattle.sound.specs.Lists.{Topped}
 
 -- at most a words of the main stack go, and b of the pointer stack

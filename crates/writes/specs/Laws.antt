@@ -4,11 +4,11 @@ use mathlib.Core.Path.{_≡_, subst}
 use mathlib.Core.List.{List}
 use lib.ListN.{length, set}
 use Rattle.model.specs.Control.{Machine, machine}
-use Rattle.model.specs.Step.{mainCut, ptrCut}
+use Rattle.bridge.specs.Settled.{mainCut, ptrCut}
 use Rattle.model.specs.declared.Regs.{Regs}
-use Rattle.model.specs.declared.Into.{Into}
-use Rattle.model.specs.declared.Into.the-variants as into
-use Rattle.model.specs.declared.Put.{Put}
+use Rattle.bridge.specs.declared.Into.{Into}
+use Rattle.bridge.specs.declared.Into.the-variants as into
+use Rattle.bridge.specs.declared.Put.{Put}
 use Rattle.writes.specs.Asks.{Fits, Plain, onwards, plainly}
 
 -- a plain write: the stacks cut, and a word stored

@@ -6,11 +6,12 @@ ghost use Prim.Native.Nat.{ℕ, _+_, _≤_};
 ghost use lib.ListN.{length};
 ghost use Rattle.model.specs.Words.{cut};
 ghost use Rattle.model.specs.Control.{Machine, machine};
-ghost use Rattle.model.specs.Step.{mainCut, ptrCut, finished};
+ghost use Rattle.model.specs.Instructions.{finished};
+ghost use Rattle.bridge.specs.Settled.{mainCut, ptrCut};
 ghost use Rattle.sound.specs.Lists.{Topped};
 ghost use Rattle.writes.specs.Asks.{Plain, Retract, Dropping, InMain, InPtr, onwards, plainly, tried, triedOn};
-use model::Into;
-use model::Put;
+use bridge::Into;
+use bridge::Put;
 use model::Regs;
 
 // Zeroes the words from new to old, the top so far.

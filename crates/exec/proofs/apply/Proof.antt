@@ -2,7 +2,7 @@
 use mathlib.Core.Path.{refl}
 use mathlib.Core.Logic.{inl, inr}
 use Rattle.model.specs.Control.{machine}
-use Rattle.model.specs.Step.{applied}
+use Rattle.bridge.specs.Settled.{applied}
 use Rattle.exec.specs.Applied.{to-call, to-open, to-close, to-plain, call-applied, leave-applied, open-applied, close-applied, told-done, told-undone, plain-done, plain-undone, plainly-state}
 use Rattle.exec.proofs.Tags.{plain-write}
 use borrow.Author.Needs.{needs}

@@ -1,6 +1,6 @@
 -- `exec::step_with` meets its contract: a write that was left is applied, every other plan raises its code.
 use Rattle.model.specs.Control.{machine}
-use Rattle.model.specs.Step.{settle}
+use Rattle.bridge.specs.Settled.{settle}
 use Rattle.exec.specs.Applied.{to-late}
 use Rattle.exec.specs.Ended.{endedOf, settle-raised}
 use Rattle.exec.proofs.Tags.{no-write}

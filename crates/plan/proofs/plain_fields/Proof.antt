@@ -5,7 +5,7 @@ use native.Mathlib.Omega.{arith}
 use borrow.Author.Needs.{needs}
 use borrow.Author.Tests.{eq-eqb, ne-eqb, not-true, not-false}
 use Rattle.model.specs.File.{insOf}
-use Rattle.model.specs.Instructions.{basicPlan, planOf}
+use Rattle.bridge.specs.Planned.{basicPlan, planOf}
 use Rattle.heap.specs.Stores.{in-plain}
 use Rattle.plan.specs.Given.{not-nil, lies}
 use Rattle.plans.specs.Given.{planned, other}

@@ -5,7 +5,7 @@ use native.Mathlib.Omega.{arith}
 use borrow.Author.Needs.{needs}
 use Rattle.model.specs.Checker.{basicEffect, effectOf}
 use Rattle.model.specs.File.{bodies, bodyOf, insOf}
-use Rattle.model.specs.Instructions.{basicPlan, planOf}
+use Rattle.bridge.specs.Planned.{basicPlan, planOf}
 use Rattle.plans.specs.Given.{planned, other}
 use Rattle.plan.specs.Arms.{place-in, place-small, main-within, ptr-within, record-in, body, pops-main, callee}
 use Rattle.plan.specs.Ready.{plan-is}

@@ -5,7 +5,7 @@ use native.Mathlib.Omega.{arith}
 use borrow.Author.Needs.{needs}
 use Rattle.model.specs.Checker.{basicEffect, effectOf}
 use Rattle.model.specs.File.{bodies, bodyOf, insOf, insAt}
-use Rattle.model.specs.Instructions.{basicPlan, planOf, planAt}
+use Rattle.bridge.specs.Planned.{basicPlan, planOf, planAt}
 use Rattle.plans.specs.Given.{planned, other}
 use Rattle.plan.specs.Arms.{place-small, main-within, ptr-within, body, pops-main, pops-ptr, points}
 use Rattle.plan.specs.Kinds.{third, no-other}

@@ -1,7 +1,7 @@
 -- `plan::same_ptr`: the definition computes; `words::eq_w` ensures the word.
 use borrow.Author.Needs.{needs}
 use Rattle.model.specs.File.{insOf}
-use Rattle.model.specs.Instructions.{basicPlan, planOf}
+use Rattle.bridge.specs.Planned.{basicPlan, planOf}
 use Rattle.plan.specs.Given.{same-word}
 use Rattle.plans.specs.Given.{planned}
 use Rattle.plan.proofs.same_ptr.Statement.{statement}

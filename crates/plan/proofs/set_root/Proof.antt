@@ -1,7 +1,7 @@
 -- `plan::set_root`: the definition computes.
 use borrow.Author.Needs.{needs}
 use Rattle.model.specs.File.{insOf}
-use Rattle.model.specs.Instructions.{basicPlan, planOf}
+use Rattle.bridge.specs.Planned.{basicPlan, planOf}
 use Rattle.plans.specs.Given.{planned}
 use Rattle.plan.proofs.set_root.Statement.{statement}
 use Rattle.plan.proofs.set_root.Tie as tie

@@ -1,7 +1,7 @@
 -- `plans::compare`: at each of the five codes the definition computes, and the comparison is the one that `words` ensures.
 use borrow.Author.Needs.{needs}
 use Rattle.model.specs.File.{insOf}
-use Rattle.model.specs.Instructions.{basicPlan, planOf}
+use Rattle.bridge.specs.Planned.{basicPlan, planOf}
 use Rattle.plans.specs.Given.{Binary, other}
 use Rattle.plans.proofs.compare.Statement.{statement}
 use Rattle.plans.proofs.compare.Tie as tie

@@ -1,7 +1,7 @@
 -- `plans::jumps`: at each of the two codes the definition computes.
 use borrow.Author.Needs.{needs}
 use Rattle.model.specs.File.{insOf}
-use Rattle.model.specs.Instructions.{planOf}
+use Rattle.bridge.specs.Planned.{planOf}
 use Rattle.plans.specs.Given.{planned, other}
 use Rattle.plans.proofs.jumps.Statement.{statement}
 use Rattle.plans.proofs.jumps.Tie as tie

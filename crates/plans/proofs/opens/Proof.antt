@@ -2,7 +2,7 @@
 use borrow.Author.Needs.{needs}
 use borrow.Author.Tests.{le-leb, lt-leb}
 use Rattle.model.specs.File.{insOf}
-use Rattle.model.specs.Instructions.{planOf}
+use Rattle.bridge.specs.Planned.{planOf}
 use Rattle.plans.specs.Given.{planned}
 use Rattle.plans.proofs.opens.Statement.{statement}
 use Rattle.plans.proofs.opens.Tie as tie

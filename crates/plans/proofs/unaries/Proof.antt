@@ -2,7 +2,7 @@
 use mathlib.Core.Path.{_∙_, sym}
 use borrow.Author.Tests.{not-true, not-false}
 use Rattle.model.specs.File.{insOf}
-use Rattle.model.specs.Instructions.{basicPlan, planOf}
+use Rattle.bridge.specs.Planned.{basicPlan, planOf}
 use Rattle.model.specs.Words.{valueOf, operate1}
 use Rattle.plans.specs.Given.{planned, other}
 use borrow.Author.Needs.{needs}

@@ -1,0 +1,40 @@
+// What the code plans for an instruction, and what writing it comes to. `Bridge` shows that it is the model's step.
+
+// What an instruction writes, beside the tops and the place.
+pub enum Into {
+    Nothing,
+    Main, // a word of the main stack
+    Pointer, // a word of the pointer stack
+    Heap, // a word of the heap
+    Read, // a word of the main stack, had from one or two pointers, which go: 30, 131
+    Drop, // nothing; words of both stacks go, as many as the instruction says
+    DropMain, // a word of the main stack, set aside while words of both stacks go
+    DropPointer, // the same with a word of the pointer stack
+    View, // a new object, and its index on the pointer stack
+    Frame, // a frame's record on the control stack
+    Return, // takes the running frame's record away
+    Handler, // a handler's record on the control stack
+    Close, // takes the innermost handler's record away
+}
+
+// The writes of an instruction. Both stacks are cut to their new tops, then one word or none is written; what opens or closes a record of the
+// control stack leaves both stacks as they are.
+pub struct Put {
+    pub into: Into,
+    pub place: usize, // the next place
+    pub mtop: usize, // the new top of the main stack
+    pub ptop: usize, // the new top of the pointer stack
+    pub at: usize, // the index of the word written; the main base of a new frame
+    pub word: u32, // the word written; the pointer base of a new frame
+}
+
+// What an instruction is about to do: its writes, or the exception that it raises before any write.
+pub enum Plan {
+    Write(Put),
+    Overflow, // 1: a result outside the range of a word, or a divisor of 0
+    NilObject, // 2: the object is nil
+    BadField, // 3: no such word in the part asked for
+    HeapFull, // 4: the heap has too few free words
+    NoRoom, // 5: a frame or a handler does not fit the stacks
+    Thrown, // the word that instruction 162 pops
+}
