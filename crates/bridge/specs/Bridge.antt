@@ -21,7 +21,7 @@ use Rattle.model.specs.declared.Value.{Value}
 use Rattle.model.specs.declared.Value.the-variants.{Word, Outside}
 use Rattle.bridge.specs.declared.Into.the-variants.{Nothing, View}
 use Rattle.bridge.specs.declared.Plan.{Plan}
-use Rattle.bridge.specs.declared.Plan.the-variants.{NilObject, BadField, HeapFull, NoRoom}
+use Rattle.bridge.specs.declared.Plan.the-variants.{NilObject, NoSuchWord, HeapFull, NoRoom}
 use Rattle.bridge.specs.Planned.{basicPlan, planOf, planAt}
 use Rattle.bridge.specs.Planned as plan
 use Rattle.bridge.specs.Settled.{applyInto, applied, settle}
@@ -100,7 +100,7 @@ module _ (f : List ℕ) (m : Machine) (q : ℕ) where
   unfolding settle
   on-object o t p m′ k = go (eqb o 0) t
     where
-      go : (u v : Bool) → Agree (if u then NilObject else if v then p else BadField)
+      go : (u v : Bool) → Agree (if u then NilObject else if v then p else NoSuchWord)
           (andGo q (if u then throws 2 else if v then done m′ else throws 3))
       go true v = refl
       go false true = k

@@ -17,7 +17,7 @@ use Rattle.bridge.specs.declared.Into.{Into}
 use Rattle.bridge.specs.declared.Into.the-variants.{Nothing, Main, Pointer, Heap, Read, Drop, DropMain, DropPointer, View, Frame, Return, Handler, Close}
 use Rattle.bridge.specs.declared.Put.{Put}
 use Rattle.bridge.specs.declared.Plan.{Plan}
-use Rattle.bridge.specs.declared.Plan.the-variants.{Write, Overflow, NilObject, BadField, HeapFull, NoRoom, Thrown}
+use Rattle.bridge.specs.declared.Plan.the-variants.{Write, OutOfRange, NilObject, NoSuchWord, HeapFull, NoRoom, Thrown}
 
 -- the next place, the tops of the main and the pointer stack, and the word that is written into a list at an index
 abbrev pub write : Into → ℕ → ℕ → ℕ → ℕ → ℕ → Plan
@@ -25,12 +25,12 @@ write i q m p at w = Write (record { into = i; place = q; mtop = m; ptop = p; at
 
 -- exception 2 for a nil object, then 3 where the word is not in the part asked for, else the plan
 abbrev pub onObject : ℕ → Bool → Plan → Plan
-onObject o inPart plan = if eqb o 0 then NilObject else if inPart then plan else BadField
+onObject o inPart plan = if eqb o 0 then NilObject else if inPart then plan else NoSuchWord
 
 -- exception 1, or the plan for the word
 abbrev pub onValue : Value → (ℕ → Plan) → Plan
 onValue (Word w) plan = plan w
-onValue Outside plan = Overflow
+onValue Outside plan = OutOfRange
 
 -- an instruction that works on words, with q the next place. In the order of the table:
 -- 20, 21 "push word s of the frame"; 22, 23 "pop, store in word s"; 30, 31 "pop object, push its word s"; 32, 33 "pop object, then

@@ -17,7 +17,7 @@ use Rattle.bridge.specs.declared.Into.{Into}
 use Rattle.bridge.specs.declared.Into.the-variants.{Nothing, Main, Pointer, Heap, Read, Drop, DropMain, DropPointer, View, Frame, Return, Handler, Close}
 use Rattle.bridge.specs.declared.Put.{Put}
 use Rattle.bridge.specs.declared.Plan.{Plan}
-use Rattle.bridge.specs.declared.Plan.the-variants.{Write, Overflow, NilObject, BadField, HeapFull, NoRoom, Thrown}
+use Rattle.bridge.specs.declared.Plan.the-variants.{Write, OutOfRange, NilObject, NoSuchWord, HeapFull, NoRoom, Thrown}
 
 -- a stack cut to its new top, and one with a word written then
 abbrev pub mainCut : Put → Machine → List ℕ
@@ -112,9 +112,9 @@ applied f p m = applyInto f (p .into) p m
 -- the exceptions' codes; 162 raises the word that it pops
 unfoldable pub settle : List ℕ → Machine → Plan → Stepped
 settle f m (Write p) = next (applied f p m)
-settle f m Overflow = raised f m 1
+settle f m OutOfRange = raised f m 1
 settle f m NilObject = raised f m 2
-settle f m BadField = raised f m 3
+settle f m NoSuchWord = raised f m 3
 settle f m HeapFull = raised f m 4
 settle f m NoRoom = raised f m 5
 settle f m Thrown = raised f m (mainWord m 1)

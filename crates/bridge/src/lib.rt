@@ -31,9 +31,9 @@ pub struct Put {
 // What an instruction is about to do: its writes, or the exception that it raises before any write.
 pub enum Plan {
     Write(Put),
-    Overflow, // 1: a result outside the range of a word, or a divisor of 0
+    OutOfRange, // 1: a result outside the range of a word, or a divisor of 0
     NilObject, // 2: the object is nil
-    BadField, // 3: no such word in the part asked for
+    NoSuchWord, // 3: no such word in the part asked for
     HeapFull, // 4: the heap has too few free words
     NoRoom, // 5: a frame or a handler does not fit the stacks
     Thrown, // the word that instruction 162 pops

@@ -15,7 +15,7 @@ use Rattle.bridge.specs.Settled.{settle}
 use Rattle.model.specs.declared.Regs.{Regs}
 use Rattle.bridge.specs.declared.Put.{Put}
 use Rattle.bridge.specs.declared.Plan.{Plan}
-use Rattle.bridge.specs.declared.Plan.the-variants.{Write, Overflow, NilObject, BadField, HeapFull, NoRoom, Thrown}
+use Rattle.bridge.specs.declared.Plan.the-variants.{Write, OutOfRange, NilObject, NoSuchWord, HeapFull, NoRoom, Thrown}
 use Rattle.exec.specs.declared.Outcome.{Outcome}
 use Rattle.exec.specs.declared.Guard.{Guard}
 use Rattle.sound.specs.Lists.{Topped}
@@ -50,9 +50,9 @@ module _ (m : Machine) (o : Outcome) (main ptr ctl heap : List ℕ) where
 -- the code of the exception that a plan raises; main and its top
 unfoldable pub codeOf : List ℕ → ℕ → Plan → ℕ
 codeOf main t (Write put) = 0
-codeOf main t Overflow = 1
+codeOf main t OutOfRange = 1
 codeOf main t NilObject = 2
-codeOf main t BadField = 3
+codeOf main t NoSuchWord = 3
 codeOf main t HeapFull = 4
 codeOf main t NoRoom = 5
 codeOf main t Thrown = wordAt main (t - 1)
@@ -61,9 +61,9 @@ pub settle-raised : (f : List ℕ) (m : Machine) (plan : Plan) → ((put : Put) 
     settle f m plan ≡ raised f m (codeOf (m .main) (mtop m) plan)
 unfolding settle codeOf
 settle-raised f m (Write put) never = absurd (never put refl)
-settle-raised f m Overflow never = refl
+settle-raised f m OutOfRange never = refl
 settle-raised f m NilObject never = refl
-settle-raised f m BadField never = refl
+settle-raised f m NoSuchWord never = refl
 settle-raised f m HeapFull never = refl
 settle-raised f m NoRoom never = refl
 settle-raised f m Thrown never = refl

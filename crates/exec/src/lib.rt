@@ -218,9 +218,9 @@ pub fn code_of(plan: Plan, main: &[u32], mtop: usize) -> u32
 {
     match plan {
         Plan::Write(_) => 0,
-        Plan::Overflow => 1,
+        Plan::OutOfRange => 1,
         Plan::NilObject => 2,
-        Plan::BadField => 3,
+        Plan::NoSuchWord => 3,
         Plan::HeapFull => 4,
         Plan::NoRoom => 5,
         Plan::Thrown => main[mtop - 1],

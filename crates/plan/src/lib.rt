@@ -76,7 +76,7 @@ fn plain_fields(file: &[u8], main: &[u32], ptr: &[u32], heap: &[u32], regs: Regs
     }
     let s = code::operand(file, place);
     if !heap::in_plain(heap, object, s) {
-        return Plan::BadField;
+        return Plan::NoSuchWord;
     }
     let at = object + s;
     if kind == 30 {
@@ -108,7 +108,7 @@ fn ptr_fields(file: &[u8], ptr: &[u32], heap: &[u32], regs: Regs, kind: u8) -> P
     }
     let s = code::operand(file, place);
     if !heap::in_ptrs(heap, view, s) {
-        return Plan::BadField;
+        return Plan::NoSuchWord;
     }
     let slot = view + s;
     if kind == 31 {

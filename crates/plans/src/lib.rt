@@ -34,7 +34,7 @@ fn number(z: i64, place: usize, mtop: usize, ptop: usize, at: usize) -> Plan
     ensures { λ r. ⌜ r ≡ onValue (valueOf z) (λ w. write Into.Main place mtop ptop at w) ⌝ }
 {
     if !words::fits(z) {
-        return Plan::Overflow;
+        return Plan::OutOfRange;
     }
     writes(Into::Main, place, mtop, ptop, at, words::narrow(z))
 }
@@ -45,7 +45,7 @@ fn result(value: Value, place: usize, mtop: usize, ptop: usize, at: usize) -> Pl
 {
     match value {
         Value::Word(w) => writes(Into::Main, place, mtop, ptop, at, w),
-        Value::Outside => Plan::Overflow,
+        Value::Outside => Plan::OutOfRange,
     }
 }
 
@@ -264,7 +264,7 @@ pub fn unaries(main: &[u32], regs: Regs, kind: u8) -> Plan
     let a = main[at];
     if kind == 144 {
         if !words::negates(a) {
-            return Plan::Overflow;
+            return Plan::OutOfRange;
         }
         return writes(Into::Main, place, regs.mtop, regs.ptop, at, words::neg(a));
     }

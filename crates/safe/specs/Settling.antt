@@ -25,7 +25,7 @@ use Rattle.model.specs.declared.Value.the-variants.{Word, Outside}
 use Rattle.bridge.specs.declared.Into.the-variants as into
 use Rattle.bridge.specs.declared.Put.{Put}
 use Rattle.bridge.specs.declared.Plan.{Plan}
-use Rattle.bridge.specs.declared.Plan.the-variants.{Write, Overflow, NilObject, BadField, HeapFull, NoRoom, Thrown}
+use Rattle.bridge.specs.declared.Plan.the-variants.{Write, OutOfRange, NilObject, NoSuchWord, HeapFull, NoRoom, Thrown}
 use Rattle.exact.specs.Walk.{instruction-below, instruction-whole, proc-below}
 use Rattle.heap.specs.Stores.{read-ptr, read-plain}
 use Rattle.sound.specs.Lists.{down-length}
@@ -46,9 +46,9 @@ module _ {f table : List ℕ} {m : Machine} (Y : Ready f table m) (open-one : he
 
   abbrev Suited : Plan → Type 0
   Suited (Write put) = Suits f (put .into) put m
-  Suited Overflow = Unit {0}
+  Suited OutOfRange = Unit {0}
   Suited NilObject = Unit {0}
-  Suited BadField = Unit {0}
+  Suited NoSuchWord = Unit {0}
   Suited HeapFull = Unit {0}
   Suited NoRoom = Unit {0}
   Suited Thrown = 1 ≤ mtop m
@@ -56,7 +56,7 @@ module _ {f table : List ℕ} {m : Machine} (Y : Ready f table m) (open-one : he
   on-object : (o : ℕ) (t : Bool) (plan : Plan) → (o ≢ 0 → t ≡ true → Suited plan) → Suited (onObject o t plan)
   on-object o t plan k = go (eqb o 0) refl t refl
     where
-      go : (u : Bool) → eqb o 0 ≡ u → (v : Bool) → t ≡ v → Suited (if u then NilObject else if v then plan else BadField)
+      go : (u : Bool) → eqb o 0 ≡ u → (v : Bool) → t ≡ v → Suited (if u then NilObject else if v then plan else NoSuchWord)
       go true e v d = tt
       go false e true d = k (eqb-false o 0 e) d
       go false e false d = tt
