@@ -11,6 +11,7 @@ use lib.Seq.{length-slice}
 use lib.Dec.{leb, eqb}
 use borrow.Author.Tests.{eqb-false, leb-true}
 use Rattle.model.specs.Choice.{if_then_else_, all, all-true}
+use Rattle.model.specs.Lists.{cut-same}
 use Rattle.model.specs.Words.{wordAt, truth, operate, operate1, cut}
 use Rattle.model.specs.File.{onMain, onPtr, keepMain, keepPtr, keepNone, Basic, local, assign, field, setField, make, form, makerPops, literal, nil, root, setRoot, retract, binary, samePtr, unary, Ins, basic, jump, branch, branchKeep, call, return, enter, exit, raise, after, insAt}
 use Rattle.model.specs.Checker.{basicEffect, effectOf}
@@ -30,13 +31,6 @@ use Rattle.bridge.specs.Planned.{basicPlan, planOf, planAt}
 use Rattle.bridge.specs.Planned as plan
 use Rattle.bridge.specs.Settled.{popRec, returned, applyInto, applied, settle}
 use Rattle.bridge.specs.Suits.{Pops, Suited}
-
--- where the words are 0 already, a cut changes nothing
-pub cut-same : (t : ℕ) (l : List ℕ) → ((i : ℕ) → t ≤ i → wordAt l i ≡ 0) → cut t l ≡ l
-unfolding cut
-cut-same t [] z = refl
-cut-same zero (w ∷ l) z = rw (z 0 (omega arith), cut-same zero l (λ i h. z (suc i) (omega arith)))
-cut-same (suc t) (w ∷ l) z = ap (λ (k : List ℕ). w ∷ k) (cut-same t l (λ i h. z (suc i) (omega arith)))
 
 -- a word that is set may have been popped before
 over : (l : List ℕ) (t w : ℕ) → set (cut (suc t) l) t w ≡ set (cut t l) t w
