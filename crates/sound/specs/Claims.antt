@@ -12,10 +12,10 @@ use borrow.Author.Tests.{eq-eqb}
 use Rattle.model.specs.Choice.{if_then_else_, all, All, all-true, true-all}
 use Rattle.model.specs.Words.{wordAt, cut}
 use Rattle.model.specs.Heap.{Heap, Pointer, Audit, fault, clean, heapOf, objectsOf}
-use Rattle.model.specs.Control.{Machine, machine, registerBytes}
-use Rattle.model.specs.Step.{next, step}
+use Rattle.model.specs.Control.{Machine, setRegs, registerBytes}
+use Rattle.model.specs.Step.{next, uncaught, step}
 use Rattle.model.specs.Sound.{sound?}
-use Rattle.model.specs.Calls.{Verdict, pass, refuse, verdictOf, checkOf, Lent, machineOf, leaving, withMap, lengthTests, After, answers, registered, audited, measured, afterCheck, tested, started, startOf, ranFrom, runOf}
+use Rattle.model.specs.Calls.{toldOf, Verdict, pass, refuse, verdictOf, checkOf, Lent, machineOf, leaving, withMap, lengthTests, longTests, soundTests, After, answers, demand, audited, afterMap, afterCheck, tested, started, startOf, ranFrom, runOf}
 use Rattle.model.specs.Claim.{Call, check, start, run, callOf, NotRefused, Depths, Pointers, Before, Claim, Bytes, Calls}
 use Rattle.model.specs.declared.Answer.the-variants as answer
 use Rattle.exact.specs.Exact.{passed-again}
@@ -24,13 +24,21 @@ use Rattle.sound.specs.Lists.{length-cut, length-put}
 use Rattle.sound.specs.Laws.{CodeLaws, code-laws}
 use Rattle.sound.specs.Sound.{Sound, Audited, sound-with, true-sound?, running-depths}
 use Rattle.sound.specs.Keep.{start-sound}
-use Rattle.sound.specs.Rules.{HeapLaws, Kept, kept-here, kept-on, step-keeps}
+use Rattle.sound.specs.Rules.{HeapLaws, Kept, kept-here, kept-on, step-keeps, step-stays}
 use Rattle.sound.specs.Runs.{after-keeps, run-keeps}
 use Rattle.sound.specs.Registers.{registers-length, registers-back, sound-small}
 
 -- a state between the steps of a run on the lists l
 abbrev pub Between : Lent → Machine → Type 0
 Between l m = Kept (l .file) (l .map) (machineOf l) m
+
+passed-told : NotRefused answer.Passed
+unfolding toldOf
+passed-told e = omega arith
+
+ready-told : NotRefused answer.Ready
+unfolding toldOf
+ready-told e = omega arith
 
 -- what holds of the lists from a ready start on
 pub record Held (l : Lent) : Type 0 where
@@ -71,6 +79,10 @@ module _ (H : HeapLaws) where
             (step-keeps (l .file) (l .map) m (S .objects) (R .1) (R .2) (R .0) L H (R .3) (S .heap) (omega arith) m′ e)
         go (inr D) = absurd (u (D .state-is))
 
+    -- an uncaught instruction leaves the state as it was
+    pub between-stays : (m m′ : Machine) (code : ℕ) → Between l m → step (l .file) m ≡ uncaught code m′ → Between l m′
+    between-stays m m′ code S e = subst (Between l) (step-stays (l .file) m m′ code e) S
+
     -- what a state leaves is held: its registers come back from their bytes
     left-held : (m : Machine) → Between l m → Held (leaving l m)
     unfolding lengthTests
@@ -82,7 +94,7 @@ module _ (H : HeapLaws) where
         sound-small (l .file) (l .map) (Pointer (S .objects)) m L (omega arith) (omega arith) (omega arith) (omega arith) (omega arith)
         (S .sound) in
         let r = registers-back (m .regs) small in
-        let w : m ≡ machineOf (leaving l m) = λ i. machine (sym r i) (m .main) (m .ptr) (m .ctl) (m .heap) in
+        let w : m ≡ machineOf (leaving l m) = λ i. setRegs (sym r i) m in
         record {
           bytes = B;
           passes = P;
@@ -129,29 +141,45 @@ module _ (H : HeapLaws) where
       (λ v p. rw (H .clean-audit (l .heap) (I .state .objects) (I .state .heap)) (true-pointer (I .state .objects) v p))
       (I .state .sound))
 
+  -- a run's tests pass, and the run follows, by the map that they left
+  run-is : (n : ℕ) (l : Lent) → Held l → runOf n l ≡ ranFrom n l
+  unfolding runOf
+  run-is n l I = tests-pass l I (λ l′. demand (soundTests l′) 12 l′ (ranFrom n l′)) ∙ rw (audited-sound l I)
+
   call-held : (c : Call) (l : Lent) → Held l → NotRefused (callOf c l .answer) × Held (callOf c l .lists)
-  unfolding callOf checkOf startOf runOf
-  call-held check l I = rw (I .passes) (tt, I)
+  unfolding callOf checkOf startOf
+  call-held check l I = rw (I .passes) (passed-told, I)
   call-held start l I =
       rw (tests-pass l I (λ l′. answers answer.Ready (leaving l′ (started l′))))
-      (tt, start-held l (I .bytes) (I .passes) (I .sizes) (I .state .objects) (I .state .heap))
+      (ready-told, start-held l (I .bytes) (I .passes) (I .sizes) (I .state .objects) (I .state .heap))
   call-held (run n) l I =
-      let R = run-keeps (l .file) (Between l) (between-step l (I .bytes) (I .passes) (I .sizes)) n 0 (machineOf l) (I .state) in
-      rw (tests-pass l I (ranFrom n), audited-sound l I) (R .1, left-held l (I .bytes) (I .passes) (I .sizes) _ (R .0))
+      let B = between-step l (I .bytes) (I .passes) (I .sizes) in
+      let S = between-stays l (I .bytes) (I .passes) (I .sizes) in
+      let R = run-keeps (l .file) (Between l) B S n 0 (machineOf l) (I .state) in
+      rw (run-is n l I) (R .1, left-held l (I .bytes) (I .passes) (I .sizes) _ (R .0))
 
   before : (c : Call) (l : Lent) → Held l → Before c l
   before check l I = tt
   before start l I = tt
-  before (run n) l I = λ k m h e u.
-      let S = after-keeps (l .file) (Between l) (between-step l (I .bytes) (I .passes) (I .sizes)) k (machineOf l) m (I .state) e in
-      (depths-of l m S u, pointers-of l m S)
+  before (run n) l I =
+      let B = between-step l (I .bytes) (I .passes) (I .sizes) in
+      let S = between-stays l (I .bytes) (I .passes) (I .sizes) in
+      rw (run-is n l I)
+      (record {
+        right =
+            λ k m h e u.
+            let T = after-keeps (l .file) (Between l) B S k (machineOf l) m (I .state) e in
+            record { depths = depths-of l m T u; pointers = pointers-of l m T };
+      })
 
   pub claims : (cs : List Call) (l : Lent) → Held l → Claim cs l
   claims [] l I = tt
   claims (c ∷ cs) l I =
       let r = call-held c l I in
-      let l′ = callOf c l .lists in
-      (r .0, before c l I, pointers-of l′ (machineOf l′) (r .1 .state), claims cs l′ (r .1))
+      let l′ = callOf c l .lists in (
+        record { not-refused = r .0; before = before c l I; pointers = pointers-of l′ (machineOf l′) (r .1 .state) },
+        claims cs l′ (r .1),
+      )
 
   -- a start that answers ready passed each test
   module _ (l : Lent) (B : Bytes (l .file)) where
@@ -161,23 +189,23 @@ module _ (H : HeapLaws) where
     abbrev Readied : After → Type 0
     Readied a = a .answer ≡ answer.Ready → Held (a .lists)
 
-    by-registers : Held (leaving l (started l)) → Readied (registered l (ready l))
-    by-registers h = go (eqb (length (l .bytes)) registerBytes)
+    by-registers : Held (leaving l (started l)) → Readied (demand (longTests l) 12 l (ready l))
+    by-registers h = go (all (longTests l))
       where
         go : (t : Bool) → Readied (if t then ready l else answers (answer.Refused 12 0) l)
         go true e = h
         go false e = absurd (true≢false (cc))
 
     by-heap : verdictOf (l .file) (l .map) ≡ pass (l .map) → All (lengthTests l) → (a : Audit) → heapOf (l .heap) ≡ a →
-        Readied (audited l (ready l) a)
+        Readied (audited a l (demand (longTests l) 12 l (ready l)))
     by-heap P T (fault q) d e = absurd (true≢false (cc))
     by-heap P T (clean os) d e = by-registers (start-held l B P T os (H .audit-clean (l .heap) os d)) e
 
-    by-lengths : verdictOf (l .file) (l .map) ≡ pass (l .map) → Readied (measured l (ready l))
+    by-lengths : verdictOf (l .file) (l .map) ≡ pass (l .map) → Readied (afterMap l (ready l))
     by-lengths P = go (all (lengthTests l)) refl
       where
         go : (t : Bool) → all (lengthTests l) ≡ t →
-            Readied (if t then audited l (ready l) (heapOf (l .heap)) else answers (answer.Refused 10 0) l)
+            Readied (if t then audited (heapOf (l .heap)) l (demand (longTests l) 12 l (ready l)) else answers (answer.Refused 10 0) l)
         go true u e = by-heap P (all-true (lengthTests l) u) (heapOf (l .heap)) refl e
         go false u e = absurd (true≢false (cc))
 
@@ -187,7 +215,7 @@ module _ (H : HeapLaws) where
     where
       go : (v : Verdict) → verdictOf (l .file) (l .map) ≡ v →
           afterCheck l (ready l B) v .answer ≡ answer.Ready → Held (afterCheck l (ready l B) v .lists)
-      go (pass map) u e = by-lengths (withMap l map) B (passed-again (l .file) (l .map) map u) e
+      go (pass map) u e = by-lengths (withMap map l) B (passed-again (l .file) (l .map) map u) e
       go (refuse n p map) u e = absurd (true≢false (cc))
 
   pub calls : Calls

@@ -8,17 +8,18 @@ use mathlib.Core.Logic.{inl, inr, _≢_}
 use native.Mathlib.Omega.{arith}
 use lib.Dec.{eqb}
 use borrow.Author.Tests.{eqb-true, eqb-false, not-true}
-use Rattle.model.specs.Choice.{if_then_else_, Mem}
+use Rattle.model.specs.Choice.{Mem}
+use Rattle.model.specs.Laws.{taken-most}
 use Rattle.model.specs.File.{Ins, basic, jump, branch, branchKeep, call, return, enter, exit, raise, byteAt, bodyOf, bodies, after, procs, procAt, entry, headTests, instructions, operand, insOf, insAt, paramsMain, paramsPtr, resultsMain, resultsPtr, mostMain, mostPtr}
 use Rattle.model.specs.Checker.{State, state, none, passes, outer, effectOf, handlerAt, targetTests, depthTests, leaveTests}
 use Rattle.model.specs.Rules.{Passes, Fine, Keeps}
 use Rattle.model.specs.Calls.{pass, verdictOf}
-use Rattle.model.specs.Claim.{Bytes, assigned}
+use Rattle.model.specs.Claim.{Bytes, assigned, InOrder}
 use Rattle.model.specs.Sound.{mainAt, ptrAt, innerAt, isIns}
 use Rattle.code.specs.Codes.{call-byte, byte-call, byte-enter}
 use Rattle.exact.specs.Walk.{member-in, in-member, instruction-below, procs-some, entry-proc}
 use Rattle.exact.specs.Flow.{Open, Shape, moves}
-use Rattle.exact.specs.Exact.{Formed, passed-as, passed-keeps, passed-shape}
+use Rattle.exact.specs.Exact.{passed-as, passed-keeps, passed-shape}
 
 -- an instruction stands at q, of procedure n, and the map has this state there
 pub record Is (f map : List ℕ) (q n : ℕ) (s : State) : Type 0 where
@@ -31,7 +32,7 @@ pub record Is (f map : List ℕ) (q n : ℕ) (s : State) : Type 0 where
 -- what a passed check gives: the file is in order, its map keeps the rules, has no greater depths than x and y, and each innermost open
 -- handler below its place
 pub record CodeLaws (f map : List ℕ) : Type 0 where
-  pub formed : Formed f
+  pub formed : InOrder f
   pub keeps : Keeps f (assigned map)
   pub shape : (p : ℕ) → Mem p (instructions f) → Shape f (assigned map) p
 
@@ -48,7 +49,7 @@ module _ (f map : List ℕ) (L : CodeLaws f map) where
   some = procs-some f (L .formed .places) (L .formed .records)
 
   pub small : (p : ℕ) → isIns f p ≡ true → p < none
-  small p h = let k = instruction-below f (L .formed .places) (L .formed .records) p (there p h) in let m = L .formed .most in omega arith
+  small p h = let k = instruction-below f (L .formed .places) (L .formed .records) p (there p h) in let m = L .formed .few in omega arith
 
   -- depths are at most x and y
   pub depth-most : (p : ℕ) → isIns f p ≡ true → (mainAt map p ≤ mostMain f (procAt f p)) × (ptrAt map p ≤ mostPtr f (procAt f p))
@@ -102,7 +103,7 @@ module _ (f map : List ℕ) (L : CodeLaws f map) where
   pub pops : (p : ℕ) (i : Ins) → isIns f p ≡ true → insAt f p ≡ i →
       (effectOf f i .popMain ≤ mainAt map p) × (effectOf f i .popPtr ≤ ptrAt map p)
   unfolding depthTests
-  pops p i h e = let D = rw e at (rules p h .depths) in (omega arith, omega arith)
+  pops p i h e = let D = rw e at (rules p h .depths) in (taken-most _ _ _ (D .0), taken-most _ _ _ (D .1 .0))
 
   -- a call: its callee's entry, what it takes, and the place behind it
   pub record Calls (p n : ℕ) : Type 0 where

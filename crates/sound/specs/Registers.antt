@@ -7,7 +7,7 @@ use native.Mathlib.Nat.{div-div-eq-div-mul, div-add-mod'}
 use lib.ListN.{length}
 use mathlib.Core.Logic.{inl, inr}
 use Rattle.model.specs.File.{mostMain, mostPtr}
-use Rattle.model.specs.Control.{Machine, regs, registerBytes, wordFrom, regsFrom, regBytes}
+use Rattle.model.specs.Control.{Machine, registerBytes, wordFrom, regsFrom, regBytes}
 use Rattle.model.specs.declared.Regs.{Regs}
 use Rattle.sound.specs.Stack.{stack-numbers}
 use Rattle.sound.specs.Laws.{CodeLaws, small, results-most}
@@ -55,7 +55,7 @@ registers-back r s =
     let e4 = four-bytes (r .ptop) (s .ptop) in
     let e5 = four-bytes (r .ctop) (s .ctop) in
     let e6 = four-bytes (r .state) (s .state) in
-    λ i. regs (e0 i) (e1 i) (e2 i) (e3 i) (e4 i) (e5 i) (e6 i)
+    λ i. record { place = e0 i; frame = e1 i; handler = e2 i; mtop = e3 i; ptop = e4 i; ctop = e5 i; state = e6 i }
 
 -- where the lists are short enough, with room for procedure 0
 pub sound-small : (f map : List ℕ) (Ptr : ℕ → Type 0) (m : Machine) → CodeLaws f map → length (m .main) < words → length (m .ptr) < words →

@@ -1,7 +1,7 @@
 -- What an instruction's rule leaves at a sound state is sound, its heap too, and the lists are as long as they were: the rule leads where
 -- the checker passes the state on, with the tops that the map has there. Each change that a rule is made of keeps the lists in order;
 -- then one case for each instruction.
-use Prim.Native.Nat.{ℕ, _+_, _-_, _<_, _≤_}
+use Prim.Native.Nat.{ℕ, _+_, _-_, _*_, _<_, _≤_}
 use mathlib.Core.Path.{_≡_, refl, ap, sym, _∙_, subst}
 use mathlib.Core.Bool.{Bool, true, false, true≢false}
 use mathlib.Core.List.{List}
@@ -13,13 +13,13 @@ use lib.Dec.{leb, eqb}
 use borrow.Author.Tests.{eqb-false, leb-true, ltb-true}
 use Rattle.model.specs.Choice.{if_then_else_, all, All, all-true, Mem}
 use Rattle.model.specs.Words.{wordAt, truth, operate, operate1}
-use Rattle.model.specs.File.{onMain, onPtr, keepMain, keepPtr, keepNone, Basic, local, assign, field, setField, form, literal, nil, root, setRoot, retract, binary, samePtr, unary, Ins, basic, jump, branch, branchKeep, call, return, enter, exit, raise, after, insAt, procAt}
+use Rattle.model.specs.File.{onMain, onPtr, keepMain, keepPtr, keepNone, Basic, local, assign, field, setField, Maker, form, makerPops, make, literal, nil, root, setRoot, retract, binary, samePtr, unary, Ins, basic, jump, branch, branchKeep, call, return, enter, exit, raise, after, insAt}
 use Rattle.model.specs.Checker.{State, effect, basicEffect, effectOf, moved, outer, passes, wordTests, depthTests}
-use Rattle.model.specs.Heap.{Heap, Pointer, markOf, viewKind, inPtrs, inPlain, made, clean, heapOf}
-use Rattle.model.specs.Control.{Machine, machine, regs, records, recordWords, recOf, mainBase, ptrBase}
-use Rattle.model.specs.Moves.{mtop, ptop, mainWord, ptrWord, mainWords, ptrWords, goTo, popMain, popPtr, pushMain, pushPtr, storeMain, storePtr, storeHeap, pushNew, closeFrame}
-use Rattle.model.specs.Instructions.{Result, done, throws, andGo, onObject, onValue, onRoom, newObject, callTests, basicRule, finished, rule}
-use Rattle.model.specs.Step.{next, uncaught, outcome, raised, caught, step}
+use Rattle.model.specs.Heap.{Heap, Pointer, markOf, viewKind, kinds, kindIn, inPtrs, inPlain, maySetPlain, maySetPtr, made, clean, heapOf}
+use Rattle.model.specs.Control.{Machine, handlerOf, running, records, recordWords, placeReg, mtopReg, ptopReg, setReg, setMain, setPtr, setHeap}
+use Rattle.model.specs.Moves.{mtop, ptop, mainWord, ptrWord, mainWords, ptrWords, goTo, popMain, popPtr, pushMain, pushPtr, storeMain, storePtr, storeHeap, pushNew, closeFrame, finished}
+use Rattle.model.specs.Instructions.{nilObject, noSuchWord, heapFull, Result, done, throws, fails, andGo, onObject, onValue, onRoom, object, newOf, onNew, makes, callTests, basicRule, rule}
+use Rattle.model.specs.Step.{next, uncaught, outcome, raised, caught, instruct, step}
 use Rattle.model.specs.Sound.{mainAt, innerAt, isIns}
 use Rattle.model.specs.declared.Value.{Value}
 use Rattle.model.specs.declared.Value.the-variants.{Word, Outside}
@@ -29,9 +29,9 @@ use Rattle.sound.specs.Lists.{Zero, Each, length-cut, cut-zero, cut-each
 use Rattle.sound.specs.Stack.{stack-frame}
 use Rattle.sound.specs.Laws.{Is, CodeLaws, leads, pops, rules}
 use Rattle.sound.specs.Sound.{Running, Sound}
-use Rattle.sound.specs.Keep.{running-here, running-fits, keep-plain, keep-call, keep-return, keep-enter, keep-exit, keep-raise}
+use Rattle.sound.specs.Keep.{Controlled, running-here, running-fits, keep-plain, keep-call, keep-return, keep-enter, keep-exit, keep-raise}
 
--- a view in the place of free words of the heap h: h′ with its objects, the old pointers, and the new one
+-- an object in the place of free words of the heap h: h′ with its objects, the old pointers, and the new one
 pub record Formed (h os h′ : List ℕ) : Type 0 where
   pub objects : List ℕ
   pub heap : Heap h′ objects
@@ -39,15 +39,18 @@ pub record Formed (h os h′ : List ℕ) : Type 0 where
   pub new : Pointer objects (markOf h)
   pub same-length : length h′ ≡ length h
 
--- what is proved of heaps elsewhere: the audit is exact; a store in an object or the root, and a new view, keep the heap sound
+-- what is proved of heaps elsewhere: the audit is exact; a store in an object or the root, and a new object that is right by its row of
+-- the table of kinds, keep the heap sound
 pub record HeapLaws : Type 0 where
   pub audit-clean : (h os : List ℕ) → heapOf h ≡ clean os → Heap h os
   pub clean-audit : (h os : List ℕ) → Heap h os → heapOf h ≡ clean os
-  pub plain-store : (h os : List ℕ) (q s w : ℕ) → Heap h os → Mem q os → inPlain h q s ≡ true → Heap (set h (q + s) w) os
-  pub ptr-store : (h os : List ℕ) (q s v : ℕ) → Heap h os → Mem q os → inPtrs h q s ≡ true → Pointer os v → Heap (set h (q + s) v) os
+  pub plain-store : (h os : List ℕ) (q s w : ℕ) → Heap h os → Mem q os → maySetPlain h q s ≡ true → Heap (set h (q + s) w) os
+  pub ptr-store : (h os : List ℕ) (q s v : ℕ) → Heap h os → Mem q os → maySetPtr h q s ≡ true → Pointer os v → Heap (set h (q + s) v) os
   pub root-store : (h os : List ℕ) (v : ℕ) → Heap h os → Pointer os v → Heap (set h 1 v) os
-  pub forms : (h os ps ws : List ℕ) → Heap h os → markOf h + (2 + (length ps + length ws)) ≤ length h → length h < 16777216 →
-      Each (Pointer os) ps → Formed h os (made viewKind ps ws h)
+  pub forms : (kind : ℕ) (h os ps ws : List ℕ) → kindIn kinds kind .ptrs (length ps) ≡ true →
+      kindIn kinds kind .size (length ps) (2 + (length ps + length ws)) ≡ true → Heap h os →
+      markOf h + (2 + (length ps + length ws)) ≤ length h → length h < 16777216 → Each (Pointer os) ps →
+      Formed h os (made kind ps ws h)
 
 -- sound after steps from m: control records, stacks and heap, and lists as long as they were
 pub record Kept (f map : List ℕ) (m m′ : Machine) : Type 0 where
@@ -75,8 +78,9 @@ kept-on A B =
       same-heap = B .same-heap ∙ A .same-heap;
     }
 
--- m′ with its objects os, changed from m by a part of a rule: its stacks and heap are in order
+-- m′ with its objects os, changed from m by a part of a rule: its stacks and heap are in order, and its control stack is as it was
 record Order (m : Machine) (os : List ℕ) (m′ : Machine) : Type 0 where
+  control : Controlled m m′
   heap : Heap (m′ .heap) os
   same-heap : length (m′ .heap) ≡ length (m .heap)
   same-main : length (m′ .main) ≡ length (m .main)
@@ -85,12 +89,18 @@ record Order (m : Machine) (os : List ℕ) (m′ : Machine) : Type 0 where
   zero-ptr : Zero (ptop m′) (m′ .ptr)
   pointers : Each (Pointer os) (m′ .ptr)
 
+-- another machine with the same control stack
+still : {m m′ : Machine} {q mt pt : ℕ} {main ptr heap : List ℕ} → Controlled m m′ →
+    Controlled m (setReg placeReg q (setReg mtopReg mt (setReg ptopReg pt (setMain main (setPtr ptr (setHeap heap m′))))))
+still C = record { frame = C .frame; handler = C .handler; ctop = C .ctop; state = C .state; ctl = C .ctl }
+
 -- each change keeps it
 module _ {m : Machine} {os : List ℕ} {m′ : Machine} (O : Order m os m′) where
   on-main : (t : ℕ) (l : List ℕ) → length l ≡ length (m′ .main) → Zero t l →
-      Order m os (machine (regs (m′ .regs .place) (m′ .regs .frame) (m′ .regs .handler) t (ptop m′) (m′ .regs .ctop) (m′ .regs .state)) l (m′ .ptr) (m′ .ctl) (m′ .heap))
+      Order m os (setReg mtopReg t (setMain l m′))
   on-main t l e z =
       record {
+        control = still (O .control);
         heap = O .heap;
         same-heap = O .same-heap;
         same-main = e ∙ O .same-main;
@@ -101,9 +111,10 @@ module _ {m : Machine} {os : List ℕ} {m′ : Machine} (O : Order m os m′) wh
       }
 
   on-ptr : (t : ℕ) (l : List ℕ) → length l ≡ length (m′ .ptr) → Zero t l → Each (Pointer os) l →
-      Order m os (machine (regs (m′ .regs .place) (m′ .regs .frame) (m′ .regs .handler) (mtop m′) t (m′ .regs .ctop) (m′ .regs .state)) (m′ .main) l (m′ .ctl) (m′ .heap))
+      Order m os (setReg ptopReg t (setPtr l m′))
   on-ptr t l e z p =
       record {
+        control = still (O .control);
         heap = O .heap;
         same-heap = O .same-heap;
         same-main = O .same-main;
@@ -132,19 +143,20 @@ module _ {m : Machine} {os : List ℕ} {m′ : Machine} (O : Order m os m′) wh
       (set-zero (ptop m′ + 1) (m′ .ptr) (ptop m′) w (omega arith) (λ i h. O .zero-ptr i (omega arith)))
       (set-each (Pointer os) (m′ .ptr) (ptop m′) w p (O .pointers))
 
-  store-main : (s w : ℕ) → mainBase m′ + s < mtop m′ → Order m os (storeMain s w m′)
+  store-main : (s w : ℕ) → running m′ .mainBase + s < mtop m′ → Order m os (storeMain s w m′)
   store-main s w h =
-      on-main (mtop m′) _ (length-set (m′ .main) (mainBase m′ + s) w) (set-zero (mtop m′) (m′ .main) (mainBase m′ + s) w h (O .zero-main))
+      on-main (mtop m′) _ (length-set (m′ .main) (running m′ .mainBase + s) w) (set-zero (mtop m′) (m′ .main) (running m′ .mainBase + s) w h (O .zero-main))
 
-  store-ptr : (s w : ℕ) → ptrBase m′ + s < ptop m′ → Pointer os w → Order m os (storePtr s w m′)
+  store-ptr : (s w : ℕ) → running m′ .ptrBase + s < ptop m′ → Pointer os w → Order m os (storePtr s w m′)
   store-ptr s w h p =
-      on-ptr (ptop m′) _ (length-set (m′ .ptr) (ptrBase m′ + s) w) (set-zero (ptop m′) (m′ .ptr) (ptrBase m′ + s) w h (O .zero-ptr))
-      (set-each (Pointer os) (m′ .ptr) (ptrBase m′ + s) w p (O .pointers))
+      on-ptr (ptop m′) _ (length-set (m′ .ptr) (running m′ .ptrBase + s) w) (set-zero (ptop m′) (m′ .ptr) (running m′ .ptrBase + s) w h (O .zero-ptr))
+      (set-each (Pointer os) (m′ .ptr) (running m′ .ptrBase + s) w p (O .pointers))
 
   other-heap : (os′ h : List ℕ) → Heap h os′ → length h ≡ length (m′ .heap) → ((v : ℕ) → Pointer os v → Pointer os′ v) →
-      Order m os′ (machine (m′ .regs) (m′ .main) (m′ .ptr) (m′ .ctl) h)
+      Order m os′ (setHeap h m′)
   other-heap os′ h K e old =
       record {
+        control = still (O .control);
         heap = K;
         same-heap = e ∙ O .same-heap;
         same-main = O .same-main;
@@ -176,7 +188,7 @@ module _ (f map : List ℕ) (m : Machine) (os : List ℕ) (i j : ℕ) where
   on-object q o t m′ k = go (eqb o 0) refl t refl
     where
       go : (u : Bool) → eqb o 0 ≡ u → (v : Bool) → t ≡ v →
-          Fine (andGo q (if u then throws 2 else if v then done m′ else throws 3))
+          Fine (andGo q (if u then fails nilObject else if v then done m′ else fails noSuchWord))
       go true e v d = tt
       go false e true d = k (eqb-false o 0 e) d
       go false e false d = tt
@@ -218,6 +230,7 @@ module _ (f map : List ℕ) (m : Machine) (os : List ℕ) (i j : ℕ) where
     start : Order m os m
     start =
         record {
+          control = record { frame = refl; handler = refl; ctop = refl; state = refl; ctl = refl };
           heap = K;
           same-heap = refl;
           same-main = refl;
@@ -230,10 +243,7 @@ module _ (f map : List ℕ) (m : Machine) (os : List ℕ) (i j : ℕ) where
     -- to a place that the instruction passes a state on to, the control stack as it is
     lands : (x : Ins) (t : State) (q : ℕ) {os′ : List ℕ} (m′ : Machine) → At x → Mem (q, t) (passed x) →
         t .inner ≡ innerAt map (m .regs .place) → mtop m′ ≡ i + t .main → ptop m′ ≡ j + t .ptr → Order m os′ m′ →
-        Kept f map m
-        (machine (regs q (m .regs .frame) (m .regs .handler) (mtop m′) (ptop m′) (m .regs .ctop) (m .regs .state)) (m′ .main) (m′ .ptr)
-        (m .ctl)
-        (m′ .heap))
+        Kept f map m (goTo q m′)
     lands x t q {os′} m′ e to same em ep O =
         record {
           objects = os′;
@@ -243,13 +253,13 @@ module _ (f map : List ℕ) (m : Machine) (os : List ℕ) (i j : ℕ) where
                 n,
                 i,
                 j,
-                keep-plain f map (Pointer os) (Pointer os′) m n i j q (mtop m′) (ptop m′) t (m′ .main) (m′ .ptr) (m′ .heap) R
+                keep-plain f map (Pointer os) (Pointer os′) m (goTo q m′) n i j t R (still (O .control))
                     (leads f map L (m .regs .place) x q t here e to) same em ep (O .same-main) (O .same-ptr) (O .zero-main) (O .zero-ptr)
                     (O .pointers),
               );
           same-main = O .same-main;
           same-ptr = O .same-ptr;
-          same-ctl = refl;
+          same-ctl = ap length (O .control .ctl);
           same-heap = O .same-heap;
         }
 
@@ -257,10 +267,7 @@ module _ (f map : List ℕ) (m : Machine) (os : List ℕ) (i j : ℕ) where
     on : (b : Basic) {os′ : List ℕ} (m′ : Machine) → At (basic b) → Order m os′ m′ →
         mtop m′ ≡ mtop m - basicEffect b .popMain + basicEffect b .pushMain →
         ptop m′ ≡ ptop m - basicEffect b .popPtr + basicEffect b .pushPtr →
-        Kept f map m
-        (machine (regs ahead (m .regs .frame) (m .regs .handler) (mtop m′) (ptop m′) (m .regs .ctop) (m .regs .state)) (m′ .main) (m′ .ptr)
-        (m .ctl)
-        (m′ .heap))
+        Kept f map m (goTo ahead m′)
     unfolding passes effectOf
     on b m′ e O em ep =
         let k = above (basic b) e in
@@ -271,45 +278,47 @@ module _ (f map : List ℕ) (m : Machine) (os : List ℕ) (i j : ℕ) where
     pointer : (k : ℕ) → Pointer os (wordAt (m .ptr) k)
     pointer k = R .words .pointers k
 
-    object : (v : ℕ) → v ≢ 0 → Pointer os v → Mem v os
-    object v u (inl e) = absurd (u e)
-    object v u (inr o) = o
+    is-object : (v : ℕ) → v ≢ 0 → Pointer os v → Mem v os
+    is-object v u (inl e) = absurd (u e)
+    is-object v u (inr o) = o
 
     -- the frame's bases, and the frame words that the instruction names
-    pub bases : (mainBase m ≡ i) × (ptrBase m ≡ j)
+    pub bases : (running m .mainBase ≡ i) × (running m .ptrBase ≡ j)
     bases = let F = stack-frame f map (length (m .main)) (length (m .ptr)) (m .ctl) n (R .stack) in (F .1 .1 .0, F .1 .1 .1 .0)
 
     pub frame-words : (b : Basic) → At (basic b) → All (wordTests b now)
     unfolding depthTests
     frame-words b e = let D = rw e at (rules f map L (m .regs .place) here .depths) in D .1 .1 .1 .1
 
-    assign-main : (s : ℕ) → At (basic (assign onMain s)) → mainBase m + s < mtop m - 1
+    assign-main : (s : ℕ) → At (basic (assign onMain s)) → running m .mainBase + s < mtop m - 1
     assign-main s e = let W = frame-words (assign onMain s) e in let B = bases in let e1 = R .main-top in omega arith
 
-    assign-ptr : (s : ℕ) → At (basic (assign onPtr s)) → ptrBase m + s < ptop m - 1
+    assign-ptr : (s : ℕ) → At (basic (assign onPtr s)) → running m .ptrBase + s < ptop m - 1
     assign-ptr s e = let W = frame-words (assign onPtr s) e in let B = bases in let e2 = R .ptr-top in omega arith
 
-    -- the view of the words popped
-    form-fine : (k l : ℕ) → At (basic (form k l)) → Fine (andGo ahead (basicRule m (form k l)))
-    unfolding basicRule basicEffect
-    form-fine k l e = go (leb (markOf (m .heap) + (2 + (length ps + length ws))) (length (m .heap))) refl
+    -- a new object that is right by its kind's row, whatever makes it
+    new-fine : (k : Maker) (kind : ℕ) (ps ws : List ℕ) → At (basic (make k)) → kindIn kinds kind .ptrs (length ps) ≡ true →
+        kindIn kinds kind .size (length ps) (2 + (length ps + length ws)) ≡ true → Each (Pointer os) ps →
+        Fine (andGo ahead (onNew m k (object kind ps ws)))
+    unfolding basicEffect
+    new-fine k kind ps ws e a b each = go (leb (markOf (m .heap) + (2 + (length ps + length ws))) (length (m .heap))) refl
       where
-        ps : List ℕ
-        ps = ptrWords m l
-
-        ws : List ℕ
-        ws = mainWords m k
-
         m′ : Machine
-        m′ = popMain k (popPtr l m)
+        m′ = popMain (makerPops k .0) (popPtr (makerPops k .1) m)
 
         go : (t : Bool) → leb (markOf (m .heap) + (2 + (length ps + length ws))) (length (m .heap)) ≡ t →
-            Fine (andGo ahead (if t then done (pushNew viewKind ps ws m′) else throws 4))
+            Fine (andGo ahead (if t then done (pushNew kind ps ws m′) else fails heapFull))
         go true u =
-            let F = H .forms (m .heap) os ps ws K (leb-true _ _ u) small
-            (slice-each (Pointer os) (ptop m - l) (ptop m) (m .ptr) (inl refl) (R .words .pointers)) in
-            on (form k l) (pushNew viewKind ps ws m′) e (push-new viewKind ps ws (pop-main (pop-ptr start l) k) F) (omega arith) (omega arith)
+            let F = H .forms kind (m .heap) os ps ws a b K (leb-true _ _ u) small each in
+            on (make k) (pushNew kind ps ws m′) e (push-new kind ps ws (pop-main (pop-ptr start _) _) F) (omega arith) (omega arith)
         go false u = tt
+
+    -- the view of the words popped
+    make-fine : (k : Maker) → At (basic (make k)) → Fine (andGo ahead (makes m k))
+    unfolding makes newOf kinds
+    make-fine (form k l) e =
+        new-fine (form k l) viewKind (ptrWords m l) (mainWords m k) e refl refl
+        (slice-each (Pointer os) (ptop m - l) (ptop m) (m .ptr) (inl refl) (R .words .pointers))
 
     basic-fine : (b : Basic) → At (basic b) → Fine (andGo ahead (basicRule m b))
     unfolding basicRule basicEffect effectOf inPtrs
@@ -325,17 +334,17 @@ module _ (f map : List ℕ) (m : Machine) (os : List ℕ) (i j : ℕ) where
     basic-fine (field onPtr s) e =
         on-object ahead (ptrWord m 1) (inPtrs (m .heap) (ptrWord m 1) s) _
         (λ u v. let w = and-true _ _ v in
-        let p = K .inside (ptrWord m 1) s (object _ u (pointer _)) (leb-true _ _ (w .0)) (ltb-true _ _ (w .1)) in
+        let p = K .inside (ptrWord m 1) s (is-object _ u (pointer _)) (leb-true _ _ (w .0)) (ltb-true _ _ (w .1)) in
         on (field onPtr s) _ e (push-ptr (pop-ptr start 1) _ p) (omega arith) (omega arith))
     basic-fine (setField onMain s) e =
-        on-object ahead (ptrWord m 1) (inPlain (m .heap) (ptrWord m 1) s) _
-        (λ u v. let h = H .plain-store (m .heap) os (ptrWord m 1) s _ K (object _ u (pointer _)) v in
+        on-object ahead (ptrWord m 1) (maySetPlain (m .heap) (ptrWord m 1) s) _
+        (λ u v. let h = H .plain-store (m .heap) os (ptrWord m 1) s _ K (is-object _ u (pointer _)) v in
         on (setField onMain s) _ e (store-heap (pop-main (pop-ptr start 1) 1) _ _ h) (omega arith) (omega arith))
     basic-fine (setField onPtr s) e =
-        on-object ahead (ptrWord m 1) (inPtrs (m .heap) (ptrWord m 1) s) _
-        (λ u v. let h = H .ptr-store (m .heap) os (ptrWord m 1) s _ K (object _ u (pointer _)) v (pointer _) in
+        on-object ahead (ptrWord m 1) (maySetPtr (m .heap) (ptrWord m 1) s) _
+        (λ u v. let h = H .ptr-store (m .heap) os (ptrWord m 1) s _ K (is-object _ u (pointer _)) v (pointer _) in
         on (setField onPtr s) _ e (store-heap (pop-ptr start 2) _ _ h) (omega arith) (omega arith))
-    basic-fine (form k l) e = form-fine k l e
+    basic-fine (make k) e = make-fine k e
     basic-fine (literal w) e = on (literal w) _ e (push-main start _) (omega arith) (omega arith)
     basic-fine nil e = on nil _ e (push-ptr start _ (inl refl)) (omega arith) (omega arith)
     basic-fine root e = on root _ e (push-ptr start _ (K .root)) (omega arith) (omega arith)
@@ -383,11 +392,11 @@ module _ (f map : List ℕ) (m : Machine) (os : List ℕ) (i j : ℕ) where
     return-fine e = go (eqb (m .regs .frame) 1) (keep-return f map L (Pointer os) m n i j R e)
       where
         back : Machine
-        back = goTo (recOf (m .ctl) (m .regs .frame) .w3) (closeFrame m)
+        back = goTo (running m .returns) (closeFrame m)
 
         go : (t : Bool) → Sound f map (Pointer os) (if t then finished m else back) → Kept f map m (if t then finished m else back)
         go true S = same _ refl S refl refl (length-cut 0 (m .ctl))
-        go false S = same _ refl S refl refl (length-cut (m .regs .ctop - recordWords) (m .ctl))
+        go false S = same _ refl S refl refl (length-cut (recordWords * (records m - 1)) (m .ctl))
 
     rule-fine : (x : Ins) → At x → Fine (rule f m ahead x)
     unfolding rule passes effectOf
@@ -421,7 +430,7 @@ module _ (f map : List ℕ) (m : Machine) (os : List ℕ) (i j : ℕ) where
         (length-put (m .ctl) (records m) _))
     rule-fine exit e =
         same _ refl (inl (_, _, _, keep-exit f map L (Pointer os) m n i j R e)) refl refl
-        (length-cut (m .regs .ctop - recordWords) (m .ctl))
+        (length-cut (recordWords * (records m - 1)) (m .ctl))
     rule-fine raise e = tt
 
     -- a raise that a handler catches
@@ -430,11 +439,11 @@ module _ (f map : List ℕ) (m : Machine) (os : List ℕ) (i j : ℕ) where
     kept-raise code m′ e = go (eqb (m .regs .handler) 0) refl e
       where
         go : (t : Bool) → eqb (m .regs .handler) 0 ≡ t →
-            (if t then uncaught code else next (caught f m (m .regs .handler - 1) (recOf (m .ctl) (m .regs .handler)) code)) ≡ next m′ →
+            (if t then uncaught code m else next (caught f m (m .regs .handler - 1) (handlerOf (m .ctl) (m .regs .handler)) code)) ≡ next m′ →
             Kept f map m m′
         go true u v = absurd (true≢false (cc))
         go false u v =
-            let w : caught f m (m .regs .handler - 1) (recOf (m .ctl) (m .regs .handler)) code ≡ m′ = cc in
+            let w : caught f m (m .regs .handler - 1) (handlerOf (m .ctl) (m .regs .handler)) code ≡ m′ = cc in
             subst (Kept f map m) w
             (same _ refl (keep-raise f map L (Pointer os) m n i j code (inl refl) R (eqb-false (m .regs .handler) 0 u))
             (simp (length-set, length-cut)) (simp length-cut) (simp length-cut))
@@ -444,5 +453,20 @@ module _ (f map : List ℕ) (m : Machine) (os : List ℕ) (i j : ℕ) where
     came (throws code) F m′ e = kept-raise code m′ e
 
     pub step-keeps : (m′ : Machine) → step f m ≡ next m′ → Kept f map m m′
-    unfolding step
+    unfolding step instruct
     step-keeps m′ e = came (rule f m ahead (insAt f (m .regs .place))) (rule-fine (insAt f (m .regs .place)) refl) m′ e
+
+-- with no handler open the state stays
+stayed : (f : List ℕ) (m : Machine) (r : Result) (m′ : Machine) (code : ℕ) → outcome f m r ≡ uncaught code m′ → m ≡ m′
+unfolding raised
+stayed f m (done x) m′ code e = absurd (true≢false (cc))
+stayed f m (throws c) m′ code e = go (eqb (m .regs .handler) 0) e
+  where
+    go : (t : Bool) → (if t then uncaught c m else next (caught f m (m .regs .handler - 1) (handlerOf (m .ctl) (m .regs .handler)) c)) ≡ uncaught code m′ →
+        m ≡ m′
+    go true e = cc
+    go false e = absurd (true≢false (cc))
+
+pub step-stays : (f : List ℕ) (m m′ : Machine) (code : ℕ) → step f m ≡ uncaught code m′ → m ≡ m′
+unfolding step instruct
+step-stays f m m′ code e = stayed f m (rule f m (after f (m .regs .place)) (insAt f (m .regs .place))) m′ code e
