@@ -8,7 +8,8 @@ use native.Mathlib.Numerals.{add-one}
 use lib.ListN.{length, take, drop, set, replicate}
 use lib.Seq.{sets, slice, take-suc, drop-append-le, length-take-le, length-slice}
 use Rattle.model.specs.Words.{wordAt, cut}
-use Rattle.sound.specs.Lists.{Zero, cut-same, set-zero}
+use Rattle.sound.specs.Lists.{Zero, set-zero}
+use Rattle.model.specs.Lists.{cut-same}
 
 -- the word at the new top zeroed before the cut
 cut-set : (i : ℕ) (l : List ℕ) → cut (suc i) (set l i 0) ≡ cut i l

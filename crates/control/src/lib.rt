@@ -6,7 +6,6 @@ ghost use lib.ListN.{length, getD};
 ghost use lib.Seq.{sets, slice};
 ghost use Rattle.model.specs.File.{after};
 ghost use Rattle.model.specs.Heap.{viewKind, made};
-ghost use Rattle.model.specs.Control.{machine};
 ghost use Rattle.bridge.specs.Settled.{called, returned, opened, closed};
 ghost use Rattle.sound.specs.Lists.{Topped};
 ghost use Rattle.control.specs.Asks.{Pushes, Room};
@@ -51,7 +50,7 @@ fn copy(heap: &mut [u32], to: usize, from: &[u32], start: usize, end: usize)
 // 72: a new frame. The operand is its procedure, the return place is behind it.
 pub fn call(file: &[u8], ctl: &mut [u32], regs: Regs, put: Put) -> Regs
     requires { ⌜ Pushes regs (now ctl) × (regs .place + 2 < length (now file)) × (after (now file) (regs .place) ≡ regs .place + 3) × (put .at ≤ 4096) ⌝ }
-    ensures { λ r. ⌜ ((main ptr heap : List ℕ) → machine r main ptr (now (ctl .exit)) heap ≡ called (now (file .entry)) put (machine regs main ptr (now (ctl .entry)) heap)) ⌝ }
+    ensures { λ r. ⌜ ((main ptr heap : List ℕ) → record { regs = r; main = main; ptr = ptr; ctl = now (ctl .exit); heap = heap } ≡ called (now (file .entry)) put (record { regs = regs; main = main; ptr = ptr; ctl = now (ctl .entry); heap = heap })) ⌝ }
 {
     let place = regs.place;
     let top = regs.ctop;
@@ -80,7 +79,7 @@ pub fn call(file: &[u8], ctl: &mut [u32], regs: Regs, put: Put) -> Regs
 // 73: the frame's record goes.
 pub fn leave(ctl: &mut [u32], regs: Regs, put: Put) -> Regs
     requires { ⌜ Topped (regs .ctop) (now ctl) × (1 ≤ regs .frame) × (5 * regs .frame ≤ regs .ctop) ⌝ }
-    ensures { λ r. ⌜ ((main ptr heap : List ℕ) → machine r main ptr (now (ctl .exit)) heap ≡ returned put (machine regs main ptr (now (ctl .entry)) heap)) ⌝ }
+    ensures { λ r. ⌜ ((main ptr heap : List ℕ) → record { regs = r; main = main; ptr = ptr; ctl = now (ctl .exit); heap = heap } ≡ returned put (record { regs = regs; main = main; ptr = ptr; ctl = now (ctl .entry); heap = heap })) ⌝ }
 {
     let top = regs.ctop;
     let caller = load(ctl, RECORD * (regs.frame - 1) + 4);
@@ -100,7 +99,7 @@ pub fn leave(ctl: &mut [u32], regs: Regs, put: Put) -> Regs
 // 160: a handler's record.
 pub fn open(ctl: &mut [u32], regs: Regs, put: Put) -> Regs
     requires { ⌜ Pushes regs (now ctl) × (regs .mtop ≤ 4096) × (regs .ptop ≤ 4096) ⌝ }
-    ensures { λ r. ⌜ ((main ptr heap : List ℕ) → machine r main ptr (now (ctl .exit)) heap ≡ opened put (machine regs main ptr (now (ctl .entry)) heap)) ⌝ }
+    ensures { λ r. ⌜ ((main ptr heap : List ℕ) → record { regs = r; main = main; ptr = ptr; ctl = now (ctl .exit); heap = heap } ≡ opened put (record { regs = regs; main = main; ptr = ptr; ctl = now (ctl .entry); heap = heap })) ⌝ }
 {
     let top = regs.ctop;
     put_record(
@@ -126,7 +125,7 @@ pub fn open(ctl: &mut [u32], regs: Regs, put: Put) -> Regs
 // 161: the innermost handler's record goes.
 pub fn close(ctl: &mut [u32], regs: Regs, put: Put) -> Regs
     requires { ⌜ Topped (regs .ctop) (now ctl) × (1 ≤ regs .handler) × (5 * regs .handler ≤ regs .ctop) ⌝ }
-    ensures { λ r. ⌜ ((main ptr heap : List ℕ) → machine r main ptr (now (ctl .exit)) heap ≡ closed put (machine regs main ptr (now (ctl .entry)) heap)) ⌝ }
+    ensures { λ r. ⌜ ((main ptr heap : List ℕ) → record { regs = r; main = main; ptr = ptr; ctl = now (ctl .exit); heap = heap } ≡ closed put (record { regs = regs; main = main; ptr = ptr; ctl = now (ctl .entry); heap = heap })) ⌝ }
 {
     let handler = regs.handler;
     let top = regs.ctop;

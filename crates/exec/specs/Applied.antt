@@ -8,9 +8,9 @@ use native.Mathlib.Omega.{arith}
 use lib.ListN.{length, set}
 use borrow.Author.Tests.{eq-eqb, ne-eqb}
 use Rattle.model.specs.File.{after}
-use Rattle.model.specs.Control.{Machine, machine, recordWords}
+use Rattle.model.specs.Control.{Machine, recordWords}
 use Rattle.model.specs.Instructions.{finished}
-use Rattle.bridge.specs.Settled.{mainCut, ptrCut, formedFrom, called, returned, opened, closed, applyInto, applied}
+use Rattle.bridge.specs.Settled.{formedFrom, called, returned, opened, closed, applyInto, applied}
 use Rattle.model.specs.declared.Regs.{Regs}
 use Rattle.bridge.specs.declared.Into.{Into}
 use Rattle.bridge.specs.declared.Into.the-variants as into
@@ -128,10 +128,10 @@ module _ (f : List ℕ) (put : Put) (m : Machine) where
   unfolding applied applyInto
   close-applied e = rw e
 
-  pub view-applied : (r : Regs) (main ptr heap : List ℕ) → put .into ≡ into.View → r ≡ onwards put (m .regs) → main ≡ mainCut put m →
-      ptr ≡ ptrCut put m →
+  pub view-applied : (r : Regs) (main ptr heap : List ℕ) → put .into ≡ into.View → r ≡ onwards put (m .regs) → main ≡ cut (put .mtop) (m .main) →
+      ptr ≡ cut (put .ptop) (m .ptr) →
       heap ≡ formedFrom put m →
-      machine r main (set ptr (put .at) (put .word)) (m .ctl) heap ≡ applied f put m
+      record { regs = r; main = main; ptr = set ptr (put .at) (put .word); ctl = m .ctl; heap = heap } ≡ applied f put m
   unfolding applied applyInto
   view-applied r main ptr heap e er em ep eh = rw (e, er, em, ep, eh)
 
@@ -139,26 +139,26 @@ module _ (f : List ℕ) (put : Put) (m : Machine) where
 module _ (f : List ℕ) (put : Put) (m : Machine) (main ptr ctl heap : List ℕ) where
   abbrev Told : Tried → Type 0
   Told t =
-      (machine (t .regs) main ptr ctl heap ≡ appliedIf (t .done) f put m)
+      (record { regs = t .regs; main = main; ptr = ptr; ctl = ctl; heap = heap } ≡ appliedIf (t .done) f put m)
       × ((t .regs .state ≡ m .regs .state)
       × (t .done ≡ false → Late (put .into) (m .regs)))
 
-  pub told-done : (t : Tried) (r : Regs) (m′ : Machine) → t ≡ tried true r → machine r main ptr ctl heap ≡ m′ →
+  pub told-done : (t : Tried) (r : Regs) (m′ : Machine) → t ≡ tried true r → record { regs = r; main = main; ptr = ptr; ctl = ctl; heap = heap } ≡ m′ →
       m′ .regs .state ≡ m .regs .state → m′ ≡ applied f put m → Told t
   told-done t r m′ e d k a = rw e (d ∙ a, (ap (λ (x : Machine). x .regs .state) d ∙ k, λ u. absurd (true≢false u)))
 
-  pub told-undone : (t : Tried) → t ≡ tried false (m .regs) → machine (m .regs) main ptr ctl heap ≡ m → Late (put .into) (m .regs) → Told t
+  pub told-undone : (t : Tried) → t ≡ tried false (m .regs) → record { regs = m .regs; main = main; ptr = ptr; ctl = ctl; heap = heap } ≡ m → Late (put .into) (m .regs) → Told t
   told-undone t e d L = rw e (d, (refl, λ u. L))
 
 -- a plain write that is done, or left
 module _ (put : Put) (m : Machine) (main ptr heap : List ℕ) where
-  pub plain-done : (r : Bool) → machine (triedOn r put (m .regs)) main ptr (m .ctl) heap ≡ written r (put .into) put m → r ≡ true →
-      machine (onwards put (m .regs)) main ptr (m .ctl) heap ≡ plainly (put .into) put m
+  pub plain-done : (r : Bool) → record { regs = triedOn r put (m .regs); main = main; ptr = ptr; ctl = m .ctl; heap = heap } ≡ written r (put .into) put m → r ≡ true →
+      record { regs = onwards put (m .regs); main = main; ptr = ptr; ctl = m .ctl; heap = heap } ≡ plainly (put .into) put m
   plain-done true e t = e
   plain-done false e t = absurd (true≢false (sym t))
 
-  pub plain-undone : (r : Bool) → machine (triedOn r put (m .regs)) main ptr (m .ctl) heap ≡ written r (put .into) put m → r ≡ false →
-      machine (m .regs) main ptr (m .ctl) heap ≡ m
+  pub plain-undone : (r : Bool) → record { regs = triedOn r put (m .regs); main = main; ptr = ptr; ctl = m .ctl; heap = heap } ≡ written r (put .into) put m → r ≡ false →
+      record { regs = m .regs; main = main; ptr = ptr; ctl = m .ctl; heap = heap } ≡ m
   plain-undone true e t = absurd (true≢false t)
   plain-undone false e t = e
 

@@ -1,4 +1,4 @@
--- What is asked of a machine and of a plan's writes before they are applied. A sound running state and its own plan give it all.
+-- What is asked of a record { regs = and; main = of; ptr = a; ctl = plan's; heap = writes } before they are applied. A sound running state and its own plan give it all.
 use Prim.Native.Nat.{ℕ, _+_, _-_, _*_, _<_, _≤_}
 use mathlib.Core.Path.{_≡_}
 use mathlib.Core.List.{List}

@@ -1,6 +1,4 @@
--- What a step leads to, with every list then, as one value; the exceptions' codes; and what is asked of a machine before a raise.
-use Prim.Native.Nat.{ℕ, _+_, _-_, _*_, _<_, _≤_}
-use mathlib.Core.Path.{_≡_, refl, ap, sym, _∙_}
+-- What a step leads to, with every list then, as one value; the exceptions' codes; and what is asked of a record { regs = before; main = a; ptr = raise.; ctl = use Prim.Native.Nat.{ℕ, _+_, _-_, _*_, _<_, _≤_}; heap = use mathlib.Core.Path.{_≡_, refl, ap, sym, _∙_} }
 use mathlib.Core.Bool.{Bool, true, false, true≢false}
 use mathlib.Core.List.{List}
 use lib.ListN.{length, getD, set}
@@ -8,7 +6,7 @@ use borrow.Author.Tests.{eq-eqb, ne-eqb}
 use Rattle.model.specs.Words.{wordAt, cut}
 use Rattle.model.specs.Calls.{mainMost, ctlMost}
 use Rattle.model.specs.File.{fileMost, procsMost, headOf, operand}
-use Rattle.model.specs.Control.{Machine, machine, regs, recOf, recordWords}
+use Rattle.model.specs.Control.{Machine, regs, recOf, recordWords}
 use Rattle.model.specs.Moves.{mtop}
 use Rattle.model.specs.Step.{Stepped, next, uncaught, caught, raised}
 use Rattle.bridge.specs.Settled.{settle}
@@ -28,7 +26,7 @@ pub record Ended : Type 0 where
   pub state : Machine
 
 abbrev pub ended : Outcome → List ℕ → List ℕ → List ℕ → List ℕ → Ended
-ended o m p c h = record { on = o .on; code = o .code; state = machine (o .regs) m p c h }
+ended o m p c h = record { on = o .on; code = o .code; state = record { regs = o .regs; main = m; ptr = p; ctl = c; heap = h } }
 
 unfoldable pub endedOf : Machine → Stepped → Ended
 endedOf m (next m′) = record { on = true; code = 0; state = m′ }
@@ -36,13 +34,13 @@ endedOf m (uncaught code) = record { on = false; code = code; state = m }
 
 -- what a caller reads off it: the step went on, or nothing caught the exception and all is as before
 module _ (m : Machine) (o : Outcome) (main ptr ctl heap : List ℕ) where
-  pub went-on : (s : Stepped) → ended o main ptr ctl heap ≡ endedOf m s → o .on ≡ true → s ≡ next (machine (o .regs) main ptr ctl heap)
+  pub went-on : (s : Stepped) → ended o main ptr ctl heap ≡ endedOf m s → o .on ≡ true → s ≡ next (record { regs = o .regs; main = main; ptr = ptr; ctl = ctl; heap = heap })
   unfolding endedOf
   went-on (next m′) e t = ap (λ x. next (x .state)) (sym e)
   went-on (uncaught code) e t = absurd (true≢false (sym t ∙ ap (λ x. x .on) e))
 
   pub went-off : (s : Stepped) → ended o main ptr ctl heap ≡ endedOf m s → o .on ≡ false →
-      (s ≡ uncaught (o .code)) × (machine (o .regs) main ptr ctl heap ≡ m)
+      (s ≡ uncaught (o .code)) × (record { regs = o .regs; main = main; ptr = ptr; ctl = ctl; heap = heap } ≡ m)
   unfolding endedOf
   went-off (next m′) e t = absurd (true≢false (sym (ap (λ x. x .on) e) ∙ t))
   went-off (uncaught code) e t = (ap (λ x. uncaught (x .code)) (sym e), ap (λ x. x .state) e)
@@ -151,9 +149,10 @@ module _ (f table : List ℕ) (r : Regs) (main ptr ctl : List ℕ) (g : Guard) (
   unfolding guardAt
   guard-targets = rw e (R .caught h .targets)
 
--- what is asked of a plan at a machine
-pub record Settles (f table : List ℕ) (m : Machine) (plan : Plan) : Type 0 where
+  -- what is asked of a plan at a record { regs = pub; main = record; ptr = Settles; ctl = f table : List ℕ; heap = m : Machine } (plan : Plan) : Type 0 where
   pub writes : (put : Put) → plan ≡ Write put → Applies f put m
+
   pub raises : ((put : Put) → plan ≡ Write put → ⊥) → Raises f table (m .regs) (m .main) (m .ptr) (m .ctl)
+
   -- 162 pops a word
   pub thrown : plan ≡ Thrown → 1 ≤ mtop m

@@ -5,7 +5,7 @@ ghost use mathlib.Core.List.{List};
 ghost use Prim.Native.Nat.{ℕ, _+_, _*_, _<_, _≤_};
 ghost use lib.ListN.{length};
 ghost use Rattle.model.specs.File.{operand, headOf};
-ghost use Rattle.model.specs.Control.{machine, recOf};
+ghost use Rattle.model.specs.Control.{recOf};
 ghost use Rattle.model.specs.Step.{raised};
 ghost use Rattle.bridge.specs.Settled.{applied, settle};
 ghost use Rattle.writes.specs.Asks.{onwards};
@@ -67,8 +67,8 @@ pub fn apply(
     regs: Regs,
     put: Put,
 ) -> Tried
-    requires { ⌜ Applies (now file) put (machine regs (now main) (now ptr) (now ctl) (now heap)) ⌝ }
-    ensures state { λ r. ⌜ machine (r .regs) (now (main .exit)) (now (ptr .exit)) (now (ctl .exit)) (now (heap .exit)) ≡ appliedIf (r .done) (now (file .entry)) put (machine regs (now (main .entry)) (now (ptr .entry)) (now (ctl .entry)) (now (heap .entry))) ⌝ }
+    requires { ⌜ Applies (now file) put (record { regs = regs; main = now main; ptr = now ptr; ctl = now ctl; heap = now heap }) ⌝ }
+    ensures state { λ r. ⌜ record { regs = r .regs; main = now (main .exit); ptr = now (ptr .exit); ctl = now (ctl .exit); heap = now (heap .exit) } ≡ appliedIf (r .done) (now (file .entry)) put (record { regs = regs; main = now (main .entry); ptr = now (ptr .entry); ctl = now (ctl .entry); heap = now (heap .entry) }) ⌝ }
     ensures running { λ r. ⌜ r .regs .state ≡ regs .state ⌝ }
     ensures undone { λ r. ⌜ (r .done ≡ false → Late (put .into) regs) ⌝ }
 {
@@ -102,8 +102,8 @@ fn apply_late(
     regs: Regs,
     put: Put,
 ) -> Regs
-    requires { ⌜ Lately put (machine regs (now main) (now ptr) (now ctl) (now heap)) ⌝ }
-    ensures { λ r. ⌜ ((f : List ℕ) → machine r (now (main .exit)) (now (ptr .exit)) (now (ctl .exit)) (now (heap .exit)) ≡ applied f put (machine regs (now (main .entry)) (now (ptr .entry)) (now (ctl .entry)) (now (heap .entry)))) ⌝ }
+    requires { ⌜ Lately put (record { regs = regs; main = now main; ptr = now ptr; ctl = now ctl; heap = now heap }) ⌝ }
+    ensures { λ r. ⌜ ((f : List ℕ) → record { regs = r; main = now (main .exit); ptr = now (ptr .exit); ctl = now (ctl .exit); heap = now (heap .exit) } ≡ applied f put (record { regs = regs; main = now (main .entry); ptr = now (ptr .entry); ctl = now (ctl .entry); heap = now (heap .entry) })) ⌝ }
 {
     let into = put.into;
     let at = put.at;
@@ -185,7 +185,7 @@ pub fn raise(
     code: u32,
 ) -> Outcome
     requires { ⌜ Raises (now file) (now table) regs (now main) (now ptr) (now ctl) ⌝ }
-    ensures { λ r. ⌜ ((heap : List ℕ) → ended r (now (main .exit)) (now (ptr .exit)) (now (ctl .exit)) heap ≡ endedOf (machine regs (now (main .entry)) (now (ptr .entry)) (now (ctl .entry)) heap) (raised (now (file .entry)) (machine regs (now (main .entry)) (now (ptr .entry)) (now (ctl .entry)) heap) code)) ⌝ }
+    ensures { λ r. ⌜ ((heap : List ℕ) → ended r (now (main .exit)) (now (ptr .exit)) (now (ctl .exit)) heap ≡ endedOf (record { regs = regs; main = now (main .entry); ptr = now (ptr .entry); ctl = now (ctl .entry); heap = heap }) (raised (now (file .entry)) (record { regs = regs; main = now (main .entry); ptr = now (ptr .entry); ctl = now (ctl .entry); heap = heap }) code)) ⌝ }
 {
     let handler = regs.handler;
     if handler == 0 {
@@ -238,8 +238,8 @@ pub fn step_with(
     regs: Regs,
     plan: Plan,
 ) -> Outcome
-    requires { ⌜ Settles (now file) (now table) (machine regs (now main) (now ptr) (now ctl) (now heap)) plan × Later regs plan ⌝ }
-    ensures { λ r. ⌜ ended r (now (main .exit)) (now (ptr .exit)) (now (ctl .exit)) (now (heap .exit)) ≡ endedOf (machine regs (now (main .entry)) (now (ptr .entry)) (now (ctl .entry)) (now (heap .entry))) (settle (now (file .entry)) (machine regs (now (main .entry)) (now (ptr .entry)) (now (ctl .entry)) (now (heap .entry))) plan) ⌝ }
+    requires { ⌜ Settles (now file) (now table) (record { regs = regs; main = now main; ptr = now ptr; ctl = now ctl; heap = now heap }) plan × Later regs plan ⌝ }
+    ensures { λ r. ⌜ ended r (now (main .exit)) (now (ptr .exit)) (now (ctl .exit)) (now (heap .exit)) ≡ endedOf (record { regs = regs; main = now (main .entry); ptr = now (ptr .entry); ctl = now (ctl .entry); heap = now (heap .entry) }) (settle (now (file .entry)) (record { regs = regs; main = now (main .entry); ptr = now (ptr .entry); ctl = now (ctl .entry); heap = now (heap .entry) }) plan) ⌝ }
 {
     let Plan::Write(put) = plan else {
         let code = code_of(plan, main, regs.mtop);

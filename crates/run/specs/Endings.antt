@@ -5,7 +5,7 @@ use mathlib.Core.List.{List}
 use mathlib.Core.Path.{_≡_, ap, sym, _∙_}
 use native.Mathlib.Omega.{arith}
 use borrow.Author.Tests.{eq-eqb, ne-eqb}
-use Rattle.model.specs.Control.{Machine, machine}
+use Rattle.model.specs.Control.{Machine}
 use Rattle.bridge.specs.Planned.{planAt}
 use Rattle.model.specs.Step.{Stepped, next, uncaught, step, ran, runOn}
 use Rattle.bridge.specs.Settled.{settle}
@@ -50,7 +50,7 @@ module _ (f table : List ℕ) where
     step-is s w = sym (alive-plan (R .alive) on?) ∙ rw (← plan-is) w
 
     pub going-uncaught : (budget : ℕ) (m₀ : Machine) → Going f table budget m₀ n m → o .on ≡ false →
-        ran (Uncaught (o .code) (m .regs .place) (budget - n)) (machine (m .regs) main ptr ctl heap) ≡ runOn f budget 0 m₀
+        ran (Uncaught (o .code) (m .regs .place) (budget - n)) (record { regs = m .regs; main = main; ptr = ptr; ctl = ctl; heap = heap }) ≡ runOn f budget 0 m₀
     unfolding runOn
     going-uncaught budget m₀ G t =
         let w = went-off m o main ptr ctl heap (settle f m plan) e t in
@@ -60,9 +60,9 @@ module _ (f table : List ℕ) where
         (sym (done budget m₀ n m G ∙ ap (λ (i : ℕ). runOn f i (budget - n) m) left
         ∙ rw (ne-eqb (m .regs .state) 1 on?, step-is (uncaught (o .code)) (w .0))))
 
-    pub going-on : (budget : ℕ) (m₀ : Machine) → Going f table budget m₀ n m → o .on ≡ true → Alike (machine (o .regs) main ptr ctl heap) m →
-        Going f table budget m₀ (n - 1) (machine (o .regs) main ptr ctl heap)
+    pub going-on : (budget : ℕ) (m₀ : Machine) → Going f table budget m₀ n m → o .on ≡ true → Alike (record { regs = o .regs; main = main; ptr = ptr; ctl = ctl; heap = heap }) m →
+        Going f table budget m₀ (n - 1) (record { regs = o .regs; main = main; ptr = ptr; ctl = ctl; heap = heap })
     going-on budget m₀ G t a =
-        going-trans f table budget m₀ n m (n - 1) (machine (o .regs) main ptr ctl heap) G
-        (stepped f table n m R some on? (machine (o .regs) main ptr ctl heap)
-        (step-is (next (machine (o .regs) main ptr ctl heap)) (went-on m o main ptr ctl heap (settle f m plan) e t)) a)
+        going-trans f table budget m₀ n m (n - 1) (record { regs = o .regs; main = main; ptr = ptr; ctl = ctl; heap = heap }) G
+        (stepped f table n m R some on? (record { regs = o .regs; main = main; ptr = ptr; ctl = ctl; heap = heap })
+        (step-is (next (record { regs = o .regs; main = main; ptr = ptr; ctl = ctl; heap = heap })) (went-on m o main ptr ctl heap (settle f m plan) e t)) a)

@@ -1,6 +1,5 @@
 // A run: steps until the machine is finished, the budget is spent, or an exception is not caught.
 ghost use mathlib.Core.Path.{_≡_};
-ghost use Rattle.model.specs.Control.{machine};
 ghost use Rattle.model.specs.Step.{ran, runOn};
 ghost use Rattle.steps.specs.Going.{Runs};
 ghost use Rattle.run.specs.Endings.{endedWith};
@@ -33,8 +32,8 @@ pub fn run_on(
     regs: Regs,
     budget: u32,
 ) -> Ended
-    requires { ⌜ Runs (now file) (now table) (machine regs (now main) (now ptr) (now ctl) (now heap)) ⌝ }
-    ensures { λ r. ⌜ ran (r .answer) (machine (r .regs) (now (main .exit)) (now (ptr .exit)) (now (ctl .exit)) (now (heap .exit))) ≡ runOn (now (file .entry)) budget 0 (machine regs (now (main .entry)) (now (ptr .entry)) (now (ctl .entry)) (now (heap .entry))) ⌝ }
+    requires { ⌜ Runs (now file) (now table) (record { regs = regs; main = now main; ptr = now ptr; ctl = now ctl; heap = now heap }) ⌝ }
+    ensures { λ r. ⌜ ran (r .answer) (record { regs = r .regs; main = now (main .exit); ptr = now (ptr .exit); ctl = now (ctl .exit); heap = now (heap .exit) }) ≡ runOn (now (file .entry)) budget 0 (record { regs = regs; main = now (main .entry); ptr = now (ptr .entry); ctl = now (ctl .entry); heap = now (heap .entry) }) ⌝ }
 {
     if regs.state == 1 {
         return answered(Answer::Finished(0), regs);

@@ -6,7 +6,7 @@ use mathlib.Core.Path.{_≡_, refl, ap, sym, _∙_, subst}
 use native.Mathlib.Omega.{arith}
 use lib.ListN.{length}
 use borrow.Author.Tests.{ne-eqb}
-use Rattle.model.specs.Control.{Machine, machine}
+use Rattle.model.specs.Control.{Machine}
 use Rattle.bridge.specs.Planned.{planAt}
 use Rattle.model.specs.Step.{next, step, runOn}
 use Rattle.bridge.specs.Settled.{settle}
@@ -63,15 +63,15 @@ stopped-late f m put e L = record { is = e; late = λ put′ u. subst (λ (p : P
     write-one p q u = cc
 
 -- the registers kept and the lists of m: m
-pub same-lists : (r : Regs) (main ptr ctl heap : List ℕ) (m : Machine) → machine r main ptr ctl heap ≡ m → machine (m .regs) main ptr ctl heap ≡ m
-same-lists r main ptr ctl heap m z = ap (λ (x : Machine). machine (m .regs) (x .main) (x .ptr) (x .ctl) (x .heap)) z
+pub same-lists : (r : Regs) (main ptr ctl heap : List ℕ) (m : Machine) → record { regs = r; main = main; ptr = ptr; ctl = ctl; heap = heap } ≡ m → record { regs = m .regs; main = main; ptr = ptr; ctl = ctl; heap = heap } ≡ m
+same-lists r main ptr ctl heap m z = ap (λ (x : Machine). record { regs = m .regs; main = x .main; ptr = x .ptr; ctl = x .ctl; heap = x .heap }) z
 
 module _ (f table : List ℕ) where
   -- a write that was not done left all as it was
   pub paused-late : (n : ℕ) (m₀ : Machine) (n′ : ℕ) (m : Machine) (put : Put) (t : Tried) (main ptr ctl heap : List ℕ) →
       Going f table n m₀ n′ m → (m .regs .state ≡ 1 → ⊥) → Write put ≡ planAt f m → t .done ≡ false →
-      machine (t .regs) main ptr ctl heap ≡ appliedIf (t .done) f put m → (t .done ≡ false → Late (put .into) (m .regs)) →
-      Paused f table n m₀ n′ (machine (m .regs) main ptr ctl heap) (Write put)
+      record { regs = t .regs; main = main; ptr = ptr; ctl = ctl; heap = heap } ≡ appliedIf (t .done) f put m → (t .done ≡ false → Late (put .into) (m .regs)) →
+      Paused f table n m₀ n′ (record { regs = m .regs; main = main; ptr = ptr; ctl = ctl; heap = heap }) (Write put)
   paused-late n m₀ n′ m put t main ptr ctl heap G u e d a l =
       let k = same-lists (t .regs) main ptr ctl heap m (a ∙ ap (λ (b : Bool). appliedIf b f put m) d) in
       rw k (record { going = G; on? = u; stopped = λ h. stopped-late f m put e (l d) })
@@ -124,9 +124,9 @@ module _ (f table : List ℕ) where
 
     -- a plan's writes are done
     pub going-applied : (put : Put) (t : Tried) (main ptr ctl heap : List ℕ) → Write put ≡ planAt f m → t .done ≡ true →
-        machine (t .regs) main ptr ctl heap ≡ appliedIf (t .done) f put m → Alike (machine (t .regs) main ptr ctl heap) m →
-        Going f table n m (n - 1) (machine (t .regs) main ptr ctl heap)
+        record { regs = t .regs; main = main; ptr = ptr; ctl = ctl; heap = heap } ≡ appliedIf (t .done) f put m → Alike (record { regs = t .regs; main = main; ptr = ptr; ctl = ctl; heap = heap }) m →
+        Going f table n m (n - 1) (record { regs = t .regs; main = main; ptr = ptr; ctl = ctl; heap = heap })
     unfolding settle
     going-applied put t main ptr ctl heap e d a l =
-        stepped (machine (t .regs) main ptr ctl heap)
+        stepped (record { regs = t .regs; main = main; ptr = ptr; ctl = ctl; heap = heap })
         (sym (alive-plan (R .alive) on?) ∙ rw (← e) (ap next (sym (a ∙ ap (λ (u : Bool). appliedIf u f put m) d)))) l

@@ -1,6 +1,5 @@
 // The steps of a run that need no loop and no raise, one after another.
 ghost use mathlib.Core.Path.{_≡_};
-ghost use Rattle.model.specs.Control.{machine};
 ghost use Rattle.steps.specs.Going.{Runs, Paused, pausedAt};
 use bridge::Plan;
 use bridge::Put;
@@ -32,8 +31,8 @@ pub fn go_on(
     regs: Regs,
     budget: u32,
 ) -> Pause
-    requires { ⌜ Runs (now file) (now table) (machine regs (now main) (now ptr) (now ctl) (now heap)) × (regs .state ≡ 1 → ⊥) ⌝ }
-    ensures { λ r. ⌜ Paused (now (file .entry)) (now (table .entry)) budget (machine regs (now (main .entry)) (now (ptr .entry)) (now (ctl .entry)) (now (heap .entry))) (r .left) (machine (r .regs) (now (main .exit)) (now (ptr .exit)) (now (ctl .exit)) (now (heap .exit))) (r .plan) ⌝ }
+    requires { ⌜ Runs (now file) (now table) (record { regs = regs; main = now main; ptr = now ptr; ctl = now ctl; heap = now heap }) × (regs .state ≡ 1 → ⊥) ⌝ }
+    ensures { λ r. ⌜ Paused (now (file .entry)) (now (table .entry)) budget (record { regs = regs; main = now (main .entry); ptr = now (ptr .entry); ctl = now (ctl .entry); heap = now (heap .entry) }) (r .left) (record { regs = r .regs; main = now (main .exit); ptr = now (ptr .exit); ctl = now (ctl .exit); heap = now (heap .exit) }) (r .plan) ⌝ }
 {
     let mut r = regs;
     let mut left = budget;

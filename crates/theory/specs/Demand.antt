@@ -7,7 +7,7 @@ use Rattle.model.specs.Heap.{Heap, markOf}
 use Rattle.model.specs.Claim.{Calls}
 use Rattle.heap.specs.Audited.{clean-heap, heap-clean}
 use Rattle.heap.specs.Stores.{store-plain, store-ptr, store-root}
-use Rattle.heap.specs.Formed.{pointer-more, pointer-new, form-kept}
+use Rattle.heap.specs.Made.{pointer-more, pointer-new, made-kept}
 use Rattle.sound.specs.Rules.{HeapLaws}
 use Rattle.sound.specs.Claims.{calls}
 
@@ -19,9 +19,9 @@ heap-laws =
       plain-store = λ h os q s w K m e. store-plain K q s w m e .heap;
       ptr-store = λ h os q s v K m e p. store-ptr K q s v m e p .heap;
       root-store = λ h os v K p. store-root K v p .heap;
-      forms = λ h os ps ws K room small each.
+      forms = λ kind h os ps ws a b K room small each.
           let few : length ps < 16777216 = omega arith in
-          let G = form-kept K ps ws few room (λ j k. each j) in
+          let G = made-kept K kind ps ws few room a b (λ j k. each j) in
           record {
             objects = os ++ markOf h ∷ [];
             heap = G .heap;

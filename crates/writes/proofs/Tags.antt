@@ -14,7 +14,8 @@ use Rattle.model.specs.declared.Regs.{Regs}
 use Rattle.bridge.specs.declared.Into.{Into}
 use Rattle.bridge.specs.declared.Into.the-variants as into
 use Rattle.bridge.specs.declared.Put.{Put}
-use Rattle.writes.specs.Asks.{Fits, Plain, Retract, Drops, Dropping, plainly}
+use Rattle.bridge.specs.Suits.{Fits, Drops}
+use Rattle.writes.specs.Asks.{Plain, Retract, Dropping, plainly}
 
 -- all but DropMain and DropPointer: no word is put back
 abbrev noneAside : List ℕ

@@ -7,7 +7,8 @@ use mathlib.Core.List.{List, [], _∷_}
 use native.Mathlib.Omega.{arith}
 use lib.ListN.{length, set}
 use Rattle.model.specs.Words.{cut}
-use Rattle.sound.specs.Lists.{Topped, cut-same, length-cut, cut-zero}
+use Rattle.sound.specs.Lists.{Topped, length-cut, cut-zero}
+use Rattle.model.specs.Lists.{cut-same}
 
 -- one word further down
 pub cut-down : (i : ℕ) (l : List ℕ) → set (cut (suc i) l) i 0 ≡ cut i l

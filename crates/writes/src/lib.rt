@@ -5,9 +5,8 @@ ghost use mathlib.Core.List.{List};
 ghost use Prim.Native.Nat.{ℕ, _+_, _≤_};
 ghost use lib.ListN.{length};
 ghost use Rattle.model.specs.Words.{cut};
-ghost use Rattle.model.specs.Control.{Machine, machine};
-ghost use Rattle.model.specs.Instructions.{finished};
-ghost use Rattle.bridge.specs.Settled.{mainCut, ptrCut};
+ghost use Rattle.model.specs.Control.{Machine};
+ghost use Rattle.model.specs.Moves.{finished};
 ghost use Rattle.sound.specs.Lists.{Topped};
 ghost use Rattle.writes.specs.Asks.{Plain, Retract, Dropping, InMain, InPtr, onwards, plainly, tried, triedOn};
 use bridge::Into;
@@ -78,7 +77,7 @@ fn pop_four(l: &mut [u32], new: usize, old: usize)
 // 73 in the first frame: the run is finished.
 pub fn finish(ctl: &mut [u32], regs: Regs) -> Regs
     requires { ⌜ Topped (regs .ctop) (now ctl) ⌝ }
-    ensures { λ r. ⌜ ((main ptr heap : List ℕ) → machine r main ptr (now (ctl .exit)) heap ≡ finished (machine regs main ptr (now (ctl .entry)) heap)) ⌝ }
+    ensures { λ r. ⌜ ((main ptr heap : List ℕ) → record { regs = r; main = main; ptr = ptr; ctl = now (ctl .exit); heap = heap } ≡ finished (record { regs = regs; main = main; ptr = ptr; ctl = now (ctl .entry); heap = heap })) ⌝ }
 {
     cut_to(ctl, 0, regs.ctop);
     Regs {
@@ -95,7 +94,7 @@ pub fn finish(ctl: &mut [u32], regs: Regs) -> Regs
 // 60, 62 and 64: the word set aside is put back.
 fn put_back(main: &mut [u32], ptr: &mut [u32], put: Put)
     requires { ⌜ Retract (put .into) × InMain (length (now main)) put × InPtr (length (now ptr)) put ⌝ }
-    ensures { λ _. ⌜ ((m : Machine) → now (main .entry) ≡ mainCut put m → now (ptr .entry) ≡ ptrCut put m → machine (onwards put (m .regs)) (now (main .exit)) (now (ptr .exit)) (m .ctl) (m .heap) ≡ plainly (put .into) put m) ⌝ }
+    ensures { λ _. ⌜ ((m : Machine) → now (main .entry) ≡ cut (put .mtop) (m .main) → now (ptr .entry) ≡ cut (put .ptop) (m .ptr) → record { regs = onwards put (m .regs); main = now (main .exit); ptr = now (ptr .exit); ctl = m .ctl; heap = m .heap } ≡ plainly (put .into) put m) ⌝ }
 {
     let into = put.into;
     let at = put.at;
@@ -113,7 +112,7 @@ fn put_back(main: &mut [u32], ptr: &mut [u32], put: Put)
 // 60, 62 and 64, however many words go.
 pub fn drop_all(main: &mut [u32], ptr: &mut [u32], regs: Regs, put: Put)
     requires { ⌜ Dropping (now main) (now ptr) regs put ⌝ }
-    ensures { λ _. ⌜ ((ctl heap : List ℕ) → machine (onwards put regs) (now (main .exit)) (now (ptr .exit)) ctl heap ≡ plainly (put .into) put (machine regs (now (main .entry)) (now (ptr .entry)) ctl heap)) ⌝ }
+    ensures { λ _. ⌜ ((ctl heap : List ℕ) → record { regs = onwards put regs; main = now (main .exit); ptr = now (ptr .exit); ctl = ctl; heap = heap } ≡ plainly (put .into) put (record { regs = regs; main = now (main .entry); ptr = now (ptr .entry); ctl = ctl; heap = heap })) ⌝ }
 {
     cut_to(main, put.mtop, regs.mtop);
     cut_to(ptr, put.ptop, regs.ptop);
@@ -123,7 +122,7 @@ pub fn drop_all(main: &mut [u32], ptr: &mut [u32], regs: Regs, put: Put)
 // The same where at most four words of each stack go; where more would, nothing is done.
 fn drop_few(main: &mut [u32], ptr: &mut [u32], regs: Regs, put: Put) -> bool
     requires { ⌜ Dropping (now main) (now ptr) regs put ⌝ }
-    ensures { λ r. ⌜ ((ctl heap : List ℕ) → machine (triedOn r put regs) (now (main .exit)) (now (ptr .exit)) ctl heap ≡ tried r (put .into) put (machine regs (now (main .entry)) (now (ptr .entry)) ctl heap)) ⌝ }
+    ensures { λ r. ⌜ ((ctl heap : List ℕ) → record { regs = triedOn r put regs; main = now (main .exit); ptr = now (ptr .exit); ctl = ctl; heap = heap } ≡ tried r (put .into) put (record { regs = regs; main = now (main .entry); ptr = now (ptr .entry); ctl = ctl; heap = heap })) ⌝ }
 {
     if 4 < regs.mtop - put.mtop {
         return false;
@@ -141,7 +140,7 @@ fn drop_few(main: &mut [u32], ptr: &mut [u32], regs: Regs, put: Put) -> bool
 // Each arm pops by itself: a plan made with a known `into` then jumps to its arm, which looks at no stack that its instructions leave alone.
 pub fn plain(main: &mut [u32], ptr: &mut [u32], heap: &mut [u32], regs: Regs, put: Put) -> bool
     requires { ⌜ Plain (length (now heap)) (now main) (now ptr) regs put ⌝ }
-    ensures state { λ r. ⌜ ((ctl : List ℕ) → machine (triedOn r put regs) (now (main .exit)) (now (ptr .exit)) ctl (now (heap .exit)) ≡ tried r (put .into) put (machine regs (now (main .entry)) (now (ptr .entry)) ctl (now (heap .entry)))) ⌝ }
+    ensures state { λ r. ⌜ ((ctl : List ℕ) → record { regs = triedOn r put regs; main = now (main .exit); ptr = now (ptr .exit); ctl = ctl; heap = now (heap .exit) } ≡ tried r (put .into) put (record { regs = regs; main = now (main .entry); ptr = now (ptr .entry); ctl = ctl; heap = now (heap .entry) })) ⌝ }
     ensures undone { λ r. ⌜ (r ≡ false → Retract (put .into)) ⌝ }
 {
     let into = put.into;

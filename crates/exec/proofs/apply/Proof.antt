@@ -1,7 +1,6 @@
 -- `exec::apply` meets its contract: each arm knows where the plan writes, and what it calls leaves what the model applies there; what is left is late.
 use mathlib.Core.Path.{refl}
 use mathlib.Core.Logic.{inl, inr}
-use Rattle.model.specs.Control.{machine}
 use Rattle.bridge.specs.Settled.{applied}
 use Rattle.exec.specs.Applied.{to-call, to-open, to-close, to-plain, call-applied, leave-applied, open-applied, close-applied, told-done, told-undone, plain-done, plain-undone, plainly-state}
 use Rattle.exec.proofs.Tags.{plain-write}
@@ -14,7 +13,7 @@ enum-told c = search needs
 
 call-requires : tie.Need-call-requires
 call-requires c κs =
-    let S = c .before .before .before .before .before .before .before .before in to-call (S .args .file .now) (S .args .put) (machine (S .args .regs) (S .args .main .now) (S .args .ptr .now) (S .args .ctl .now) (S .args .heap .now)) (S .pre) (c .before .enum-told .given .1)
+    let S = c .before .before .before .before .before .before .before .before in to-call (S .args .file .now) (S .args .put) (record { regs = S .args .regs; main = S .args .main .now; ptr = S .args .ptr .now; ctl = S .args .ctl .now; heap = S .args .heap .now }) (S .pre) (c .before .enum-told .given .1)
 
 done-requires : tie.Need-done-requires
 done-requires c κs = search needs
@@ -28,7 +27,7 @@ undone-requires c κs = search needs
 returns : tie.Need-returns
 returns c =
     let S = c .before .before .before .before .before .before .before .before .before .before in
-    told-undone (S .args .file .now) (S .args .put) (machine (S .args .regs) (S .args .main .now) (S .args .ptr .now) (S .args .ctl .now) (S .args .heap .now)) _ _ _ _ _ (c .undone .ensures) refl (inr (inr (c .before .before .before .enum-told2 .given .1, c .before .if1 .taken)))
+    told-undone (S .args .file .now) (S .args .put) (record { regs = S .args .regs; main = S .args .main .now; ptr = S .args .ptr .now; ctl = S .args .ctl .now; heap = S .args .heap .now }) _ _ _ _ _ (c .undone .ensures) refl (inr (inr (c .before .before .before .enum-told2 .given .1, c .before .if1 .taken)))
 
 leave-requires : tie.Need-leave-requires
 leave-requires c κs = search needs
@@ -41,7 +40,7 @@ enum-told-3 c = search needs
 
 open-requires : tie.Need-open-requires
 open-requires c κs =
-    let S = c .before .before .before .before .before .before .before .before in to-open (S .args .file .now) (S .args .put) (machine (S .args .regs) (S .args .main .now) (S .args .ptr .now) (S .args .ctl .now) (S .args .heap .now)) (S .pre) (c .before .enum-told3 .given .1)
+    let S = c .before .before .before .before .before .before .before .before in to-open (S .args .file .now) (S .args .put) (record { regs = S .args .regs; main = S .args .main .now; ptr = S .args .ptr .now; ctl = S .args .ctl .now; heap = S .args .heap .now }) (S .pre) (c .before .enum-told3 .given .1)
 
 done-requires-3 : tie.Need-done-requires-3
 done-requires-3 c κs = search needs
@@ -51,7 +50,7 @@ enum-told-4 c = search needs
 
 close-requires : tie.Need-close-requires
 close-requires c κs =
-    let S = c .before .before .before .before .before .before .before .before in to-close (S .args .file .now) (S .args .put) (machine (S .args .regs) (S .args .main .now) (S .args .ptr .now) (S .args .ctl .now) (S .args .heap .now)) (S .pre) (c .before .enum-told4 .given .1)
+    let S = c .before .before .before .before .before .before .before .before in to-close (S .args .file .now) (S .args .put) (record { regs = S .args .regs; main = S .args .main .now; ptr = S .args .ptr .now; ctl = S .args .ctl .now; heap = S .args .heap .now }) (S .pre) (c .before .enum-told4 .given .1)
 
 done-requires-4 : tie.Need-done-requires-4
 done-requires-4 c κs = search needs
@@ -65,7 +64,7 @@ undone-requires-2 c κs = search needs
 plain-requires : tie.Need-plain-requires
 plain-requires c κs =
     let S = c .before .before .before .before .before .before .before .before .before in
-    to-plain (S .args .file .now) (S .args .put) (machine (S .args .regs) (S .args .main .now) (S .args .ptr .now) (S .args .ctl .now) (S .args .heap .now)) (S .pre) (plain-write (S .args .file .now) (S .args .put .into) (S .args .put) (machine (S .args .regs) (S .args .main .now) (S .args .ptr .now) (S .args .ctl .now) (S .args .heap .now)) (c .before .before .before .match .keys6) (S .pre .suits) .0)
+    to-plain (S .args .file .now) (S .args .put) (record { regs = S .args .regs; main = S .args .main .now; ptr = S .args .ptr .now; ctl = S .args .ctl .now; heap = S .args .heap .now }) (S .pre) (plain-write (S .args .file .now) (S .args .put .into) (S .args .put) (record { regs = S .args .regs; main = S .args .main .now; ptr = S .args .ptr .now; ctl = S .args .ctl .now; heap = S .args .heap .now }) (c .before .before .before .match .keys6) (S .pre .suits) .0)
 
 onward-requires : tie.Need-onward-requires
 onward-requires c κs = search needs
@@ -86,10 +85,10 @@ returns-2 : tie.Need-returns-2
 unfolding applied
 returns-2 c =
     let S = c .before .before .before .before .before .before .before .before .before .before .before .before .before .before .before .before .before .before .before in
-    told-done (S .args .file .now) (S .args .put) (machine (S .args .regs) (S .args .main .now) (S .args .ptr .now) (S .args .ctl .now) (S .args .heap .now)) _ _ _ _ _ _ _ (c .done5 .ensures)
-    (rw (c .before .onward .ensures) (plain-done (S .args .put) (machine (S .args .regs) (S .args .main .now) (S .args .ptr .now) (S .args .ctl .now) (S .args .heap .now)) _ _ _ _ (c .before .before .before .before .before .before .before .before .before .plain .ensures .0 (S .args .ctl .now)) (c .before .before .if2 .taken)))
-    (plainly-state (S .args .put .into) (S .args .put) (machine (S .args .regs) (S .args .main .now) (S .args .ptr .now) (S .args .ctl .now) (S .args .heap .now)))
-    (plain-write (S .args .file .now) (S .args .put .into) (S .args .put) (machine (S .args .regs) (S .args .main .now) (S .args .ptr .now) (S .args .ctl .now) (S .args .heap .now)) (c .before .before .before .before .before .before .before .before .before .before .before .before .before .match .keys6) (S .pre .suits) .1)
+    told-done (S .args .file .now) (S .args .put) (record { regs = S .args .regs; main = S .args .main .now; ptr = S .args .ptr .now; ctl = S .args .ctl .now; heap = S .args .heap .now }) _ _ _ _ _ _ _ (c .done5 .ensures)
+    (rw (c .before .onward .ensures) (plain-done (S .args .put) (record { regs = S .args .regs; main = S .args .main .now; ptr = S .args .ptr .now; ctl = S .args .ctl .now; heap = S .args .heap .now }) _ _ _ _ (c .before .before .before .before .before .before .before .before .before .plain .ensures .0 (S .args .ctl .now)) (c .before .before .if2 .taken)))
+    (plainly-state (S .args .put .into) (S .args .put) (record { regs = S .args .regs; main = S .args .main .now; ptr = S .args .ptr .now; ctl = S .args .ctl .now; heap = S .args .heap .now }))
+    (plain-write (S .args .file .now) (S .args .put .into) (S .args .put) (record { regs = S .args .regs; main = S .args .main .now; ptr = S .args .ptr .now; ctl = S .args .ctl .now; heap = S .args .heap .now }) (c .before .before .before .before .before .before .before .before .before .before .before .before .before .match .keys6) (S .pre .suits) .1)
 
 undone-requires-3 : tie.Need-undone-requires-3
 undone-requires-3 c κs = search needs
@@ -100,8 +99,8 @@ same-length-4 c = search needs
 returns-3 : tie.Need-returns-3
 returns-3 c =
     let S = c .before .before .before .before .before .before .before .before .before .before .before .before in
-    told-done (S .args .file .now) (S .args .put) (machine (S .args .regs) (S .args .main .now) (S .args .ptr .now) (S .args .ctl .now) (S .args .heap .now)) _ _ _ _ _ _ _ (c .done .ensures) (c .before .before .before .call .ensures (S .args .main .now) (S .args .ptr .now) (S .args .heap .now)) refl
-    (call-applied (S .args .file .now) (S .args .put) (machine (S .args .regs) (S .args .main .now) (S .args .ptr .now) (S .args .ctl .now) (S .args .heap .now)) (c .before .before .before .before .before .enum-told .given .1))
+    told-done (S .args .file .now) (S .args .put) (record { regs = S .args .regs; main = S .args .main .now; ptr = S .args .ptr .now; ctl = S .args .ctl .now; heap = S .args .heap .now }) _ _ _ _ _ _ _ (c .done .ensures) (c .before .before .before .call .ensures (S .args .main .now) (S .args .ptr .now) (S .args .heap .now)) refl
+    (call-applied (S .args .file .now) (S .args .put) (record { regs = S .args .regs; main = S .args .main .now; ptr = S .args .ptr .now; ctl = S .args .ctl .now; heap = S .args .heap .now }) (c .before .before .before .before .before .enum-told .given .1))
 
 same-length-5 : tie.Need-same-length-5
 same-length-5 c = search needs
@@ -109,8 +108,8 @@ same-length-5 c = search needs
 returns-4 : tie.Need-returns-4
 returns-4 c =
     let S = c .before .before .before .before .before .before .before .before .before .before .before .before .before .before in
-    told-done (S .args .file .now) (S .args .put) (machine (S .args .regs) (S .args .main .now) (S .args .ptr .now) (S .args .ctl .now) (S .args .heap .now)) _ _ _ _ _ _ _ (c .done2 .ensures) (c .before .before .before .leave .ensures (S .args .main .now) (S .args .ptr .now) (S .args .heap .now)) refl
-    (leave-applied (S .args .file .now) (S .args .put) (machine (S .args .regs) (S .args .main .now) (S .args .ptr .now) (S .args .ctl .now) (S .args .heap .now)) (c .before .before .before .before .before .before .before .enum-told2 .given .1) (c .before .before .before .before .before .if1 .left))
+    told-done (S .args .file .now) (S .args .put) (record { regs = S .args .regs; main = S .args .main .now; ptr = S .args .ptr .now; ctl = S .args .ctl .now; heap = S .args .heap .now }) _ _ _ _ _ _ _ (c .done2 .ensures) (c .before .before .before .leave .ensures (S .args .main .now) (S .args .ptr .now) (S .args .heap .now)) refl
+    (leave-applied (S .args .file .now) (S .args .put) (record { regs = S .args .regs; main = S .args .main .now; ptr = S .args .ptr .now; ctl = S .args .ctl .now; heap = S .args .heap .now }) (c .before .before .before .before .before .before .before .enum-told2 .given .1) (c .before .before .before .before .before .if1 .left))
 
 same-length-6 : tie.Need-same-length-6
 same-length-6 c = search needs
@@ -118,8 +117,8 @@ same-length-6 c = search needs
 returns-5 : tie.Need-returns-5
 returns-5 c =
     let S = c .before .before .before .before .before .before .before .before .before .before .before .before in
-    told-done (S .args .file .now) (S .args .put) (machine (S .args .regs) (S .args .main .now) (S .args .ptr .now) (S .args .ctl .now) (S .args .heap .now)) _ _ _ _ _ _ _ (c .done3 .ensures) (c .before .before .before .«open» .ensures (S .args .main .now) (S .args .ptr .now) (S .args .heap .now)) refl
-    (open-applied (S .args .file .now) (S .args .put) (machine (S .args .regs) (S .args .main .now) (S .args .ptr .now) (S .args .ctl .now) (S .args .heap .now)) (c .before .before .before .before .before .enum-told3 .given .1))
+    told-done (S .args .file .now) (S .args .put) (record { regs = S .args .regs; main = S .args .main .now; ptr = S .args .ptr .now; ctl = S .args .ctl .now; heap = S .args .heap .now }) _ _ _ _ _ _ _ (c .done3 .ensures) (c .before .before .before .«open» .ensures (S .args .main .now) (S .args .ptr .now) (S .args .heap .now)) refl
+    (open-applied (S .args .file .now) (S .args .put) (record { regs = S .args .regs; main = S .args .main .now; ptr = S .args .ptr .now; ctl = S .args .ctl .now; heap = S .args .heap .now }) (c .before .before .before .before .before .enum-told3 .given .1))
 
 same-length-7 : tie.Need-same-length-7
 same-length-7 c = search needs
@@ -127,13 +126,13 @@ same-length-7 c = search needs
 returns-6 : tie.Need-returns-6
 returns-6 c =
     let S = c .before .before .before .before .before .before .before .before .before .before .before .before in
-    told-done (S .args .file .now) (S .args .put) (machine (S .args .regs) (S .args .main .now) (S .args .ptr .now) (S .args .ctl .now) (S .args .heap .now)) _ _ _ _ _ _ _ (c .done4 .ensures) (c .before .before .before .close .ensures (S .args .main .now) (S .args .ptr .now) (S .args .heap .now)) refl
-    (close-applied (S .args .file .now) (S .args .put) (machine (S .args .regs) (S .args .main .now) (S .args .ptr .now) (S .args .ctl .now) (S .args .heap .now)) (c .before .before .before .before .before .enum-told4 .given .1))
+    told-done (S .args .file .now) (S .args .put) (record { regs = S .args .regs; main = S .args .main .now; ptr = S .args .ptr .now; ctl = S .args .ctl .now; heap = S .args .heap .now }) _ _ _ _ _ _ _ (c .done4 .ensures) (c .before .before .before .close .ensures (S .args .main .now) (S .args .ptr .now) (S .args .heap .now)) refl
+    (close-applied (S .args .file .now) (S .args .put) (record { regs = S .args .regs; main = S .args .main .now; ptr = S .args .ptr .now; ctl = S .args .ctl .now; heap = S .args .heap .now }) (c .before .before .before .before .before .enum-told4 .given .1))
 
 returns-7 : tie.Need-returns-7
 returns-7 c =
     let S = c .before .before .before .before .before .before .before .before in
-    told-undone (S .args .file .now) (S .args .put) (machine (S .args .regs) (S .args .main .now) (S .args .ptr .now) (S .args .ctl .now) (S .args .heap .now)) _ _ _ _ _ (c .undone2 .ensures) refl (inr (inl (c .before .enum-told5 .given .1)))
+    told-undone (S .args .file .now) (S .args .put) (record { regs = S .args .regs; main = S .args .main .now; ptr = S .args .ptr .now; ctl = S .args .ctl .now; heap = S .args .heap .now }) _ _ _ _ _ (c .undone2 .ensures) refl (inr (inl (c .before .enum-told5 .given .1)))
 
 same-length-8 : tie.Need-same-length-8
 same-length-8 c = search needs
@@ -147,8 +146,8 @@ same-length-10 c = search needs
 returns-8 : tie.Need-returns-8
 returns-8 c =
     let S = c .before .before .before .before .before .before .before .before .before .before .before .before .before .before .before .before .before .before in
-    told-undone (S .args .file .now) (S .args .put) (machine (S .args .regs) (S .args .main .now) (S .args .ptr .now) (S .args .ctl .now) (S .args .heap .now)) _ _ _ _ _ (c .undone3 .ensures)
-    (plain-undone (S .args .put) (machine (S .args .regs) (S .args .main .now) (S .args .ptr .now) (S .args .ctl .now) (S .args .heap .now)) _ _ _ _ (c .before .before .before .before .before .before .before .before .plain .ensures .0 (S .args .ctl .now)) (c .before .if2 .left))
+    told-undone (S .args .file .now) (S .args .put) (record { regs = S .args .regs; main = S .args .main .now; ptr = S .args .ptr .now; ctl = S .args .ctl .now; heap = S .args .heap .now }) _ _ _ _ _ (c .undone3 .ensures)
+    (plain-undone (S .args .put) (record { regs = S .args .regs; main = S .args .main .now; ptr = S .args .ptr .now; ctl = S .args .ctl .now; heap = S .args .heap .now }) _ _ _ _ (c .before .before .before .before .before .before .before .before .plain .ensures .0 (S .args .ctl .now)) (c .before .if2 .left))
     (inl (c .before .before .before .before .before .before .before .before .plain .ensures .1 (c .before .if2 .left)))
 
 pub apply-spec : {M : Type 1} → statement M

@@ -1,7 +1,6 @@
 -- `exec::apply_late` meets its contract: each arm knows which of the late writes it has, and leaves what the model applies.
 use native.Mathlib.Omega.{arith}
 use mathlib.Core.Path.{_∙_}
-use Rattle.model.specs.Control.{machine}
 use Rattle.sound.specs.Lists.{length-cut}
 use Rattle.exec.specs.Applied.{view-applied, finish-applied, drop-applied}
 use Rattle.exec.proofs.Tags.{late-return, late-retract}
@@ -52,7 +51,7 @@ same-length-3 c = search needs
 returns : tie.Need-returns
 returns c f =
     let S = c .before .before .before .before .before .before .before .before .before .before .before .before .before .before .before .before .before .before .before .before .before in
-    view-applied f (S .args .put) (machine (S .args .regs) (S .args .main .now) (S .args .ptr .now) (S .args .ctl .now) (S .args .heap .now)) _ _ _ _ (c .before .before .before .before .before .before .before .before .before .before .before .before .before .before .enum-told .given .1) (c .before .before .before .before .before .before .before .before .before .before .before .before .before .before .before .before .onward .ensures) (c .before .before .before .before .before .before .cut-to .ensures) (c .before .before .cut-to2 .ensures) (c .before .before .before .before .before .before .before .before .before .before .form .ensures)
+    view-applied f (S .args .put) (record { regs = S .args .regs; main = S .args .main .now; ptr = S .args .ptr .now; ctl = S .args .ctl .now; heap = S .args .heap .now }) _ _ _ _ (c .before .before .before .before .before .before .before .before .before .before .before .before .before .before .enum-told .given .1) (c .before .before .before .before .before .before .before .before .before .before .before .before .before .before .before .before .onward .ensures) (c .before .before .before .before .before .before .cut-to .ensures) (c .before .before .cut-to2 .ensures) (c .before .before .before .before .before .before .before .before .before .before .form .ensures)
 
 same-length-4 : tie.Need-same-length-4
 same-length-4 c = search needs
@@ -61,7 +60,7 @@ returns-2 : tie.Need-returns-2
 returns-2 c f =
     let S = c .before .before .before .before .before .before .before .before .before .before .before in
     c .before .before .finish .ensures (S .args .main .now) (S .args .ptr .now) (S .args .heap .now)
-    ∙ finish-applied f (S .args .put) (machine (S .args .regs) (S .args .main .now) (S .args .ptr .now) (S .args .ctl .now) (S .args .heap .now)) (c .before .before .before .before .enum-told2 .given .1) (late-return (S .args .put .into) (S .args .regs) (S .pre .late) (c .before .before .before .before .enum-told2 .given .1))
+    ∙ finish-applied f (S .args .put) (record { regs = S .args .regs; main = S .args .main .now; ptr = S .args .ptr .now; ctl = S .args .ctl .now; heap = S .args .heap .now }) (c .before .before .before .before .enum-told2 .given .1) (late-return (S .args .put .into) (S .args .regs) (S .pre .late) (c .before .before .before .before .enum-told2 .given .1))
 
 same-length-5 : tie.Need-same-length-5
 same-length-5 c = search needs
@@ -74,7 +73,7 @@ returns-3 c f =
     let S = c .before .before .before .before .before .before .before .before .before .before .before .before .before in
     rw (c .before .before .before .before .before .before .before .before .onward .ensures)
     (c .before .before .before .before .drop-all .ensures (S .args .ctl .now) (S .args .heap .now)
-    ∙ drop-applied f (S .args .put) (machine (S .args .regs) (S .args .main .now) (S .args .ptr .now) (S .args .ctl .now) (S .args .heap .now)) (late-retract (S .args .put .into) (S .args .regs) (S .pre .late) (c .before .before .before .before .before .before .before .match .keys3)))
+    ∙ drop-applied f (S .args .put) (record { regs = S .args .regs; main = S .args .main .now; ptr = S .args .ptr .now; ctl = S .args .ctl .now; heap = S .args .heap .now }) (late-retract (S .args .put .into) (S .args .regs) (S .pre .late) (c .before .before .before .before .before .before .before .match .keys3)))
 
 pub apply-late-spec : {M : Type 1} → statement M
 apply-late-spec =

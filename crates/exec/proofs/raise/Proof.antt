@@ -1,7 +1,6 @@
 -- `exec::raise` meets its contract: no handler, and nothing is written; or the stacks are cut to the handler's tops, its record and
 -- those above it go, and the code is pushed.
 use native.Mathlib.Omega.{arith}
-use Rattle.model.specs.Control.{machine}
 use Rattle.sound.specs.Lists.{length-cut}
 use Rattle.exec.specs.Ended.{uncaught-ends, caught-ends, guard-top, guard-targets}
 use borrow.Author.Needs.{needs}
@@ -11,7 +10,7 @@ use Rattle.exec.proofs.raise.Tie as tie
 returns : tie.Need-returns
 returns c heap =
     let S = c .before .before .before .before .before in
-    uncaught-ends (S .args .file .now) (machine (S .args .regs) (S .args .main .now) (S .args .ptr .now) (S .args .ctl .now) heap) (S .args .code) (c .if1 .taken)
+    uncaught-ends (S .args .file .now) (record { regs = S .args .regs; main = S .args .main .now; ptr = S .args .ptr .now; ctl = S .args .ctl .now; heap = heap }) (S .args .code) (c .if1 .taken)
 
 guard-at-requires : tie.Need-guard-at-requires
 guard-at-requires c κs = search needs
@@ -63,7 +62,7 @@ same-length-3 c = search needs
 returns-2 : tie.Need-returns-2
 returns-2 c heap =
     let S = c .before .before .before .before .before .before .before .before .before .before .before .before .before .before .before .before .before .before .before .before .before .before in
-    caught-ends (S .args .file .now) (machine (S .args .regs) (S .args .main .now) (S .args .ptr .now) (S .args .ctl .now) heap) (S .args .code) _ _ _ _ _ _ (c .before .before .before .before .before .before .before .before .before .before .before .before .before .before .before .before .before .if1 .left) (c .before .before .before .before .before .before .before .before .before .before .before .before .before .before .before .guard-at .ensures) (c .before .before .before .before .before .before .before .before .before .before .before .before .before .target .ensures) (c .resume .ensures) (c .before .before .before .before .before .before .before .before .before .before .before .cut-to .ensures) (c .before .before .before .before .before .before .before .cut-to2 .ensures) (c .before .before .before .cut-to3 .ensures)
+    caught-ends (S .args .file .now) (record { regs = S .args .regs; main = S .args .main .now; ptr = S .args .ptr .now; ctl = S .args .ctl .now; heap = heap }) (S .args .code) _ _ _ _ _ _ (c .before .before .before .before .before .before .before .before .before .before .before .before .before .before .before .before .before .if1 .left) (c .before .before .before .before .before .before .before .before .before .before .before .before .before .before .before .guard-at .ensures) (c .before .before .before .before .before .before .before .before .before .before .before .before .before .target .ensures) (c .resume .ensures) (c .before .before .before .before .before .before .before .before .before .before .before .cut-to .ensures) (c .before .before .before .before .before .before .before .cut-to2 .ensures) (c .before .before .before .cut-to3 .ensures)
 
 pub raise-spec : {M : Type 1} → statement M
 raise-spec =

@@ -1,5 +1,5 @@
 -- `exec::step_with` meets its contract: a write that was left is applied, every other plan raises its code.
-use Rattle.model.specs.Control.{machine}
+
 use Rattle.bridge.specs.Settled.{settle}
 use Rattle.exec.specs.Applied.{to-late}
 use Rattle.exec.specs.Ended.{endedOf, settle-raised}
@@ -33,14 +33,14 @@ same-length-3 c = search needs
 returns : tie.Need-returns
 returns c =
     let S = c .before .before .before .before .before .before .before .before .before .before .before .before .before .before .before .before .before .before in
-    rw (settle-raised (S .args .file .now) (machine (S .args .regs) (S .args .main .now) (S .args .ptr .now) (S .args .ctl .now) (S .args .heap .now)) (S .args .plan) (no-write (S .args .plan) (c .before .before .before .before .before .before .before .before .before .before .before .before .match .keys2)), ← c .before .before .before .before .before .before .before .before .before .before .code-of .ensures)
+    rw (settle-raised (S .args .file .now) (record { regs = S .args .regs; main = S .args .main .now; ptr = S .args .ptr .now; ctl = S .args .ctl .now; heap = S .args .heap .now }) (S .args .plan) (no-write (S .args .plan) (c .before .before .before .before .before .before .before .before .before .before .before .before .match .keys2)), ← c .before .before .before .before .before .before .before .before .before .before .code-of .ensures)
     (c .before .before .before .before .before .before .raise .ensures (S .args .heap .now))
 
 apply-late-requires : tie.Need-apply-late-requires
 apply-late-requires c κs =
     let S = c .before .before .before .before .before .before .before .before .before .before .before .before in
     let e = c .before .before .before .before .before .plan .given .1 in
-    to-late (S .args .file .now) _ (machine (S .args .regs) (S .args .main .now) (S .args .ptr .now) (S .args .ctl .now) (S .args .heap .now)) (S .pre .0 .writes _ e) (S .pre .1 _ e)
+    to-late (S .args .file .now) _ (record { regs = S .args .regs; main = S .args .main .now; ptr = S .args .ptr .now; ctl = S .args .ctl .now; heap = S .args .heap .now }) (S .pre .0 .writes _ e) (S .pre .1 _ e)
 
 same-length-4 : tie.Need-same-length-4
 same-length-4 c = search needs

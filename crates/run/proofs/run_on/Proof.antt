@@ -4,7 +4,6 @@ use mathlib.Core.Bool.{Bool, true, false, not}
 use Prim.Native.Nat.{_-_}
 use native.Mathlib.Omega.{arith}
 use borrow.Author.Needs.{needs}
-use Rattle.model.specs.Control.{machine}
 use Rattle.safe.specs.Settling.{alive-settles}
 use Rattle.steps.specs.Going.{Paused, going-start, going-trans}
 use Rattle.run.specs.Endings.{finished-at, going-finished, going-spent, going-uncaught, going-on}
@@ -21,7 +20,7 @@ went-on? false e = sym e
 
 abbrev Inv-loop : tie.InvT-loop
 Inv-loop file table main₀ ptr₀ ctl₀ heap₀ budget r₀ plan₀ left₀ main ptr ctl heap r plan left =
-    Paused file table left₀ (machine r₀ main₀ ptr₀ ctl₀ heap₀) left (machine r main ptr ctl heap) plan
+    Paused file table left₀ (record { regs = r₀; main = main₀; ptr = ptr₀; ctl = ctl₀; heap = heap₀ }) left (record { regs = r; main = main; ptr = ptr; ctl = ctl; heap = heap }) plan
 
 abbrev μ-loop : tie.MeasureT-loop
 μ-loop file table main₀ ptr₀ ctl₀ heap₀ budget r₀ plan₀ left₀ main ptr ctl heap r plan left = left
@@ -31,7 +30,7 @@ answered-requires c κs = search needs
 
 returns : tie.Need-returns Inv-loop μ-loop
 returns c =
-    let S = c .before .before .before .before .before .before .before .before in rw (c .answered .ensures) (sym (finished-at (S .args .file .now) (S .args .table .now) (S .args .budget) 0 (machine (S .args .regs) (S .args .main .now) (S .args .ptr .now) (S .args .ctl .now) (S .args .heap .now)) (c .before .if1 .taken)))
+    let S = c .before .before .before .before .before .before .before .before in rw (c .answered .ensures) (sym (finished-at (S .args .file .now) (S .args .table .now) (S .args .budget) 0 (record { regs = S .args .regs; main = S .args .main .now; ptr = S .args .ptr .now; ctl = S .args .ctl .now; heap = S .args .heap .now }) (c .before .if1 .taken)))
 
 go-on-requires : tie.Need-go-on-requires Inv-loop μ-loop
 go-on-requires c κs = (c .before .before .before .before .before .before .before .before .before .before .before .pre, c .before .before .before .before .if1 .left)
@@ -74,9 +73,9 @@ returns-2 c =
     let S = c .before .before .before .before .before .before .before .before .before .before .before .before .before .before .before .before .before .before .before .before .before .before .before .before .before .before .before .before .before .before .before .before .before .before .before .before .before .before in
     let L = c .before .before .before .before .before .before .before .before .before .before .before .before .before .before .before .before .loop in
     rw (c .answered2 .ensures)
-    (going-uncaught (S .args .file .now) (S .args .table .now) (L .left) (machine (L .r) (L .main) (L .ptr) (L .ctl) (L .heap)) (L .inv .going .runs) (c .before .before .before .before .before .before .before .before .before .before .before .before .before .before .before .loop-test .taken) (L .inv .on?) (L .plan)
-    (L .inv .stopped (c .before .before .before .before .before .before .before .before .before .before .before .before .before .before .before .loop-test .taken) .is) (c .before .before .before .before .before .before .before .before .before .before .step-with .result) _ _ _ _ (c .before .before .before .before .before .before .before .before .before .before .step-with .ensures) (S .args .budget) (machine (S .args .regs) (S .args .main .now) (S .args .ptr .now) (S .args .ctl .now) (S .args .heap .now))
-    (going-trans (S .args .file .now) (S .args .table .now) (S .args .budget) (machine (S .args .regs) (S .args .main .now) (S .args .ptr .now) (S .args .ctl .now) (S .args .heap .now)) _ _ (L .left) (machine (L .r) (L .main) (L .ptr) (L .ctl) (L .heap)) (c .before .before .before .before .before .before .before .before .before .before .before .before .before .before .before .before .before .before .before .before .before .before .before .before .before .before .go-on .ensures .going) (L .inv .going)) (went-off? _ (c .before .if2 .taken)))
+    (going-uncaught (S .args .file .now) (S .args .table .now) (L .left) (record { regs = L .r; main = L .main; ptr = L .ptr; ctl = L .ctl; heap = L .heap }) (L .inv .going .runs) (c .before .before .before .before .before .before .before .before .before .before .before .before .before .before .before .loop-test .taken) (L .inv .on?) (L .plan)
+    (L .inv .stopped (c .before .before .before .before .before .before .before .before .before .before .before .before .before .before .before .loop-test .taken) .is) (c .before .before .before .before .before .before .before .before .before .before .step-with .result) _ _ _ _ (c .before .before .before .before .before .before .before .before .before .before .step-with .ensures) (S .args .budget) (record { regs = S .args .regs; main = S .args .main .now; ptr = S .args .ptr .now; ctl = S .args .ctl .now; heap = S .args .heap .now })
+    (going-trans (S .args .file .now) (S .args .table .now) (S .args .budget) (record { regs = S .args .regs; main = S .args .main .now; ptr = S .args .ptr .now; ctl = S .args .ctl .now; heap = S .args .heap .now }) _ _ (L .left) (record { regs = L .r; main = L .main; ptr = L .ptr; ctl = L .ctl; heap = L .heap }) (c .before .before .before .before .before .before .before .before .before .before .before .before .before .before .before .before .before .before .before .before .before .before .before .before .before .before .go-on .ensures .going) (L .inv .going)) (went-off? _ (c .before .if2 .taken)))
 
 sub-done-2 : tie.Need-sub-done-2 Inv-loop μ-loop
 sub-done-2 c = omega (arith, c .before .before .before .before .before .before .before .before .before .before .before .before .before .before .before .before .before .before .loop .inv .going .less, c .before .before .before .before .before .before .before .before .before .before .before .before .before .before .before .before .before .before .before .before .before .before .before .before .before .before .before .before .go-on .ensures .going .less)
@@ -101,14 +100,14 @@ returns-3 c =
     let S = c .before .before .before .before .before .before .before .before .before .before .before .before .before .before .before .before .before .before .before .before .before .before .before .before .before .before .before .before .before .before .before .before .before .before .before .before .before .before .before .before .before in
     let L = c .before .before .before .before .before .before .before .before .before .before .before .before .before .before .before .before .before .before .before .loop in
     rw (c .answered3 .ensures)
-    (going-finished (S .args .file .now) (S .args .table .now) (S .args .budget) (machine (S .args .regs) (S .args .main .now) (S .args .ptr .now) (S .args .ctl .now) (S .args .heap .now)) (L .left - 1) _
-    (going-on (S .args .file .now) (S .args .table .now) (L .left) (machine (L .r) (L .main) (L .ptr) (L .ctl) (L .heap)) (L .inv .going .runs) (c .before .before .before .before .before .before .before .before .before .before .before .before .before .before .before .before .before .before .loop-test .taken) (L .inv .on?) (L .plan) (L .inv .stopped (c .before .before .before .before .before .before .before .before .before .before .before .before .before .before .before .before .before .before .loop-test .taken) .is) (c .before .before .before .before .before .before .before .before .before .before .before .before .before .step-with .result) _ _ _ _ (c .before .before .before .before .before .before .before .before .before .before .before .before .before .step-with .ensures) (S .args .budget) (machine (S .args .regs) (S .args .main .now) (S .args .ptr .now) (S .args .ctl .now) (S .args .heap .now)) (going-trans (S .args .file .now) (S .args .table .now) (S .args .budget) (machine (S .args .regs) (S .args .main .now) (S .args .ptr .now) (S .args .ctl .now) (S .args .heap .now)) _ _ (L .left) (machine (L .r) (L .main) (L .ptr) (L .ctl) (L .heap)) (c .before .before .before .before .before .before .before .before .before .before .before .before .before .before .before .before .before .before .before .before .before .before .before .before .before .before .before .before .before .go-on .ensures .going) (L .inv .going)) (went-on? _ (c .before .before .before .before .if2 .left)) (record { main = c .before .before .before .before .before .before .before .before .before .before .before .before .before .step-with .kept .1 .1 .0; ptr = c .before .before .before .before .before .before .before .before .before .before .before .before .before .step-with .kept .1 .1 .1 .0; ctl = c .before .before .before .before .before .before .before .before .before .before .before .before .before .step-with .kept .1 .1 .1 .1 .0; heap = c .before .before .before .before .before .before .before .before .before .before .before .before .before .step-with .kept .1 .1 .1 .1 .1 .0 })) (c .before .if3 .taken))
+    (going-finished (S .args .file .now) (S .args .table .now) (S .args .budget) (record { regs = S .args .regs; main = S .args .main .now; ptr = S .args .ptr .now; ctl = S .args .ctl .now; heap = S .args .heap .now }) (L .left - 1) _
+    (going-on (S .args .file .now) (S .args .table .now) (L .left) (record { regs = L .r; main = L .main; ptr = L .ptr; ctl = L .ctl; heap = L .heap }) (L .inv .going .runs) (c .before .before .before .before .before .before .before .before .before .before .before .before .before .before .before .before .before .before .loop-test .taken) (L .inv .on?) (L .plan) (L .inv .stopped (c .before .before .before .before .before .before .before .before .before .before .before .before .before .before .before .before .before .before .loop-test .taken) .is) (c .before .before .before .before .before .before .before .before .before .before .before .before .before .step-with .result) _ _ _ _ (c .before .before .before .before .before .before .before .before .before .before .before .before .before .step-with .ensures) (S .args .budget) (record { regs = S .args .regs; main = S .args .main .now; ptr = S .args .ptr .now; ctl = S .args .ctl .now; heap = S .args .heap .now }) (going-trans (S .args .file .now) (S .args .table .now) (S .args .budget) (record { regs = S .args .regs; main = S .args .main .now; ptr = S .args .ptr .now; ctl = S .args .ctl .now; heap = S .args .heap .now }) _ _ (L .left) (record { regs = L .r; main = L .main; ptr = L .ptr; ctl = L .ctl; heap = L .heap }) (c .before .before .before .before .before .before .before .before .before .before .before .before .before .before .before .before .before .before .before .before .before .before .before .before .before .before .before .before .before .go-on .ensures .going) (L .inv .going)) (went-on? _ (c .before .before .before .before .if2 .left)) (record { main = c .before .before .before .before .before .before .before .before .before .before .before .before .before .step-with .kept .1 .1 .0; ptr = c .before .before .before .before .before .before .before .before .before .before .before .before .before .step-with .kept .1 .1 .1 .0; ctl = c .before .before .before .before .before .before .before .before .before .before .before .before .before .step-with .kept .1 .1 .1 .1 .0; heap = c .before .before .before .before .before .before .before .before .before .before .before .before .before .step-with .kept .1 .1 .1 .1 .1 .0 })) (c .before .if3 .taken))
 
 go-on-requires-2 : tie.Need-go-on-requires-2 Inv-loop μ-loop
 go-on-requires-2 c κs =
     let S = c .before .before .before .before .before .before .before .before .before .before .before .before .before .before .before .before .before .before .before .before .before .before .before .before .before .before .before .before .before .before .before .before .before .before .before .before .before .before .before .before .before .before .before .before in
     let L = c .before .before .before .before .before .before .before .before .before .before .before .before .before .before .before .before .before .before .before .before .before .before .loop in
-    (going-on (S .args .file .now) (S .args .table .now) (L .left) (machine (L .r) (L .main) (L .ptr) (L .ctl) (L .heap)) (L .inv .going .runs) (c .before .before .before .before .before .before .before .before .before .before .before .before .before .before .before .before .before .before .before .before .before .loop-test .taken) (L .inv .on?) (L .plan) (L .inv .stopped (c .before .before .before .before .before .before .before .before .before .before .before .before .before .before .before .before .before .before .before .before .before .loop-test .taken) .is) (c .before .before .before .before .before .before .before .before .before .before .before .before .before .before .before .before .step-with .result) _ _ _ _ (c .before .before .before .before .before .before .before .before .before .before .before .before .before .before .before .before .step-with .ensures) (S .args .budget) (machine (S .args .regs) (S .args .main .now) (S .args .ptr .now) (S .args .ctl .now) (S .args .heap .now)) (going-trans (S .args .file .now) (S .args .table .now) (S .args .budget) (machine (S .args .regs) (S .args .main .now) (S .args .ptr .now) (S .args .ctl .now) (S .args .heap .now)) _ _ (L .left) (machine (L .r) (L .main) (L .ptr) (L .ctl) (L .heap)) (c .before .before .before .before .before .before .before .before .before .before .before .before .before .before .before .before .before .before .before .before .before .before .before .before .before .before .before .before .before .before .before .before .go-on .ensures .going) (L .inv .going)) (went-on? _ (c .before .before .before .before .before .before .before .if2 .left)) (record { main = c .before .before .before .before .before .before .before .before .before .before .before .before .before .before .before .before .step-with .kept .1 .1 .0; ptr = c .before .before .before .before .before .before .before .before .before .before .before .before .before .before .before .before .step-with .kept .1 .1 .1 .0; ctl = c .before .before .before .before .before .before .before .before .before .before .before .before .before .before .before .before .step-with .kept .1 .1 .1 .1 .0; heap = c .before .before .before .before .before .before .before .before .before .before .before .before .before .before .before .before .step-with .kept .1 .1 .1 .1 .1 .0 }) .runs, c .before .before .before .before .if3 .left)
+    (going-on (S .args .file .now) (S .args .table .now) (L .left) (record { regs = L .r; main = L .main; ptr = L .ptr; ctl = L .ctl; heap = L .heap }) (L .inv .going .runs) (c .before .before .before .before .before .before .before .before .before .before .before .before .before .before .before .before .before .before .before .before .before .loop-test .taken) (L .inv .on?) (L .plan) (L .inv .stopped (c .before .before .before .before .before .before .before .before .before .before .before .before .before .before .before .before .before .before .before .before .before .loop-test .taken) .is) (c .before .before .before .before .before .before .before .before .before .before .before .before .before .before .before .before .step-with .result) _ _ _ _ (c .before .before .before .before .before .before .before .before .before .before .before .before .before .before .before .before .step-with .ensures) (S .args .budget) (record { regs = S .args .regs; main = S .args .main .now; ptr = S .args .ptr .now; ctl = S .args .ctl .now; heap = S .args .heap .now }) (going-trans (S .args .file .now) (S .args .table .now) (S .args .budget) (record { regs = S .args .regs; main = S .args .main .now; ptr = S .args .ptr .now; ctl = S .args .ctl .now; heap = S .args .heap .now }) _ _ (L .left) (record { regs = L .r; main = L .main; ptr = L .ptr; ctl = L .ctl; heap = L .heap }) (c .before .before .before .before .before .before .before .before .before .before .before .before .before .before .before .before .before .before .before .before .before .before .before .before .before .before .before .before .before .before .before .before .go-on .ensures .going) (L .inv .going)) (went-on? _ (c .before .before .before .before .before .before .before .if2 .left)) (record { main = c .before .before .before .before .before .before .before .before .before .before .before .before .before .before .before .before .step-with .kept .1 .1 .0; ptr = c .before .before .before .before .before .before .before .before .before .before .before .before .before .before .before .before .step-with .kept .1 .1 .1 .0; ctl = c .before .before .before .before .before .before .before .before .before .before .before .before .before .before .before .before .step-with .kept .1 .1 .1 .1 .0; heap = c .before .before .before .before .before .before .before .before .before .before .before .before .before .before .before .before .step-with .kept .1 .1 .1 .1 .1 .0 }) .runs, c .before .before .before .before .if3 .left)
 
 loop-less : tie.Need-loop-less Inv-loop μ-loop
 loop-less c = omega (arith, c .before .before .before .before .before .before .before .before .before .go-on2 .ensures .going .less, c .before .before .before .before .before .before .before .before .before .before .before .before .before .before .before .before .before .before .before .before .before .before .before .before .before .before .before .before .before .before .before .loop-test .taken)
@@ -122,7 +121,7 @@ loop-again c =
     record {
       going =
           going-trans (S .args .file .now) (S .args .table .now) _ _ _ _ _ _
-          (going-on (S .args .file .now) (S .args .table .now) (L .left) (machine (L .r) (L .main) (L .ptr) (L .ctl) (L .heap)) (L .inv .going .runs) t (L .inv .on?) (L .plan) (L .inv .stopped t .is) (c .before .before .before .before .before .before .before .before .before .before .before .before .before .before .before .before .before .before .before .before .before .before .before .before .before .before .step-with .result)
+          (going-on (S .args .file .now) (S .args .table .now) (L .left) (record { regs = L .r; main = L .main; ptr = L .ptr; ctl = L .ctl; heap = L .heap }) (L .inv .going .runs) t (L .inv .on?) (L .plan) (L .inv .stopped t .is) (c .before .before .before .before .before .before .before .before .before .before .before .before .before .before .before .before .before .before .before .before .before .before .before .before .before .before .step-with .result)
           _ _ _ _ (c .before .before .before .before .before .before .before .before .before .before .before .before .before .before .before .before .before .before .before .before .before .before .before .before .before .before .step-with .ensures) _ _ (L .inv .going) (went-on? _ (c .before .before .before .before .before .before .before .before .before .before .before .before .before .before .before .before .before .if2 .left)) (record { main = c .before .before .before .before .before .before .before .before .before .before .before .before .before .before .before .before .before .before .before .before .before .before .before .before .before .before .step-with .kept .1 .1 .0; ptr = c .before .before .before .before .before .before .before .before .before .before .before .before .before .before .before .before .before .before .before .before .before .before .before .before .before .before .step-with .kept .1 .1 .1 .0; ctl = c .before .before .before .before .before .before .before .before .before .before .before .before .before .before .before .before .before .before .before .before .before .before .before .before .before .before .step-with .kept .1 .1 .1 .1 .0; heap = c .before .before .before .before .before .before .before .before .before .before .before .before .before .before .before .before .before .before .before .before .before .before .before .before .before .before .step-with .kept .1 .1 .1 .1 .1 .0 })) (P .going);
       on? = P .on?;
       stopped = P .stopped;
@@ -148,7 +147,7 @@ returns-4 c =
     let S = c .before .before .before .before .before .before .before .before .before .before .before .before .before .before .before .before .before .before .before .before .before .before .before .before in
     let L = c .before .before .loop in
     rw (c .answered4 .ensures)
-    (going-spent (S .args .file .now) (S .args .table .now) (S .args .budget) (machine (S .args .regs) (S .args .main .now) (S .args .ptr .now) (S .args .ctl .now) (S .args .heap .now)) (L .left) (machine (L .r) (L .main) (L .ptr) (L .ctl) (L .heap)) (going-trans (S .args .file .now) (S .args .table .now) (S .args .budget) (machine (S .args .regs) (S .args .main .now) (S .args .ptr .now) (S .args .ctl .now) (S .args .heap .now)) _ _ (L .left) (machine (L .r) (L .main) (L .ptr) (L .ctl) (L .heap)) (c .before .before .before .before .before .before .before .before .before .before .before .before .go-on .ensures .going) (L .inv .going)) (omega (arith, c .before .loop-test .left)) (L .inv .on?))
+    (going-spent (S .args .file .now) (S .args .table .now) (S .args .budget) (record { regs = S .args .regs; main = S .args .main .now; ptr = S .args .ptr .now; ctl = S .args .ctl .now; heap = S .args .heap .now }) (L .left) (record { regs = L .r; main = L .main; ptr = L .ptr; ctl = L .ctl; heap = L .heap }) (going-trans (S .args .file .now) (S .args .table .now) (S .args .budget) (record { regs = S .args .regs; main = S .args .main .now; ptr = S .args .ptr .now; ctl = S .args .ctl .now; heap = S .args .heap .now }) _ _ (L .left) (record { regs = L .r; main = L .main; ptr = L .ptr; ctl = L .ctl; heap = L .heap }) (c .before .before .before .before .before .before .before .before .before .before .before .before .go-on .ensures .going) (L .inv .going)) (omega (arith, c .before .loop-test .left)) (L .inv .on?))
 
 pub run-on-spec : {M : Type 1} → statement M
 run-on-spec =

@@ -2,7 +2,6 @@
 use mathlib.Core.Path.{_≡_, sym, _∙_}
 use native.Mathlib.Omega.{arith}
 use borrow.Author.Needs.{needs}
-use Rattle.model.specs.Control.{machine}
 use Rattle.exec.proofs.Tags.{no-write}
 use Rattle.safe.specs.Planning.{alive-ready}
 use Rattle.safe.specs.Settling.{alive-settles}
@@ -12,14 +11,14 @@ use Rattle.steps.proofs.go_on.Tie as tie
 
 abbrev Inv-loop : tie.InvT-loop
 Inv-loop file table main₀ ptr₀ ctl₀ heap₀ budget r₀ left₀ main ptr ctl heap r left =
-    Going file table budget (machine r₀ main₀ ptr₀ ctl₀ heap₀) left (machine r main ptr ctl heap) × (r .state ≡ 1 → ⊥)
+    Going file table budget (record { regs = r₀; main = main₀; ptr = ptr₀; ctl = ctl₀; heap = heap₀ }) left (record { regs = r; main = main; ptr = ptr; ctl = ctl; heap = heap }) × (r .state ≡ 1 → ⊥)
 
 abbrev μ-loop : tie.MeasureT-loop
 μ-loop file table main₀ ptr₀ ctl₀ heap₀ budget r₀ left₀ main ptr ctl heap r left = left
 
 loop-holds : tie.Need-loop-holds Inv-loop μ-loop
 loop-holds c =
-    let S = c .before .before .before .before .before in (going-start (S .args .file .now) (S .args .table .now) (S .args .budget) (machine (S .args .regs) (S .args .main .now) (S .args .ptr .now) (S .args .ctl .now) (S .args .heap .now)) (S .pre .0), S .pre .1)
+    let S = c .before .before .before .before .before in (going-start (S .args .file .now) (S .args .table .now) (S .args .budget) (record { regs = S .args .regs; main = S .args .main .now; ptr = S .args .ptr .now; ctl = S .args .ctl .now; heap = S .args .heap .now }) (S .pre .0), S .pre .1)
 
 sub-after : tie.Need-sub-after Inv-loop μ-loop
 sub-after c = omega arith
@@ -54,7 +53,7 @@ returns c =
     (record {
       going = L .inv .0;
       on? = L .inv .1;
-      stopped = λ h. stopped-raise (S .args .file .now) (machine (L .r) (L .main) (L .ptr) (L .ctl) (L .heap)) _ (c .before .before .plan-at .ensures) (no-write _ (c .before .match .keys2));
+      stopped = λ h. stopped-raise (S .args .file .now) (record { regs = L .r; main = L .main; ptr = L .ptr; ctl = L .ctl; heap = L .heap }) _ (c .before .before .plan-at .ensures) (no-write _ (c .before .match .keys2));
     })
 
 apply-requires : tie.Need-apply-requires Inv-loop μ-loop
@@ -69,8 +68,8 @@ loop-again c =
     let S = c .before .before .before .before .before .before .before .before .before .before .before .before .before .before .before .before .before .before .before .before .before .before .before .before .before .before .before .before .before .before in
     let L = c .before .before .before .before .before .before .before .before .before .before .before .before .before .before .before .before .before .before .before .before .before .before .before .before .loop in
     let A = c .before .before .before .before .before .before .before .before .before .before .apply in (
-      going-trans (S .args .file .now) (S .args .table .now) (S .args .budget) (machine (S .args .regs) (S .args .main .now) (S .args .ptr .now) (S .args .ctl .now) (S .args .heap .now)) (L .left) (machine (L .r) (L .main) (L .ptr) (L .ctl) (L .heap)) _ _ (L .inv .0)
-          (going-applied (S .args .file .now) (S .args .table .now) (L .left) (machine (L .r) (L .main) (L .ptr) (L .ctl) (L .heap)) (L .inv .0 .runs) (c .before .before .before .before .before .before .before .before .before .before .before .before .before .before .before .before .before .before .before .before .before .before .before .loop-test .taken) (L .inv .1) _ (A .result) _ _ _ _
+      going-trans (S .args .file .now) (S .args .table .now) (S .args .budget) (record { regs = S .args .regs; main = S .args .main .now; ptr = S .args .ptr .now; ctl = S .args .ctl .now; heap = S .args .heap .now }) (L .left) (record { regs = L .r; main = L .main; ptr = L .ptr; ctl = L .ctl; heap = L .heap }) _ _ (L .inv .0)
+          (going-applied (S .args .file .now) (S .args .table .now) (L .left) (record { regs = L .r; main = L .main; ptr = L .ptr; ctl = L .ctl; heap = L .heap }) (L .inv .0 .runs) (c .before .before .before .before .before .before .before .before .before .before .before .before .before .before .before .before .before .before .before .before .before .before .before .loop-test .taken) (L .inv .1) _ (A .result) _ _ _ _
           (sym (c .before .before .before .before .before .before .before .before .before .before .before .before .before .before .before .before .plan .given .1) ∙ c .before .before .before .before .before .before .before .before .before .before .before .before .before .before .before .before .before .before .plan-at .ensures) (c .before .if1 .taken) (A .ensures .0)
           (record { main = A .kept .1 .0; ptr = A .kept .1 .1 .0; ctl = A .kept .1 .1 .1 .0; heap = A .kept .1 .1 .1 .1 .0 })),
       λ e. L .inv .1 (sym (A .ensures .1 .0) ∙ e),
@@ -97,7 +96,7 @@ returns-2 c =
     let L = c .before .before .before .before .before .before .before .before .before .before .before .before .before .before .before .before .before .before .before .before .before .before .before .before .loop in
     let A = c .before .before .before .before .before .before .before .before .before .before .apply in
     rw (c .stop2 .ensures)
-    (paused-late (S .args .file .now) (S .args .table .now) (S .args .budget) (machine (S .args .regs) (S .args .main .now) (S .args .ptr .now) (S .args .ctl .now) (S .args .heap .now)) (L .left) (machine (L .r) (L .main) (L .ptr) (L .ctl) (L .heap)) _ (A .result) _ _ _ _ (L .inv .0) (L .inv .1)
+    (paused-late (S .args .file .now) (S .args .table .now) (S .args .budget) (record { regs = S .args .regs; main = S .args .main .now; ptr = S .args .ptr .now; ctl = S .args .ctl .now; heap = S .args .heap .now }) (L .left) (record { regs = L .r; main = L .main; ptr = L .ptr; ctl = L .ctl; heap = L .heap }) _ (A .result) _ _ _ _ (L .inv .0) (L .inv .1)
     (sym (c .before .before .before .before .before .before .before .before .before .before .before .before .before .before .before .before .plan .given .1) ∙ c .before .before .before .before .before .before .before .before .before .before .before .before .before .before .before .before .before .before .plan-at .ensures) (c .before .if1 .left) (A .ensures .0) (A .ensures .1 .1))
 
 stop-requires-3 : tie.Need-stop-requires-3 Inv-loop μ-loop

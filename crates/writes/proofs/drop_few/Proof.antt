@@ -1,5 +1,5 @@
 -- `writes::drop_few` meets its contract: both stacks are cut, then the word set aside is put back; or nothing is done.
-use Rattle.model.specs.Control.{machine}
+
 use Rattle.sound.specs.Lists.{length-cut}
 use borrow.Author.Needs.{needs}
 use Rattle.writes.proofs.drop_few.Statement.{statement}
@@ -40,7 +40,7 @@ same-length-2 c = search needs
 returns-3 : tie.Need-returns-3
 returns-3 c ctl heap =
     let S = c .before .before .before .before .before .before .before .before .before .before .before .before .before .before .before .before .before .before .before .before .before .before .before in
-    c .before .before .before .before .put-back .ensures (machine (S .args .regs) (S .args .main .now) (S .args .ptr .now) ctl heap) (c .before .before .before .before .before .before .before .before .before .before .before .before .before .pop-four .ensures) (c .before .before .before .before .before .before .before .before .before .pop-four2 .ensures)
+    c .before .before .before .before .put-back .ensures (record { regs = S .args .regs; main = S .args .main .now; ptr = S .args .ptr .now; ctl = ctl; heap = heap }) (c .before .before .before .before .before .before .before .before .before .before .before .before .before .pop-four .ensures) (c .before .before .before .before .before .before .before .before .before .pop-four2 .ensures)
 
 pub drop-few-spec : {M : Type 1} → statement M
 drop-few-spec =

@@ -1,7 +1,6 @@
 -- `writes::plain` meets its contract: an arm knows where the word goes, and there so many words go as the arm pops; the last arm is a retract's.
 use mathlib.Core.Bool.{true≢false}
 use native.Mathlib.Omega.{arith}
-use Rattle.model.specs.Control.{machine}
 use Rattle.sound.specs.Lists.{length-cut}
 use Rattle.writes.specs.Lists.{cut-above}
 use Rattle.writes.specs.Laws.{nothing-plainly, main-plainly, read-plainly, ptr-plainly, heap-plainly, fits-at}
@@ -92,7 +91,7 @@ returns : tie.Need-returns
 returns c =
     let S = c .before .before .before .before .before .before .before .before .before in
     let u = fits-at _ (S .args .main .now) (S .args .ptr .now) (S .args .regs) (S .args .put) (S .pre) (c .before .before .before .before .enum-told .given .1) .ptr in
-    (λ ctl. nothing-plainly (S .args .put) (machine (S .args .regs) (S .args .main .now) (S .args .ptr .now) ctl (S .args .heap .now)) _ _ (c .before .before .pop-one .ensures) (cut-above _ _ _ (omega arith) (S .pre .ptr-top)) (c .before .before .before .before .enum-told .given .1), λ e. absurd (true≢false e))
+    (λ ctl. nothing-plainly (S .args .put) (record { regs = S .args .regs; main = S .args .main .now; ptr = S .args .ptr .now; ctl = ctl; heap = S .args .heap .now }) _ _ (c .before .before .pop-one .ensures) (cut-above _ _ _ (omega arith) (S .pre .ptr-top)) (c .before .before .before .before .enum-told .given .1), λ e. absurd (true≢false e))
 
 same-length-2 : tie.Need-same-length-2
 same-length-2 c = search needs
@@ -101,7 +100,7 @@ returns-2 : tie.Need-returns-2
 returns-2 c =
     let S = c .before .before .before .before .before .before .before .before .before in
     let u = fits-at _ (S .args .main .now) (S .args .ptr .now) (S .args .regs) (S .args .put) (S .pre) (c .before .before .before .before .enum-told2 .given .1) .1 .ptr in
-    (λ ctl. main-plainly (S .args .put) (machine (S .args .regs) (S .args .main .now) (S .args .ptr .now) ctl (S .args .heap .now)) _ _ (c .before .before .pop-one2 .ensures) (cut-above _ _ _ (omega arith) (S .pre .ptr-top)) (c .before .before .before .before .enum-told2 .given .1), λ e. absurd (true≢false e))
+    (λ ctl. main-plainly (S .args .put) (record { regs = S .args .regs; main = S .args .main .now; ptr = S .args .ptr .now; ctl = ctl; heap = S .args .heap .now }) _ _ (c .before .before .pop-one2 .ensures) (cut-above _ _ _ (omega arith) (S .pre .ptr-top)) (c .before .before .before .before .enum-told2 .given .1), λ e. absurd (true≢false e))
 
 same-length-3 : tie.Need-same-length-3
 same-length-3 c = search needs
@@ -110,7 +109,7 @@ returns-3 : tie.Need-returns-3
 returns-3 c =
     let S = c .before .before .before .before .before .before .before .before .before in
     let u = fits-at _ (S .args .main .now) (S .args .ptr .now) (S .args .regs) (S .args .put) (S .pre) (c .before .before .before .before .enum-told3 .given .1) .1 .main in
-    (λ ctl. ptr-plainly (S .args .put) (machine (S .args .regs) (S .args .main .now) (S .args .ptr .now) ctl (S .args .heap .now)) _ _ (cut-above _ _ _ (omega arith) (S .pre .main-top)) (c .before .before .pop-one3 .ensures) (c .before .before .before .before .enum-told3 .given .1), λ e. absurd (true≢false e))
+    (λ ctl. ptr-plainly (S .args .put) (record { regs = S .args .regs; main = S .args .main .now; ptr = S .args .ptr .now; ctl = ctl; heap = S .args .heap .now }) _ _ (cut-above _ _ _ (omega arith) (S .pre .main-top)) (c .before .before .pop-one3 .ensures) (c .before .before .before .before .enum-told3 .given .1), λ e. absurd (true≢false e))
 
 same-length-4 : tie.Need-same-length-4
 same-length-4 c = search needs
@@ -124,7 +123,7 @@ same-length-6 c = search needs
 returns-4 : tie.Need-returns-4
 returns-4 c =
     let S = c .before .before .before .before .before .before .before .before .before .before .before .before .before in
-    (λ ctl. heap-plainly (S .args .put) (machine (S .args .regs) (S .args .main .now) (S .args .ptr .now) ctl (S .args .heap .now)) _ _ (c .before .before .before .before .before .before .pop-one4 .ensures) (c .before .before .pop-two .ensures) (c .before .before .before .before .before .before .before .before .enum-told4 .given .1), λ e. absurd (true≢false e))
+    (λ ctl. heap-plainly (S .args .put) (record { regs = S .args .regs; main = S .args .main .now; ptr = S .args .ptr .now; ctl = ctl; heap = S .args .heap .now }) _ _ (c .before .before .before .before .before .before .pop-one4 .ensures) (c .before .before .pop-two .ensures) (c .before .before .before .before .before .before .before .before .enum-told4 .given .1), λ e. absurd (true≢false e))
 
 same-length-7 : tie.Need-same-length-7
 same-length-7 c = search needs
@@ -136,7 +135,7 @@ returns-5 : tie.Need-returns-5
 returns-5 c =
     let S = c .before .before .before .before .before .before .before .before .before in
     let u = fits-at _ (S .args .main .now) (S .args .ptr .now) (S .args .regs) (S .args .put) (S .pre) (c .before .before .before .before .enum-told5 .given .1) .1 .main in
-    (λ ctl. read-plainly (S .args .put) (machine (S .args .regs) (S .args .main .now) (S .args .ptr .now) ctl (S .args .heap .now)) _ _ (cut-above _ _ _ (omega arith) (S .pre .main-top)) (c .before .before .pop-two2 .ensures) (c .before .before .before .before .enum-told5 .given .1), λ e. absurd (true≢false e))
+    (λ ctl. read-plainly (S .args .put) (record { regs = S .args .regs; main = S .args .main .now; ptr = S .args .ptr .now; ctl = ctl; heap = S .args .heap .now }) _ _ (cut-above _ _ _ (omega arith) (S .pre .main-top)) (c .before .before .pop-two2 .ensures) (c .before .before .before .before .enum-told5 .given .1), λ e. absurd (true≢false e))
 
 same-length-9 : tie.Need-same-length-9
 same-length-9 c = search needs
