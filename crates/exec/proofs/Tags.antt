@@ -17,7 +17,8 @@ use Rattle.bridge.specs.declared.Plan.{Plan}
 use Rattle.bridge.specs.declared.Plan.the-variants.{Write}
 use Rattle.model.specs.declared.Regs.{Regs}
 use Rattle.writes.specs.Asks.{Retract, plainly}
-use Rattle.exec.specs.Applies.{FitsIn, Suits, Late}
+use Rattle.bridge.specs.Suits.{FitsIn, Suits}
+use Rattle.exec.specs.Applies.{Late}
 
 -- no position is another's
 apart : (i j : Into) → (tagOf made.the-type i ≡ tagOf made.the-type j → ⊥) → i ≡ j → ⊥

@@ -7,9 +7,10 @@ use mathlib.Core.Logic.{⊎-elim}
 use native.Mathlib.Omega.{arith}
 use lib.ListN.{length, set}
 use borrow.Author.Tests.{eq-eqb, ne-eqb}
+use Rattle.model.specs.Words.{cut}
 use Rattle.model.specs.File.{after}
 use Rattle.model.specs.Control.{Machine, recordWords}
-use Rattle.model.specs.Instructions.{finished}
+use Rattle.model.specs.Moves.{finished}
 use Rattle.bridge.specs.Settled.{formedFrom, called, returned, opened, closed, applyInto, applied}
 use Rattle.model.specs.declared.Regs.{Regs}
 use Rattle.bridge.specs.declared.Into.{Into}
@@ -20,7 +21,8 @@ use Rattle.control.specs.Asks.{Pushes, Room}
 use Rattle.writes.specs.Asks.{Plain, Retract, Dropping, onwards, plainly, triedOn}
 use Rattle.writes.specs.Asks.{tried as written}
 use Rattle.exec.specs.declared.Tried.{Tried}
-use Rattle.exec.specs.Applies.{FitsIn, Forms, Calls, Suits, Applies, Late, Lately, tried, appliedIf}
+use Rattle.bridge.specs.Suits.{FitsIn, Forms, Calls, Suits}
+use Rattle.exec.specs.Applies.{Applies, Late, Lately, tried, appliedIf}
 
 -- by where it writes
 module _ (f : List ℕ) (put : Put) (m : Machine) (A : Applies f put m) where

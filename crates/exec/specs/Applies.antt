@@ -1,13 +1,12 @@
--- What is asked of a record { regs = and; main = of; ptr = a; ctl = plan's; heap = writes } before they are applied. A sound running state and its own plan give it all.
-use Prim.Native.Nat.{ℕ, _+_, _-_, _*_, _<_, _≤_}
+-- What is asked of a machine and of a plan's writes before they are applied. A sound running state and its own plan give it all.
+use Prim.Native.Nat.{ℕ, _*_, _<_, _≤_}
 use mathlib.Core.Path.{_≡_}
 use mathlib.Core.List.{List}
 use mathlib.Core.Bool.{Bool, true, false}
 use mathlib.Core.Logic.{_⊎_}
 use lib.ListN.{length}
-use Rattle.model.specs.File.{fileMost, after}
+use Rattle.model.specs.File.{fileMost}
 use Rattle.model.specs.Calls.{mainMost, ptrMost, ctlMost, heapMost}
-use Rattle.model.specs.Heap.{markOf}
 use Rattle.model.specs.Control.{Machine, recordWords, records}
 use Rattle.bridge.specs.Settled.{applied}
 use Rattle.bridge.specs.declared.Into.{Into}
@@ -18,7 +17,8 @@ use Rattle.bridge.specs.declared.Plan.{Plan}
 use Rattle.bridge.specs.declared.Plan.the-variants.{Write}
 use Rattle.exec.specs.declared.Tried.{Tried}
 use Rattle.sound.specs.Lists.{Topped}
-use Rattle.writes.specs.Asks.{Fits, Retract, Dropping}
+use Rattle.bridge.specs.Suits.{Suits}
+use Rattle.writes.specs.Asks.{Retract, Dropping}
 use Rattle.control.specs.Asks.{Room}
 
 -- the registers against the lists, in every running sound state
@@ -40,40 +40,6 @@ pub record Stands (f : List ℕ) (m : Machine) : Type 0 where
   pub frame-some : 1 ≤ m .regs .frame
   pub frame : recordWords * m .regs .frame ≤ m .regs .ctop
   pub handler : recordWords * m .regs .handler ≤ m .regs .ctop
-
--- a write into the stacks or the heap
-abbrev pub FitsIn : Into → Put → Machine → Type 0
-FitsIn i put m = Fits i (length (m .main)) (length (m .ptr)) (length (m .heap)) (m .regs) put
-
--- 36: the words popped are there, and the heap has room for them
-pub record Forms (put : Put) (m : Machine) : Type 0 where
-  pub words : put .mtop ≤ m .regs .mtop
-  pub pointers : put .at ≤ m .regs .ptop
-  pub below : put .at < length (m .ptr)
-  pub room : markOf (m .heap) + (2 + ((m .regs .ptop - put .at) + (m .regs .mtop - put .mtop))) ≤ length (m .heap)
-
--- 72: its operand is there, the base is that of words on the stack, and the record fits
-pub record Calls (f : List ℕ) (put : Put) (m : Machine) : Type 0 where
-  pub operand : m .regs .place + 2 < length f
-  pub behind : after f (m .regs .place) ≡ m .regs .place + 3
-  pub base : put .at ≤ m .regs .mtop
-  pub room : m .regs .ctop + recordWords ≤ length (m .ctl)
-
--- the plan's writes are right for the list that they go to
-abbrev pub Suits : List ℕ → Into → Put → Machine → Type 0
-Suits f into.Nothing put m = FitsIn into.Nothing put m
-Suits f into.Main put m = FitsIn into.Main put m
-Suits f into.Pointer put m = FitsIn into.Pointer put m
-Suits f into.Heap put m = FitsIn into.Heap put m
-Suits f into.Read put m = FitsIn into.Read put m
-Suits f into.Drop put m = FitsIn into.Drop put m
-Suits f into.DropMain put m = FitsIn into.DropMain put m
-Suits f into.DropPointer put m = FitsIn into.DropPointer put m
-Suits f into.View put m = Forms put m
-Suits f into.Frame put m = Calls f put m
-Suits f into.Return put m = Unit {0}
-Suits f into.Handler put m = m .regs .ctop + recordWords ≤ length (m .ctl)
-Suits f into.Close put m = 1 ≤ m .regs .handler
 
 pub record Applies (f : List ℕ) (put : Put) (m : Machine) : Type 0 where
   pub stands : Stands f m

@@ -5,15 +5,21 @@ ghost use mathlib.Core.List.{List};
 ghost use Prim.Native.Nat.{ℕ, _+_, _*_, _<_, _≤_};
 ghost use lib.ListN.{length};
 ghost use Rattle.model.specs.File.{operand, headOf};
-ghost use Rattle.model.specs.Control.{recOf};
+ghost use Rattle.model.specs.Control.{frameOf};
 ghost use Rattle.model.specs.Step.{raised};
 ghost use Rattle.bridge.specs.Settled.{applied, settle};
 ghost use Rattle.writes.specs.Asks.{onwards};
 ghost use Rattle.exec.specs.Applies.{Applies, Late, Lately, Later, tried, appliedIf};
-ghost use Rattle.exec.specs.Ended.{Targets, Raises, Settles, ended, endedOf, guardAt, resumed, codeOf};
+ghost use Rattle.exec.specs.Ended.{Targets, Raises, Settles, endedOf, guardAt, resumed, raisedBy};
 use bridge::Into;
 use bridge::Plan;
 use bridge::Put;
+use model::FRAME;
+use model::MAIN_TOP;
+use model::OPENED;
+use model::OUTER;
+use model::PROC;
+use model::PTR_TOP;
 use model::RECORD;
 use model::Regs;
 
@@ -126,9 +132,9 @@ fn apply_late(
 
 // An open handler's record.
 pub struct Guard {
-    pub at: usize, // its 160
-    pub mtop: usize, // the tops then
-    pub ptop: usize,
+    pub opened: usize, // the place of its 160
+    pub main_top: usize, // the tops then
+    pub ptr_top: usize,
     pub frame: usize, // its frame's record
     pub outer: usize, // the next outer handler's record
 }
@@ -139,36 +145,36 @@ fn guard_at(ctl: &[u32], handler: usize) -> Guard
 {
     let under = RECORD * (handler - 1);
     Guard {
-        at: control::load(ctl, under),
-        mtop: control::load(ctl, under + 1),
-        ptop: control::load(ctl, under + 2),
-        frame: control::load(ctl, under + 3),
-        outer: control::load(ctl, under + 4),
+        opened: control::load(ctl, under + OPENED),
+        main_top: control::load(ctl, under + MAIN_TOP),
+        ptr_top: control::load(ctl, under + PTR_TOP),
+        frame: control::load(ctl, under + FRAME),
+        outer: control::load(ctl, under + OUTER),
     }
 }
 
 // Where a 160's operand leads: it counts from the head of the procedure whose frame is given.
 fn target(file: &[u8], table: &[usize; 64], ctl: &[u32], at: usize, frame: usize) -> usize
     requires { ⌜ Targets (now file) (now table) (now ctl) at frame ⌝ }
-    ensures { λ r. ⌜ r ≡ headOf (now (file .entry)) (recOf (now (ctl .entry)) frame .w2) + operand (now (file .entry)) at ⌝ }
+    ensures { λ r. ⌜ r ≡ headOf (now (file .entry)) (frameOf (now (ctl .entry)) frame .proc) + operand (now (file .entry)) at ⌝ }
 {
-    let proc = control::load(ctl, RECORD * (frame - 1) + 2);
+    let proc = control::load(ctl, RECORD * (frame - 1) + PROC);
     table[proc] + code::operand(file, at)
 }
 
 // The registers in the handler: the code lies on its main top, and its record is gone.
 fn resume(guard: Guard, place: usize, handler: usize, state: usize) -> Regs
-    requires { ⌜ (guard .mtop < 4096) × (1 ≤ handler) × (handler ≤ 1280) ⌝ }
+    requires { ⌜ (guard .«main_top» < 4096) × (1 ≤ handler) × (handler ≤ 1280) ⌝ }
     ensures { λ r. ⌜ r ≡ resumed guard place handler state ⌝ }
 {
-    let above = guard.mtop + 1;
+    let above = guard.main_top + 1;
     let under = RECORD * (handler - 1);
     Regs {
         place,
         frame: guard.frame,
         handler: guard.outer,
         mtop: above,
-        ptop: guard.ptop,
+        ptop: guard.ptr_top,
         ctop: under,
         state,
     }
@@ -185,7 +191,7 @@ pub fn raise(
     code: u32,
 ) -> Outcome
     requires { ⌜ Raises (now file) (now table) regs (now main) (now ptr) (now ctl) ⌝ }
-    ensures { λ r. ⌜ ((heap : List ℕ) → ended r (now (main .exit)) (now (ptr .exit)) (now (ctl .exit)) heap ≡ endedOf (record { regs = regs; main = now (main .entry); ptr = now (ptr .entry); ctl = now (ctl .entry); heap = heap }) (raised (now (file .entry)) (record { regs = regs; main = now (main .entry); ptr = now (ptr .entry); ctl = now (ctl .entry); heap = heap }) code)) ⌝ }
+    ensures { λ r. ⌜ ((heap : List ℕ) → record { on = r .on; code = r .code; state = record { regs = r .regs; main = now (main .exit); ptr = now (ptr .exit); ctl = now (ctl .exit); heap = heap } } ≡ endedOf (raised (now (file .entry)) (record { regs = regs; main = now (main .entry); ptr = now (ptr .entry); ctl = now (ctl .entry); heap = heap }) code)) ⌝ }
 {
     let handler = regs.handler;
     if handler == 0 {
@@ -196,11 +202,11 @@ pub fn raise(
         };
     }
     let guard = guard_at(ctl, handler);
-    let place = target(file, table, ctl, guard.at, guard.frame);
-    let top = guard.mtop;
+    let place = target(file, table, ctl, guard.opened, guard.frame);
+    let top = guard.main_top;
     let under = RECORD * (handler - 1);
     writes::cut_to(main, top, regs.mtop);
-    writes::cut_to(ptr, guard.ptop, regs.ptop);
+    writes::cut_to(ptr, guard.ptr_top, regs.ptop);
     writes::cut_to(ctl, under, regs.ctop);
     main[top] = code;
     let next = resume(guard, place, handler, regs.state);
@@ -214,7 +220,7 @@ pub fn raise(
 // The code of the exception that a plan raises.
 pub fn code_of(plan: Plan, main: &[u32], mtop: usize) -> u32
     requires { ⌜ (mtop ≤ length (now main)) × (plan ≡ Plan.Thrown → 1 ≤ mtop) ⌝ }
-    ensures { λ r. ⌜ r ≡ codeOf (now (main .entry)) mtop plan ⌝ }
+    ensures { λ r. ⌜ r ≡ raisedBy (now (main .entry)) mtop plan ⌝ }
 {
     match plan {
         Plan::Write(_) => 0,
@@ -239,7 +245,7 @@ pub fn step_with(
     plan: Plan,
 ) -> Outcome
     requires { ⌜ Settles (now file) (now table) (record { regs = regs; main = now main; ptr = now ptr; ctl = now ctl; heap = now heap }) plan × Later regs plan ⌝ }
-    ensures { λ r. ⌜ ended r (now (main .exit)) (now (ptr .exit)) (now (ctl .exit)) (now (heap .exit)) ≡ endedOf (record { regs = regs; main = now (main .entry); ptr = now (ptr .entry); ctl = now (ctl .entry); heap = now (heap .entry) }) (settle (now (file .entry)) (record { regs = regs; main = now (main .entry); ptr = now (ptr .entry); ctl = now (ctl .entry); heap = now (heap .entry) }) plan) ⌝ }
+    ensures { λ r. ⌜ record { on = r .on; code = r .code; state = record { regs = r .regs; main = now (main .exit); ptr = now (ptr .exit); ctl = now (ctl .exit); heap = now (heap .exit) } } ≡ endedOf (settle (now (file .entry)) (record { regs = regs; main = now (main .entry); ptr = now (ptr .entry); ctl = now (ctl .entry); heap = now (heap .entry) }) plan) ⌝ }
 {
     let Plan::Write(put) = plan else {
         let code = code_of(plan, main, regs.mtop);

@@ -9,10 +9,10 @@ use Rattle.model.specs.Control.{Machine}
 use Rattle.bridge.specs.Planned.{planAt}
 use Rattle.model.specs.Step.{Stepped, next, uncaught, step, ran, runOn}
 use Rattle.bridge.specs.Settled.{settle}
-use Rattle.exec.specs.Ended.{ended, endedOf, went-on, went-off}
+use Rattle.exec.specs.Ended.{endedOf, went-on, went-off}
 use Rattle.exec.specs.declared.Outcome.{Outcome}
-use Rattle.safe.specs.Alive.{alive-plan}
-use Rattle.steps.specs.Going.{Runs, Alike, Going, same-lists, going-trans, stepped}
+use Rattle.safe.specs.Settling.{alive-plan}
+use Rattle.steps.specs.Going.{Runs, Alike, Going, going-trans, stepped}
 use Rattle.run.specs.declared.Ended.{Ended}
 use Rattle.model.specs.declared.Regs.{Regs}
 use Rattle.bridge.specs.declared.Plan.{Plan}
@@ -43,26 +43,22 @@ module _ (f table : List ℕ) where
         let b : budget - 0 ≡ budget = omega arith in
         sym (done ∙ rw (z, b, ne-eqb (m .regs .state) 1 u))
 
-  -- one step further, by a plan that is settled apart
+  -- one step further, by a plan that is settled apart; m′ is the state then
   module _ (n : ℕ) (m : Machine) (R : Runs f table m) (some : 0 < n) (on? : m .regs .state ≡ 1 → ⊥) (plan : Plan) (plan-is : plan ≡ planAt f m)
-      (o : Outcome) (main ptr ctl heap : List ℕ) (e : ended o main ptr ctl heap ≡ endedOf m (settle f m plan)) where
+      (o : Outcome) (m′ : Machine) (e : record { on = o .on; code = o .code; state = m′ } ≡ endedOf (settle f m plan)) where
     step-is : (s : Stepped) → settle f m plan ≡ s → step f m ≡ s
     step-is s w = sym (alive-plan (R .alive) on?) ∙ rw (← plan-is) w
 
     pub going-uncaught : (budget : ℕ) (m₀ : Machine) → Going f table budget m₀ n m → o .on ≡ false →
-        ran (Uncaught (o .code) (m .regs .place) (budget - n)) (record { regs = m .regs; main = main; ptr = ptr; ctl = ctl; heap = heap }) ≡ runOn f budget 0 m₀
+        ran (Uncaught (o .code) (m′ .regs .place) (budget - n)) m′ ≡ runOn f budget 0 m₀
     unfolding runOn
     going-uncaught budget m₀ G t =
-        let w = went-off m o main ptr ctl heap (settle f m plan) e t in
-        let i = same-lists (o .regs) main ptr ctl heap m (w .1) in
+        let w = step-is (uncaught (o .code) m′) (went-off o m′ (settle f m plan) e t) in
         let left : n ≡ suc (n - 1) = omega arith in
-        rw i
-        (sym (done budget m₀ n m G ∙ ap (λ (i : ℕ). runOn f i (budget - n) m) left
-        ∙ rw (ne-eqb (m .regs .state) 1 on?, step-is (uncaught (o .code)) (w .0))))
+        sym (done budget m₀ n m G ∙ ap (λ (i : ℕ). runOn f i (budget - n) m) left ∙ rw (ne-eqb (m .regs .state) 1 on?, w))
 
-    pub going-on : (budget : ℕ) (m₀ : Machine) → Going f table budget m₀ n m → o .on ≡ true → Alike (record { regs = o .regs; main = main; ptr = ptr; ctl = ctl; heap = heap }) m →
-        Going f table budget m₀ (n - 1) (record { regs = o .regs; main = main; ptr = ptr; ctl = ctl; heap = heap })
+    pub going-on : (budget : ℕ) (m₀ : Machine) → Going f table budget m₀ n m → o .on ≡ true → Alike m′ m →
+        Going f table budget m₀ (n - 1) m′
     going-on budget m₀ G t a =
-        going-trans f table budget m₀ n m (n - 1) (record { regs = o .regs; main = main; ptr = ptr; ctl = ctl; heap = heap }) G
-        (stepped f table n m R some on? (record { regs = o .regs; main = main; ptr = ptr; ctl = ctl; heap = heap })
-        (step-is (next (record { regs = o .regs; main = main; ptr = ptr; ctl = ctl; heap = heap })) (went-on m o main ptr ctl heap (settle f m plan) e t)) a)
+        going-trans f table budget m₀ n m (n - 1) m′ G
+        (stepped f table n m R some on? m′ (step-is (next m′) (went-on o m′ (settle f m plan) e t)) a)

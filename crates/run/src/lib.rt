@@ -48,7 +48,8 @@ pub fn run_on(
         let on = out.on;
         if !on {
             let done = budget - left;
-            return answered(Answer::Uncaught(out.code, r.place, done), r);
+            let stays = out.regs;
+            return answered(Answer::Uncaught(out.code, stays.place, done), stays);
         }
         let next = out.regs;
         if next.state == 1 {

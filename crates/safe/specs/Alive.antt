@@ -23,9 +23,6 @@ use Rattle.sound.specs.Laws.{CodeLaws, code-laws}
 use Rattle.sound.specs.Sound.{Running, Sound, Audited, sound-with, sound?-true}
 use Rattle.sound.specs.Keep.{running-fits}
 use Rattle.sound.specs.Rules.{above, step-keeps}
-use Rattle.bridge.specs.Bridge.{bridge}
-use Rattle.bridge.specs.Planned.{planAt}
-use Rattle.bridge.specs.Settled.{settle}
 use Rattle.heap.specs.Audited.{heap-clean}
 use Rattle.theory.specs.Demand.{heap-laws}
 
@@ -61,7 +58,7 @@ alive-run l map₀ table os r B P H T c s =
     let m = record { regs = r; main = l .main; ptr = l .ptr; ctl = l .ctl; heap = l .heap } in
     record {
       bytes = B;
-      short = passed-as (l .file) map₀ (l .map) P .formed .most;
+      short = passed-as (l .file) map₀ (l .map) P .formed .few;
       passes = passed-again (l .file) map₀ (l .map) P;
       placed = H;
       sizes =
@@ -91,24 +88,6 @@ module _ {f map table : List ℕ} {m : Machine} (A : Alive f map table m) where
       go : Sound f map (Pointer (A .objects)) m → (n : ℕ) × (i : ℕ) × (j : ℕ) × Running f map (Pointer (A .objects)) m n i j
       go (inl S) = S
       go (inr D) = absurd (u (D .state-is))
-
-  -- the plan comes to the step
-  pub alive-plan : (m .regs .state ≡ 1 → ⊥) → settle f m (planAt f m) ≡ step f m
-  alive-plan u =
-      let S = alive-running u in
-      let z = A .sizes in
-      let a =
-      above f map m (A .objects) (S .1) (S .2) (S .0) alive-laws heap-laws (S .3) (A .heap) (omega arith) (insAt f (m .regs .place)) refl in
-      let t = running-fits f map alive-laws (Pointer (A .objects)) m (S .0) (S .1) (S .2) (S .3) in
-      bridge f m
-      (record {
-        pop-main = omega arith;
-        pop-ptr = omega arith;
-        main-fits = t .0;
-        ptr-fits = t .1;
-        main-zero = S .3 .words .zero-main;
-        ptr-zero = S .3 .words .zero-ptr;
-      })
 
   pub alive-step : {m′ : Machine} → (m .regs .state ≡ 1 → ⊥) → step f m ≡ next m′ → Alive f map table m′
   alive-step {m′} u e =

@@ -11,13 +11,13 @@ use Rattle.model.specs.Choice.{All, Mem}
 use Rattle.model.specs.File.{local, assign, onMain, onPtr, call, heads, headOf, procs, instructions}
 use Rattle.model.specs.Checker.{effectOf, depthTests, targetTests}
 use Rattle.model.specs.Heap.{Pointer}
-use Rattle.model.specs.Control.{Machine, recOf, down}
+use Rattle.model.specs.Control.{Machine, running, down}
 use Rattle.model.specs.Moves.{mtop, ptop}
 use Rattle.model.specs.Sound.{isIns, frameTests}
 use Rattle.exact.specs.Walk.{member-in, getD-in, walk, walk-above, head-in, after-head, instruction-whole}
 use Rattle.sound.specs.Stack.{stack-frame, stack-numbers}
 use Rattle.sound.specs.Laws.{CodeLaws, rules}
-use Rattle.sound.specs.Sound.{Running}
+use Rattle.sound.specs.Sound.{looking, Running}
 use Rattle.sound.specs.Keep.{running-here, running-fits}
 use Rattle.sound.specs.Rules.{bases, frame-words}
 use Rattle.theory.specs.Demand.{heap-laws}
@@ -69,8 +69,7 @@ module _ {f map table : List ℕ} {m : Machine} (A : Alive f map table m) (n i j
   unfolding isIns
   in-file = member-in (placeOf m) (instructions f) at-place
 
-  frame-is : All (frameTests f map (length (m .main)) (length (m .ptr)) (recOf (m .ctl) (m .regs .frame))
-      (down (m .ctl) (m .regs .frame - 1)) (placeOf m) (m .regs .frame) i j)
+  frame-is : All (frameTests f map (length (m .main)) (length (m .ptr)) (running m) (down (m .ctl) (m .regs .frame - 1)) (looking map m i j))
   frame-is = stack-frame f map (length (m .main)) (length (m .ptr)) (m .ctl) n (R .stack)
 
   -- what the instruction takes from the stacks and puts on them
@@ -89,7 +88,7 @@ module _ {f map table : List ℕ} {m : Machine} (A : Alive f map table m) (n i j
       let e2 = R .ptr-top in
       record { pop-main = omega arith; pop-ptr = omega arith; push-main = omega arith; push-ptr = omega arith }
 
-  based : (recOf (m .ctl) (m .regs .frame) .w0 ≡ i) × (recOf (m .ctl) (m .regs .frame) .w1 ≡ j)
+  based : (running m .mainBase ≡ i) × (running m .ptrBase ≡ j)
   based = bases f map m (A .objects) i j n L heap-laws R (A .heap) (let z = A .sizes in omega arith)
 
   callee : (k : ℕ) → here f m ≡ call k → k < procs f

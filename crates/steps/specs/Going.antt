@@ -6,11 +6,12 @@ use mathlib.Core.Path.{_≡_, refl, ap, sym, _∙_, subst}
 use native.Mathlib.Omega.{arith}
 use lib.ListN.{length}
 use borrow.Author.Tests.{ne-eqb}
-use Rattle.model.specs.Control.{Machine}
+use Rattle.model.specs.Control.{Machine, setRegs}
 use Rattle.bridge.specs.Planned.{planAt}
 use Rattle.model.specs.Step.{next, step, runOn}
 use Rattle.bridge.specs.Settled.{settle}
-use Rattle.safe.specs.Alive.{Alive, alive-plan, alive-step}
+use Rattle.safe.specs.Alive.{Alive, alive-step}
+use Rattle.safe.specs.Settling.{alive-plan}
 use Rattle.exec.specs.Applies.{Late, Later, appliedIf}
 use Rattle.exec.specs.declared.Tried.{Tried}
 use Rattle.model.specs.declared.Regs.{Regs}
@@ -62,18 +63,14 @@ stopped-late f m put e L = record { is = e; late = λ put′ u. subst (λ (p : P
     write-one : (p q : Put) → Write p ≡ Write q → p ≡ q
     write-one p q u = cc
 
--- the registers kept and the lists of m: m
-pub same-lists : (r : Regs) (main ptr ctl heap : List ℕ) (m : Machine) → record { regs = r; main = main; ptr = ptr; ctl = ctl; heap = heap } ≡ m → record { regs = m .regs; main = main; ptr = ptr; ctl = ctl; heap = heap } ≡ m
-same-lists r main ptr ctl heap m z = ap (λ (x : Machine). record { regs = m .regs; main = x .main; ptr = x .ptr; ctl = x .ctl; heap = x .heap }) z
-
 module _ (f table : List ℕ) where
   -- a write that was not done left all as it was
-  pub paused-late : (n : ℕ) (m₀ : Machine) (n′ : ℕ) (m : Machine) (put : Put) (t : Tried) (main ptr ctl heap : List ℕ) →
-      Going f table n m₀ n′ m → (m .regs .state ≡ 1 → ⊥) → Write put ≡ planAt f m → t .done ≡ false →
-      record { regs = t .regs; main = main; ptr = ptr; ctl = ctl; heap = heap } ≡ appliedIf (t .done) f put m → (t .done ≡ false → Late (put .into) (m .regs)) →
-      Paused f table n m₀ n′ (record { regs = m .regs; main = main; ptr = ptr; ctl = ctl; heap = heap }) (Write put)
-  paused-late n m₀ n′ m put t main ptr ctl heap G u e d a l =
-      let k = same-lists (t .regs) main ptr ctl heap m (a ∙ ap (λ (b : Bool). appliedIf b f put m) d) in
+  pub paused-late : (n : ℕ) (m₀ : Machine) (n′ : ℕ) (m m′ : Machine) (put : Put) (t : Tried) → Going f table n m₀ n′ m →
+      (m .regs .state ≡ 1 → ⊥) → Write put ≡ planAt f m → m′ .regs ≡ m .regs → t .done ≡ false →
+      setRegs (t .regs) m′ ≡ appliedIf (t .done) f put m → (t .done ≡ false → Late (put .into) (m .regs)) →
+      Paused f table n m₀ n′ m′ (Write put)
+  paused-late n m₀ n′ m m′ put t G u e r d a l =
+      let k : m′ ≡ m = ap (setRegs (m′ .regs)) (a ∙ ap (λ (b : Bool). appliedIf b f put m) d) ∙ ap (λ (x : Regs). setRegs x m) r in
       rw k (record { going = G; on? = u; stopped = λ h. stopped-late f m put e (l d) })
 
   pub going-start : (n : ℕ) (m : Machine) → Runs f table m → Going f table n m n m
@@ -123,10 +120,8 @@ module _ (f table : List ℕ) where
         }
 
     -- a plan's writes are done
-    pub going-applied : (put : Put) (t : Tried) (main ptr ctl heap : List ℕ) → Write put ≡ planAt f m → t .done ≡ true →
-        record { regs = t .regs; main = main; ptr = ptr; ctl = ctl; heap = heap } ≡ appliedIf (t .done) f put m → Alike (record { regs = t .regs; main = main; ptr = ptr; ctl = ctl; heap = heap }) m →
-        Going f table n m (n - 1) (record { regs = t .regs; main = main; ptr = ptr; ctl = ctl; heap = heap })
+    pub going-applied : (put : Put) (t : Tried) (m′ : Machine) → Write put ≡ planAt f m → t .done ≡ true →
+        m′ ≡ appliedIf (t .done) f put m → Alike m′ m → Going f table n m (n - 1) m′
     unfolding settle
-    going-applied put t main ptr ctl heap e d a l =
-        stepped (record { regs = t .regs; main = main; ptr = ptr; ctl = ctl; heap = heap })
-        (sym (alive-plan (R .alive) on?) ∙ rw (← e) (ap next (sym (a ∙ ap (λ (u : Bool). appliedIf u f put m) d)))) l
+    going-applied put t m′ e d a l =
+        stepped m′ (sym (alive-plan (R .alive) on?) ∙ rw (← e) (ap next (sym (a ∙ ap (λ (u : Bool). appliedIf u f put m) d)))) l

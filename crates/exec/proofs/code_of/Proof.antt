@@ -1,6 +1,6 @@
 -- `exec::code_of` meets its contract: each arm knows the plan.
 use native.Mathlib.Omega.{arith}
-use Rattle.exec.specs.Ended.{codeOf}
+use Rattle.exec.specs.Ended.{raisedBy}
 use borrow.Author.Needs.{needs}
 use Rattle.exec.proofs.code_of.Statement.{statement}
 use Rattle.exec.proofs.code_of.Tie as tie
@@ -36,31 +36,31 @@ shared-slice-read-result : tie.Need-shared-slice-read-result
 shared-slice-read-result c = omega (arith, c .before .before .before .pre .1 (c .before .enum-told7 .given .1))
 
 returns : tie.Need-returns
-unfolding codeOf
+unfolding raisedBy
 returns c = rw (c .enum-told .given .1)
 
 returns-2 : tie.Need-returns-2
-unfolding codeOf
+unfolding raisedBy
 returns-2 c = rw (c .enum-told2 .given .1)
 
 returns-3 : tie.Need-returns-3
-unfolding codeOf
+unfolding raisedBy
 returns-3 c = rw (c .enum-told3 .given .1)
 
 returns-4 : tie.Need-returns-4
-unfolding codeOf
+unfolding raisedBy
 returns-4 c = rw (c .enum-told4 .given .1)
 
 returns-5 : tie.Need-returns-5
-unfolding codeOf
+unfolding raisedBy
 returns-5 c = rw (c .enum-told5 .given .1)
 
 returns-6 : tie.Need-returns-6
-unfolding codeOf
+unfolding raisedBy
 returns-6 c = rw (c .enum-told6 .given .1)
 
 returns-7 : tie.Need-returns-7
-unfolding codeOf
+unfolding raisedBy
 returns-7 c = rw (c .before .enum-told7 .given .1)
 
 pub code-of-spec : {M : Type 1} → statement M
