@@ -10,10 +10,10 @@ use lib.ListN.{length}
 use Rattle.model.specs.Choice.{All}
 use Rattle.model.specs.File.{fileMost, insAt, procs, mostMain, mostPtr}
 use Rattle.model.specs.Heap.{Heap, Pointer, clean, heapOf, objectsOf}
-use Rattle.model.specs.Control.{Machine}
+use Rattle.model.specs.Control.{Machine, setRegs}
 use Rattle.model.specs.Step.{next, step}
 use Rattle.model.specs.Sound.{sound?}
-use Rattle.model.specs.Calls.{mainMost, ptrMost, ctlMost, heapMost, pass, verdictOf, Lent, lengthTests}
+use Rattle.model.specs.Calls.{mainMost, ptrMost, ctlMost, heapMost, pass, verdictOf, Lent, machineOf, lengthTests}
 use Rattle.model.specs.Claim.{Bytes}
 use Rattle.model.specs.declared.Regs.{Regs}
 use Rattle.exact.specs.Exact.{passed-as, passed-again}
@@ -51,11 +51,10 @@ pub record Alive (f map table : List ℕ) (m : Machine) : Type 0 where
 -- a state that run's tests let through; map₀ is the map lent, l has the one that the check left
 pub alive-run : (l : Lent) (map₀ table os : List ℕ) (r : Regs) → Bytes (l .file) → verdictOf (l .file) map₀ ≡ pass (l .map) →
     Placed (l .file) table (procs (l .file)) → All (lengthTests l) → heapOf (l .heap) ≡ clean os →
-    sound? (l .file) (l .map) (record { regs = r; main = l .main; ptr = l .ptr; ctl = l .ctl; heap = l .heap }) ≡ true →
-    Alive (l .file) (l .map) table (record { regs = r; main = l .main; ptr = l .ptr; ctl = l .ctl; heap = l .heap })
+    sound? (l .file) (l .map) (setRegs r (machineOf l)) ≡ true → Alive (l .file) (l .map) table (setRegs r (machineOf l))
 unfolding lengthTests objectsOf
 alive-run l map₀ table os r B P H T c s =
-    let m = record { regs = r; main = l .main; ptr = l .ptr; ctl = l .ctl; heap = l .heap } in
+    let m = setRegs r (machineOf l) in
     record {
       bytes = B;
       short = passed-as (l .file) map₀ (l .map) P .formed .few;

@@ -1,14 +1,14 @@
 -- An alive state that is not finished is ready to be planned: `Ready`, which `plan_at` asks for. The instruction's pops, pushes and frame
 -- words are in its frame by the rules at its place, and the frame lies in the lists.
 use Prim.Native.Nat.{ℕ, zero, suc, _+_, _-_, _<_, _≤_}
-use mathlib.Core.Path.{_≡_, refl}
+use mathlib.Core.Path.{_≡_, refl, ap}
 use mathlib.Core.Bool.{true}
 use mathlib.Core.List.{List, [], _∷_}
 use native.Mathlib.Decide.{decLt}
 use native.Mathlib.Omega.{arith}
 use lib.ListN.{length, getD}
 use Rattle.model.specs.Choice.{All, Mem}
-use Rattle.model.specs.File.{local, assign, onMain, onPtr, call, heads, headOf, procs, instructions}
+use Rattle.model.specs.File.{local, assign, onMain, onPtr, call, heads, headOf, procs, instructions, mostMain, mostPtr}
 use Rattle.model.specs.Checker.{effectOf, depthTests, targetTests}
 use Rattle.model.specs.Heap.{Pointer}
 use Rattle.model.specs.Control.{Machine, running, down}
@@ -16,7 +16,7 @@ use Rattle.model.specs.Moves.{mtop, ptop}
 use Rattle.model.specs.Sound.{isIns, frameTests}
 use Rattle.exact.specs.Walk.{member-in, getD-in, walk, walk-above, head-in, after-head, instruction-whole}
 use Rattle.sound.specs.Stack.{stack-frame, stack-numbers}
-use Rattle.sound.specs.Laws.{CodeLaws, rules}
+use Rattle.sound.specs.Laws.{CodeLaws, rules, pops}
 use Rattle.sound.specs.Sound.{looking, Running}
 use Rattle.sound.specs.Keep.{running-here, running-fits}
 use Rattle.sound.specs.Rules.{bases, frame-words}
@@ -83,7 +83,10 @@ module _ {f map table : List ℕ} {m : Machine} (A : Alive f map table m) (n i j
   unfolding depthTests
   taken =
       let D = rules f map L (placeOf m) at-place .depths in
+      let P = pops f map L (placeOf m) (here f m) at-place refl in
       let F = frame-is in
+      let x = ap (mostMain f) (F .1 .1 .1 .1 .0) in
+      let y = ap (mostPtr f) (F .1 .1 .1 .1 .0) in
       let e1 = R .main-top in
       let e2 = R .ptr-top in
       record { pop-main = omega arith; pop-ptr = omega arith; push-main = omega arith; push-ptr = omega arith }
