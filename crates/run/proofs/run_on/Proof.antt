@@ -57,25 +57,25 @@ answered-requires-2 : tie.Need-answered-requires-2 Inv-loop μ-loop
 answered-requires-2 c κs = search needs
 
 same-length : tie.Need-same-length Inv-loop μ-loop
-same-length c = c .before .before .before .before .before .before .before .before .before .before .step-with .kept .1 .1 .0 ∙ c .before .before .before .before .before .before .before .before .before .before .before .before .before .before .before .before .loop .inv .going .alike .main ∙ c .before .before .before .before .before .before .before .before .before .before .before .before .before .before .before .before .before .before .before .before .before .before .before .before .before .before .go-on .ensures .going .alike .main
+same-length c = c .before .before .before .before .before .before .before .before .before .before .before .step-with .kept .1 .1 .0 ∙ c .before .before .before .before .before .before .before .before .before .before .before .before .before .before .before .before .before .loop .inv .going .alike .main ∙ c .before .before .before .before .before .before .before .before .before .before .before .before .before .before .before .before .before .before .before .before .before .before .before .before .before .before .before .go-on .ensures .going .alike .main
 
 same-length-2 : tie.Need-same-length-2 Inv-loop μ-loop
-same-length-2 c = c .before .before .before .before .before .before .before .before .before .before .step-with .kept .1 .1 .1 .0 ∙ c .before .before .before .before .before .before .before .before .before .before .before .before .before .before .before .before .loop .inv .going .alike .ptr ∙ c .before .before .before .before .before .before .before .before .before .before .before .before .before .before .before .before .before .before .before .before .before .before .before .before .before .before .go-on .ensures .going .alike .ptr
+same-length-2 c = c .before .before .before .before .before .before .before .before .before .before .before .step-with .kept .1 .1 .1 .0 ∙ c .before .before .before .before .before .before .before .before .before .before .before .before .before .before .before .before .before .loop .inv .going .alike .ptr ∙ c .before .before .before .before .before .before .before .before .before .before .before .before .before .before .before .before .before .before .before .before .before .before .before .before .before .before .before .go-on .ensures .going .alike .ptr
 
 same-length-3 : tie.Need-same-length-3 Inv-loop μ-loop
-same-length-3 c = c .before .before .before .before .before .before .before .before .before .before .step-with .kept .1 .1 .1 .1 .0 ∙ c .before .before .before .before .before .before .before .before .before .before .before .before .before .before .before .before .loop .inv .going .alike .ctl ∙ c .before .before .before .before .before .before .before .before .before .before .before .before .before .before .before .before .before .before .before .before .before .before .before .before .before .before .go-on .ensures .going .alike .ctl
+same-length-3 c = c .before .before .before .before .before .before .before .before .before .before .before .step-with .kept .1 .1 .1 .1 .0 ∙ c .before .before .before .before .before .before .before .before .before .before .before .before .before .before .before .before .before .loop .inv .going .alike .ctl ∙ c .before .before .before .before .before .before .before .before .before .before .before .before .before .before .before .before .before .before .before .before .before .before .before .before .before .before .before .go-on .ensures .going .alike .ctl
 
 same-length-4 : tie.Need-same-length-4 Inv-loop μ-loop
-same-length-4 c = c .before .before .before .before .before .before .before .before .before .before .step-with .kept .1 .1 .1 .1 .1 .0 ∙ c .before .before .before .before .before .before .before .before .before .before .before .before .before .before .before .before .loop .inv .going .alike .heap ∙ c .before .before .before .before .before .before .before .before .before .before .before .before .before .before .before .before .before .before .before .before .before .before .before .before .before .before .go-on .ensures .going .alike .heap
+same-length-4 c = c .before .before .before .before .before .before .before .before .before .before .before .step-with .kept .1 .1 .1 .1 .1 .0 ∙ c .before .before .before .before .before .before .before .before .before .before .before .before .before .before .before .before .before .loop .inv .going .alike .heap ∙ c .before .before .before .before .before .before .before .before .before .before .before .before .before .before .before .before .before .before .before .before .before .before .before .before .before .before .before .go-on .ensures .going .alike .heap
 
 returns-2 : tie.Need-returns-2 Inv-loop μ-loop
 returns-2 c =
-    let S = c .before .before .before .before .before .before .before .before .before .before .before .before .before .before .before .before .before .before .before .before .before .before .before .before .before .before .before .before .before .before .before .before .before .before .before .before .before .before in
-    let L = c .before .before .before .before .before .before .before .before .before .before .before .before .before .before .before .before .loop in
+    let S = c .before .before .before .before .before .before .before .before .before .before .before .before .before .before .before .before .before .before .before .before .before .before .before .before .before .before .before .before .before .before .before .before .before .before .before .before .before .before .before in
+    let L = c .before .before .before .before .before .before .before .before .before .before .before .before .before .before .before .before .before .loop in
     rw (c .answered2 .ensures)
-    (going-uncaught (S .args .file .now) (S .args .table .now) (L .left) (record { regs = L .r; main = L .main; ptr = L .ptr; ctl = L .ctl; heap = L .heap }) (L .inv .going .runs) (c .before .before .before .before .before .before .before .before .before .before .before .before .before .before .before .loop-test .taken) (L .inv .on?) (L .plan)
-    (L .inv .stopped (c .before .before .before .before .before .before .before .before .before .before .before .before .before .before .before .loop-test .taken) .is) (c .before .before .before .before .before .before .before .before .before .before .step-with .result) _ _ _ _ (c .before .before .before .before .before .before .before .before .before .before .step-with .ensures) (S .args .budget) (record { regs = S .args .regs; main = S .args .main .now; ptr = S .args .ptr .now; ctl = S .args .ctl .now; heap = S .args .heap .now })
-    (going-trans (S .args .file .now) (S .args .table .now) (S .args .budget) (record { regs = S .args .regs; main = S .args .main .now; ptr = S .args .ptr .now; ctl = S .args .ctl .now; heap = S .args .heap .now }) _ _ (L .left) (record { regs = L .r; main = L .main; ptr = L .ptr; ctl = L .ctl; heap = L .heap }) (c .before .before .before .before .before .before .before .before .before .before .before .before .before .before .before .before .before .before .before .before .before .before .before .before .before .before .go-on .ensures .going) (L .inv .going)) (went-off? _ (c .before .if2 .taken)))
+    (going-uncaught (S .args .file .now) (S .args .table .now) (L .left) (record { regs = L .r; main = L .main; ptr = L .ptr; ctl = L .ctl; heap = L .heap }) (L .inv .going .runs) (c .before .before .before .before .before .before .before .before .before .before .before .before .before .before .before .before .loop-test .taken) (L .inv .on?) (L .plan)
+    (L .inv .stopped (c .before .before .before .before .before .before .before .before .before .before .before .before .before .before .before .before .loop-test .taken) .is) (c .before .before .before .before .before .before .before .before .before .before .before .step-with .result) _ (c .before .before .before .before .before .before .before .before .before .before .before .step-with .ensures) (S .args .budget) (record { regs = S .args .regs; main = S .args .main .now; ptr = S .args .ptr .now; ctl = S .args .ctl .now; heap = S .args .heap .now })
+    (going-trans (S .args .file .now) (S .args .table .now) (S .args .budget) (record { regs = S .args .regs; main = S .args .main .now; ptr = S .args .ptr .now; ctl = S .args .ctl .now; heap = S .args .heap .now }) _ _ (L .left) (record { regs = L .r; main = L .main; ptr = L .ptr; ctl = L .ctl; heap = L .heap }) (c .before .before .before .before .before .before .before .before .before .before .before .before .before .before .before .before .before .before .before .before .before .before .before .before .before .before .before .go-on .ensures .going) (L .inv .going)) (went-off? _ (c .before .before .if2 .taken)))
 
 sub-done-2 : tie.Need-sub-done-2 Inv-loop μ-loop
 sub-done-2 c = omega (arith, c .before .before .before .before .before .before .before .before .before .before .before .before .before .before .before .before .before .before .loop .inv .going .less, c .before .before .before .before .before .before .before .before .before .before .before .before .before .before .before .before .before .before .before .before .before .before .before .before .before .before .before .before .go-on .ensures .going .less)
@@ -101,13 +101,13 @@ returns-3 c =
     let L = c .before .before .before .before .before .before .before .before .before .before .before .before .before .before .before .before .before .before .before .loop in
     rw (c .answered3 .ensures)
     (going-finished (S .args .file .now) (S .args .table .now) (S .args .budget) (record { regs = S .args .regs; main = S .args .main .now; ptr = S .args .ptr .now; ctl = S .args .ctl .now; heap = S .args .heap .now }) (L .left - 1) _
-    (going-on (S .args .file .now) (S .args .table .now) (L .left) (record { regs = L .r; main = L .main; ptr = L .ptr; ctl = L .ctl; heap = L .heap }) (L .inv .going .runs) (c .before .before .before .before .before .before .before .before .before .before .before .before .before .before .before .before .before .before .loop-test .taken) (L .inv .on?) (L .plan) (L .inv .stopped (c .before .before .before .before .before .before .before .before .before .before .before .before .before .before .before .before .before .before .loop-test .taken) .is) (c .before .before .before .before .before .before .before .before .before .before .before .before .before .step-with .result) _ _ _ _ (c .before .before .before .before .before .before .before .before .before .before .before .before .before .step-with .ensures) (S .args .budget) (record { regs = S .args .regs; main = S .args .main .now; ptr = S .args .ptr .now; ctl = S .args .ctl .now; heap = S .args .heap .now }) (going-trans (S .args .file .now) (S .args .table .now) (S .args .budget) (record { regs = S .args .regs; main = S .args .main .now; ptr = S .args .ptr .now; ctl = S .args .ctl .now; heap = S .args .heap .now }) _ _ (L .left) (record { regs = L .r; main = L .main; ptr = L .ptr; ctl = L .ctl; heap = L .heap }) (c .before .before .before .before .before .before .before .before .before .before .before .before .before .before .before .before .before .before .before .before .before .before .before .before .before .before .before .before .before .go-on .ensures .going) (L .inv .going)) (went-on? _ (c .before .before .before .before .if2 .left)) (record { main = c .before .before .before .before .before .before .before .before .before .before .before .before .before .step-with .kept .1 .1 .0; ptr = c .before .before .before .before .before .before .before .before .before .before .before .before .before .step-with .kept .1 .1 .1 .0; ctl = c .before .before .before .before .before .before .before .before .before .before .before .before .before .step-with .kept .1 .1 .1 .1 .0; heap = c .before .before .before .before .before .before .before .before .before .before .before .before .before .step-with .kept .1 .1 .1 .1 .1 .0 })) (c .before .if3 .taken))
+    (going-on (S .args .file .now) (S .args .table .now) (L .left) (record { regs = L .r; main = L .main; ptr = L .ptr; ctl = L .ctl; heap = L .heap }) (L .inv .going .runs) (c .before .before .before .before .before .before .before .before .before .before .before .before .before .before .before .before .before .before .loop-test .taken) (L .inv .on?) (L .plan) (L .inv .stopped (c .before .before .before .before .before .before .before .before .before .before .before .before .before .before .before .before .before .before .loop-test .taken) .is) (c .before .before .before .before .before .before .before .before .before .before .before .before .before .step-with .result) _ (c .before .before .before .before .before .before .before .before .before .before .before .before .before .step-with .ensures) (S .args .budget) (record { regs = S .args .regs; main = S .args .main .now; ptr = S .args .ptr .now; ctl = S .args .ctl .now; heap = S .args .heap .now }) (going-trans (S .args .file .now) (S .args .table .now) (S .args .budget) (record { regs = S .args .regs; main = S .args .main .now; ptr = S .args .ptr .now; ctl = S .args .ctl .now; heap = S .args .heap .now }) _ _ (L .left) (record { regs = L .r; main = L .main; ptr = L .ptr; ctl = L .ctl; heap = L .heap }) (c .before .before .before .before .before .before .before .before .before .before .before .before .before .before .before .before .before .before .before .before .before .before .before .before .before .before .before .before .before .go-on .ensures .going) (L .inv .going)) (went-on? _ (c .before .before .before .before .if2 .left)) (record { main = c .before .before .before .before .before .before .before .before .before .before .before .before .before .step-with .kept .1 .1 .0; ptr = c .before .before .before .before .before .before .before .before .before .before .before .before .before .step-with .kept .1 .1 .1 .0; ctl = c .before .before .before .before .before .before .before .before .before .before .before .before .before .step-with .kept .1 .1 .1 .1 .0; heap = c .before .before .before .before .before .before .before .before .before .before .before .before .before .step-with .kept .1 .1 .1 .1 .1 .0 })) (c .before .if3 .taken))
 
 go-on-requires-2 : tie.Need-go-on-requires-2 Inv-loop μ-loop
 go-on-requires-2 c κs =
     let S = c .before .before .before .before .before .before .before .before .before .before .before .before .before .before .before .before .before .before .before .before .before .before .before .before .before .before .before .before .before .before .before .before .before .before .before .before .before .before .before .before .before .before .before .before in
     let L = c .before .before .before .before .before .before .before .before .before .before .before .before .before .before .before .before .before .before .before .before .before .before .loop in
-    (going-on (S .args .file .now) (S .args .table .now) (L .left) (record { regs = L .r; main = L .main; ptr = L .ptr; ctl = L .ctl; heap = L .heap }) (L .inv .going .runs) (c .before .before .before .before .before .before .before .before .before .before .before .before .before .before .before .before .before .before .before .before .before .loop-test .taken) (L .inv .on?) (L .plan) (L .inv .stopped (c .before .before .before .before .before .before .before .before .before .before .before .before .before .before .before .before .before .before .before .before .before .loop-test .taken) .is) (c .before .before .before .before .before .before .before .before .before .before .before .before .before .before .before .before .step-with .result) _ _ _ _ (c .before .before .before .before .before .before .before .before .before .before .before .before .before .before .before .before .step-with .ensures) (S .args .budget) (record { regs = S .args .regs; main = S .args .main .now; ptr = S .args .ptr .now; ctl = S .args .ctl .now; heap = S .args .heap .now }) (going-trans (S .args .file .now) (S .args .table .now) (S .args .budget) (record { regs = S .args .regs; main = S .args .main .now; ptr = S .args .ptr .now; ctl = S .args .ctl .now; heap = S .args .heap .now }) _ _ (L .left) (record { regs = L .r; main = L .main; ptr = L .ptr; ctl = L .ctl; heap = L .heap }) (c .before .before .before .before .before .before .before .before .before .before .before .before .before .before .before .before .before .before .before .before .before .before .before .before .before .before .before .before .before .before .before .before .go-on .ensures .going) (L .inv .going)) (went-on? _ (c .before .before .before .before .before .before .before .if2 .left)) (record { main = c .before .before .before .before .before .before .before .before .before .before .before .before .before .before .before .before .step-with .kept .1 .1 .0; ptr = c .before .before .before .before .before .before .before .before .before .before .before .before .before .before .before .before .step-with .kept .1 .1 .1 .0; ctl = c .before .before .before .before .before .before .before .before .before .before .before .before .before .before .before .before .step-with .kept .1 .1 .1 .1 .0; heap = c .before .before .before .before .before .before .before .before .before .before .before .before .before .before .before .before .step-with .kept .1 .1 .1 .1 .1 .0 }) .runs, c .before .before .before .before .if3 .left)
+    (going-on (S .args .file .now) (S .args .table .now) (L .left) (record { regs = L .r; main = L .main; ptr = L .ptr; ctl = L .ctl; heap = L .heap }) (L .inv .going .runs) (c .before .before .before .before .before .before .before .before .before .before .before .before .before .before .before .before .before .before .before .before .before .loop-test .taken) (L .inv .on?) (L .plan) (L .inv .stopped (c .before .before .before .before .before .before .before .before .before .before .before .before .before .before .before .before .before .before .before .before .before .loop-test .taken) .is) (c .before .before .before .before .before .before .before .before .before .before .before .before .before .before .before .before .step-with .result) _ (c .before .before .before .before .before .before .before .before .before .before .before .before .before .before .before .before .step-with .ensures) (S .args .budget) (record { regs = S .args .regs; main = S .args .main .now; ptr = S .args .ptr .now; ctl = S .args .ctl .now; heap = S .args .heap .now }) (going-trans (S .args .file .now) (S .args .table .now) (S .args .budget) (record { regs = S .args .regs; main = S .args .main .now; ptr = S .args .ptr .now; ctl = S .args .ctl .now; heap = S .args .heap .now }) _ _ (L .left) (record { regs = L .r; main = L .main; ptr = L .ptr; ctl = L .ctl; heap = L .heap }) (c .before .before .before .before .before .before .before .before .before .before .before .before .before .before .before .before .before .before .before .before .before .before .before .before .before .before .before .before .before .before .before .before .go-on .ensures .going) (L .inv .going)) (went-on? _ (c .before .before .before .before .before .before .before .if2 .left)) (record { main = c .before .before .before .before .before .before .before .before .before .before .before .before .before .before .before .before .step-with .kept .1 .1 .0; ptr = c .before .before .before .before .before .before .before .before .before .before .before .before .before .before .before .before .step-with .kept .1 .1 .1 .0; ctl = c .before .before .before .before .before .before .before .before .before .before .before .before .before .before .before .before .step-with .kept .1 .1 .1 .1 .0; heap = c .before .before .before .before .before .before .before .before .before .before .before .before .before .before .before .before .step-with .kept .1 .1 .1 .1 .1 .0 }) .runs, c .before .before .before .before .if3 .left)
 
 loop-less : tie.Need-loop-less Inv-loop μ-loop
 loop-less c = omega (arith, c .before .before .before .before .before .before .before .before .before .go-on2 .ensures .going .less, c .before .before .before .before .before .before .before .before .before .before .before .before .before .before .before .before .before .before .before .before .before .before .before .before .before .before .before .before .before .before .before .loop-test .taken)
@@ -122,7 +122,7 @@ loop-again c =
       going =
           going-trans (S .args .file .now) (S .args .table .now) _ _ _ _ _ _
           (going-on (S .args .file .now) (S .args .table .now) (L .left) (record { regs = L .r; main = L .main; ptr = L .ptr; ctl = L .ctl; heap = L .heap }) (L .inv .going .runs) t (L .inv .on?) (L .plan) (L .inv .stopped t .is) (c .before .before .before .before .before .before .before .before .before .before .before .before .before .before .before .before .before .before .before .before .before .before .before .before .before .before .step-with .result)
-          _ _ _ _ (c .before .before .before .before .before .before .before .before .before .before .before .before .before .before .before .before .before .before .before .before .before .before .before .before .before .before .step-with .ensures) _ _ (L .inv .going) (went-on? _ (c .before .before .before .before .before .before .before .before .before .before .before .before .before .before .before .before .before .if2 .left)) (record { main = c .before .before .before .before .before .before .before .before .before .before .before .before .before .before .before .before .before .before .before .before .before .before .before .before .before .before .step-with .kept .1 .1 .0; ptr = c .before .before .before .before .before .before .before .before .before .before .before .before .before .before .before .before .before .before .before .before .before .before .before .before .before .before .step-with .kept .1 .1 .1 .0; ctl = c .before .before .before .before .before .before .before .before .before .before .before .before .before .before .before .before .before .before .before .before .before .before .before .before .before .before .step-with .kept .1 .1 .1 .1 .0; heap = c .before .before .before .before .before .before .before .before .before .before .before .before .before .before .before .before .before .before .before .before .before .before .before .before .before .before .step-with .kept .1 .1 .1 .1 .1 .0 })) (P .going);
+          _ (c .before .before .before .before .before .before .before .before .before .before .before .before .before .before .before .before .before .before .before .before .before .before .before .before .before .before .step-with .ensures) _ _ (L .inv .going) (went-on? _ (c .before .before .before .before .before .before .before .before .before .before .before .before .before .before .before .before .before .if2 .left)) (record { main = c .before .before .before .before .before .before .before .before .before .before .before .before .before .before .before .before .before .before .before .before .before .before .before .before .before .before .step-with .kept .1 .1 .0; ptr = c .before .before .before .before .before .before .before .before .before .before .before .before .before .before .before .before .before .before .before .before .before .before .before .before .before .before .step-with .kept .1 .1 .1 .0; ctl = c .before .before .before .before .before .before .before .before .before .before .before .before .before .before .before .before .before .before .before .before .before .before .before .before .before .before .step-with .kept .1 .1 .1 .1 .0; heap = c .before .before .before .before .before .before .before .before .before .before .before .before .before .before .before .before .before .before .before .before .before .before .before .before .before .before .step-with .kept .1 .1 .1 .1 .1 .0 })) (P .going);
       on? = P .on?;
       stopped = P .stopped;
     }

@@ -1,5 +1,5 @@
 -- `steps::go_on` meets its contract: each turn is one step of the model, done without a loop; soundness, kept by each step, gives what the plan and its writes ask.
-use mathlib.Core.Path.{_≡_, sym, _∙_}
+use mathlib.Core.Path.{_≡_, refl, sym, _∙_}
 use native.Mathlib.Omega.{arith}
 use borrow.Author.Needs.{needs}
 use Rattle.exec.proofs.Tags.{no-write}
@@ -69,7 +69,7 @@ loop-again c =
     let L = c .before .before .before .before .before .before .before .before .before .before .before .before .before .before .before .before .before .before .before .before .before .before .before .before .loop in
     let A = c .before .before .before .before .before .before .before .before .before .before .apply in (
       going-trans (S .args .file .now) (S .args .table .now) (S .args .budget) (record { regs = S .args .regs; main = S .args .main .now; ptr = S .args .ptr .now; ctl = S .args .ctl .now; heap = S .args .heap .now }) (L .left) (record { regs = L .r; main = L .main; ptr = L .ptr; ctl = L .ctl; heap = L .heap }) _ _ (L .inv .0)
-          (going-applied (S .args .file .now) (S .args .table .now) (L .left) (record { regs = L .r; main = L .main; ptr = L .ptr; ctl = L .ctl; heap = L .heap }) (L .inv .0 .runs) (c .before .before .before .before .before .before .before .before .before .before .before .before .before .before .before .before .before .before .before .before .before .before .before .loop-test .taken) (L .inv .1) _ (A .result) _ _ _ _
+          (going-applied (S .args .file .now) (S .args .table .now) (L .left) (record { regs = L .r; main = L .main; ptr = L .ptr; ctl = L .ctl; heap = L .heap }) (L .inv .0 .runs) (c .before .before .before .before .before .before .before .before .before .before .before .before .before .before .before .before .before .before .before .before .before .before .before .loop-test .taken) (L .inv .1) _ (A .result) _
           (sym (c .before .before .before .before .before .before .before .before .before .before .before .before .before .before .before .before .plan .given .1) ∙ c .before .before .before .before .before .before .before .before .before .before .before .before .before .before .before .before .before .before .plan-at .ensures) (c .before .if1 .taken) (A .ensures .0)
           (record { main = A .kept .1 .0; ptr = A .kept .1 .1 .0; ctl = A .kept .1 .1 .1 .0; heap = A .kept .1 .1 .1 .1 .0 })),
       λ e. L .inv .1 (sym (A .ensures .1 .0) ∙ e),
@@ -96,8 +96,8 @@ returns-2 c =
     let L = c .before .before .before .before .before .before .before .before .before .before .before .before .before .before .before .before .before .before .before .before .before .before .before .before .loop in
     let A = c .before .before .before .before .before .before .before .before .before .before .apply in
     rw (c .stop2 .ensures)
-    (paused-late (S .args .file .now) (S .args .table .now) (S .args .budget) (record { regs = S .args .regs; main = S .args .main .now; ptr = S .args .ptr .now; ctl = S .args .ctl .now; heap = S .args .heap .now }) (L .left) (record { regs = L .r; main = L .main; ptr = L .ptr; ctl = L .ctl; heap = L .heap }) _ (A .result) _ _ _ _ (L .inv .0) (L .inv .1)
-    (sym (c .before .before .before .before .before .before .before .before .before .before .before .before .before .before .before .before .plan .given .1) ∙ c .before .before .before .before .before .before .before .before .before .before .before .before .before .before .before .before .before .before .plan-at .ensures) (c .before .if1 .left) (A .ensures .0) (A .ensures .1 .1))
+    (paused-late (S .args .file .now) (S .args .table .now) (S .args .budget) (record { regs = S .args .regs; main = S .args .main .now; ptr = S .args .ptr .now; ctl = S .args .ctl .now; heap = S .args .heap .now }) (L .left) (record { regs = L .r; main = L .main; ptr = L .ptr; ctl = L .ctl; heap = L .heap }) _ _ (A .result) (L .inv .0) (L .inv .1)
+    (sym (c .before .before .before .before .before .before .before .before .before .before .before .before .before .before .before .before .plan .given .1) ∙ c .before .before .before .before .before .before .before .before .before .before .before .before .before .before .before .before .before .before .plan-at .ensures) refl (c .before .if1 .left) (A .ensures .0) (A .ensures .1 .1))
 
 stop-requires-3 : tie.Need-stop-requires-3 Inv-loop μ-loop
 stop-requires-3 c κs = search needs
