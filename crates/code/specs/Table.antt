@@ -8,7 +8,7 @@ use native.Mathlib.Nat.{add-zero, zero-add, add-suc, suc-add, le-of-suc-le-suc, 
 use lib.Dec.{T, eqb, eqb→eq}
 use lib.ListN.{length, getD}
 use Rattle.model.specs.Choice.{if_then_else_}
-use Rattle.model.specs.File.{bodies, bodyOf}
+use Rattle.model.specs.File.{codes, bodies, bodyOf}
 use Rattle.code.specs.Kinds.{and-both}
 
 -- the entries, from kind 0 on
@@ -52,7 +52,7 @@ unfoldable pub right : ℕ → ℕ → Bool
 right k x = eqb x (bodyOf k)
 
 right-all : T (every right 0 lengths)
-unfolding lengths right bodyOf bodies
+unfolding lengths right bodyOf bodies codes
 right-all = tt
 
 pub lengths-are : (k : ℕ) → k < 256 → getD lengths k 0 ≡ bodyOf k

@@ -1,9 +1,8 @@
 -- The checker passes a file exactly when document 01's rules hold of it, and the finished map is the one assignment that keeps
 -- them: the pass finds the assignment if there is one, and its states are what the map has at every place of the file.
 use Prim.Native.Nat.{ℕ, zero, suc, _+_, _*_, _<_, _≤_}
-use mathlib.Core.Bool.{Bool, true, false, true≢false, _&&_}
+use mathlib.Core.Bool.{Bool, true, false, _&&_}
 use mathlib.Core.List.{List, [], _∷_, _++_}
-use mathlib.Core.Logic.{_↔_}
 use mathlib.Core.Path.{_≡_, refl, ap, sym, _∙_}
 use native.Mathlib.Omega.{arith}
 use lib.Dec.{leb}
@@ -11,15 +10,15 @@ use lib.ListN.{length, getD, drop, length-append, length-drop, List·getD-append
 use lib.Seq.{drop-at}
 use borrow.Author.Tests.{leb-true, le-leb}
 use Rattle.model.specs.Choice.{if_then_else_, Mem}
-use Rattle.model.specs.File.{fileMost, Records, broken, starts, recordsOf, Heads, wrong, right, headsOf, instructions}
-use Rattle.model.specs.Checker.{none, state, unset, Known, stateAt, Result, refused, passed, flow, mapFrom}
+use Rattle.model.specs.File.{fileMost, Records, broken, starts, recordsOf, Heads, wrong, right, headsOf, procs, instructions}
+use Rattle.model.specs.Checker.{none, state, unset, Known, stateAt, firsts, Result, refused, passed, flow, mapFrom}
 use Rattle.model.specs.Rules.{Assignment, Keeps}
 use Rattle.model.specs.Sound.{mainAt, ptrAt, innerAt}
-use Rattle.model.specs.Calls.{mapSize, overMap, wiped, Verdict, pass, refuse, flowed, headed, scanned, verdictOf}
-use Rattle.model.specs.Claim.{Bytes, assigned}
+use Rattle.model.specs.Calls.{mapSize, overMap, Verdict, pass, refuse, flowed, headed, scanned, verdictOf}
+use Rattle.model.specs.Claim.{Bytes, assigned, InOrder}
 use Rattle.exact.specs.Pass.{and-true}
-use Rattle.exact.specs.Walk.{HeadsHold, heads-right, right-heads, instruction-below}
-use Rattle.exact.specs.Flow.{Shape, keeps-shape, keeps-same, flow-rest, flow-keeps, keeps-flow}
+use Rattle.exact.specs.Walk.{heads-right, right-heads, instruction-below}
+use Rattle.exact.specs.Flow.{taken-targets, Shape, keeps-shape, keeps-same, flow-rest, flow-keeps, keeps-flow}
 
 -- three numbers a place
 get-behind : (a b c : ℕ) (map : List ℕ) (i j : ℕ) → i ≡ suc (suc (suc j)) → getD (a ∷ b ∷ c ∷ map) i none ≡ getD map j none
@@ -80,17 +79,9 @@ finished-again f map k =
     ap (λ (l : List ℕ). mapFrom k (length f) 0 ++ l)
     (drop-at (mapFrom k (length f) 0) (drop (mapSize f) map) (mapSize f) (map-length k (length f) 0))
 
--- a file with nothing in it that refusals 1, 3 and 4 are for
-pub record Formed (f : List ℕ) : Type 0 where
-  pub some : 1 ≤ length f
-  pub most : length f ≤ fileMost
-  pub places : List ℕ
-  pub records : recordsOf f ≡ starts places
-  pub heads : HeadsHold f
-
 -- what a pass says
 pub record Passed (f map new : List ℕ) : Type 0 where
-  pub formed : Formed f
+  pub formed : InOrder f
   pub room : mapSize f ≤ length map
   pub known : Known
   pub flows : flow f ≡ passed known
@@ -115,7 +106,7 @@ module _ (f map : List ℕ) where
   flowed-pass (passed k) new e = (k, refl, cc)
 
   pub passed-as : (new : List ℕ) → verdictOf f map ≡ pass new → Passed f map new
-  unfolding verdictOf
+  unfolding verdictOf flow
   passed-as new e =
       let v : Verdict = if leb (mapSize f) (length map) then scanned f map (recordsOf f) else refuse 2 0 map in
       let a = if-pass (leb 1 (length f) && leb (length f) fileMost) v 1 new e in
@@ -128,10 +119,11 @@ module _ (f map : List ℕ) where
         formed =
             record {
               some = leb-true 1 (length f) (l .0);
-              most = leb-true (length f) fileMost (l .1);
+              few = leb-true (length f) fileMost (l .1);
               places = c .0;
               records = c .1;
               heads = heads-right f (d .0);
+              targets = taken-targets f (instructions f) (firsts f (procs f)) (w .0) (w .1);
             };
         room = leb-true (mapSize f) (length map) (b .0);
         known = w .0;
@@ -140,12 +132,12 @@ module _ (f map : List ℕ) where
       }
 
   -- past refusals 1 to 4 the verdict is the pass's
-  pub flow-verdict : Formed f → mapSize f ≤ length map → verdictOf f map ≡ flowed f map (flow f)
+  pub flow-verdict : InOrder f → mapSize f ≤ length map → verdictOf f map ≡ flowed f map (flow f)
   unfolding verdictOf
   flow-verdict F l =
       rw (
         le-leb 1 (length f) (F .some),
-        le-leb (length f) fileMost (F .most),
+        le-leb (length f) fileMost (F .few),
         le-leb (mapSize f) (length map) l,
         F .records,
         right-heads f (F .heads),
@@ -166,70 +158,36 @@ module _ (f map new : List ℕ) (e : verdictOf f map ≡ pass new) where
       ∙ ap (flowed f new) (P .flows)
       ∙ ap pass (ap (λ (x : List ℕ). finished f x (P .known)) w ∙ finished-again f map (P .known) ∙ sym w)
 
--- what document 01 asks of a file
-pub record Right (f : List ℕ) : Type 0 where
-  pub formed : Formed f
-  pub assignment : Assignment
-  pub keeps : Keeps f assignment
+module _ (f map : List ℕ) (B : Bytes f) (new : List ℕ) (e : verdictOf f map ≡ pass new) where
+  P : Passed f map new
+  P = passed-as f map new e
 
-module _ (f map : List ℕ) (B : Bytes f) where
-  module _ (new : List ℕ) (e : verdictOf f map ≡ pass new) where
-    P : Passed f map new
-    P = passed-as f map new e
+  W : InOrder f
+  W = P .formed
 
-    W : Formed f
-    W = P .formed
+  map-is : (p : ℕ) → p < length f → stateAt (P .known) p ≡ assigned new p
+  map-is p l = sym (finished-at f map (P .known) p l) ∙ ap (λ (m : List ℕ). assigned m p) (sym (P .is))
 
-    map-is : (p : ℕ) → p < length f → stateAt (P .known) p ≡ assigned new p
-    map-is p l = sym (finished-at f map (P .known) p l) ∙ ap (λ (m : List ℕ). assigned m p) (sym (P .is))
+  known-is : (p : ℕ) → Mem p (instructions f) → stateAt (P .known) p ≡ assigned new p
+  known-is p m = map-is p (instruction-below f (W .places) (W .records) p m)
 
-    known-is : (p : ℕ) → Mem p (instructions f) → stateAt (P .known) p ≡ assigned new p
-    known-is p m = map-is p (instruction-below f (W .places) (W .records) p m)
+  -- the map of a file that passes keeps the rules
+  pub passed-keeps : Keeps f (assigned new)
+  passed-keeps =
+      keeps-same f (W .places) B (W .records) (W .heads) (stateAt (P .known)) (assigned new) known-is
+      (flow-keeps f (W .places) B (W .records) (W .heads) (P .known) (P .flows))
 
-    -- the map of a file that passes keeps the rules
-    pub passed-keeps : Keeps f (assigned new)
-    passed-keeps =
-        keeps-same f (W .places) B (W .records) (W .heads) (stateAt (P .known)) (assigned new) known-is
-        (flow-keeps f (W .places) B (W .records) (W .heads) (P .known) (P .flows))
+  -- its depths lie within the procedure's, and its third numbers are below their places
+  pub passed-shape : (p : ℕ) → Mem p (instructions f) → Shape f (assigned new) p
+  passed-shape = keeps-shape f (W .places) B (W .records) (W .heads) (assigned new) passed-keeps
 
-    -- its depths lie within the procedure's, and its third numbers are below their places
-    pub passed-shape : (p : ℕ) → Mem p (instructions f) → Shape f (assigned new) p
-    passed-shape = keeps-shape f (W .places) B (W .records) (W .heads) (assigned new) passed-keeps
+  -- "three times 65,535 where no instruction starts"
+  pub passed-rest : (p : ℕ) → p < length f → (Mem p (instructions f) → ⊥) → assigned new p ≡ unset
+  passed-rest p l n = sym (map-is p l) ∙ flow-rest f (W .places) B (W .records) (W .heads) (P .known) (P .flows) p n
 
-    -- "three times 65,535 where no instruction starts"
-    pub passed-rest : (p : ℕ) → p < length f → (Mem p (instructions f) → ⊥) → assigned new p ≡ unset
-    passed-rest p l n = sym (map-is p l) ∙ flow-rest f (W .places) B (W .records) (W .heads) (P .known) (P .flows) p n
-
-    -- no other assignment keeps the rules
-    pub keeps-unique : (A : Assignment) → Keeps f A → (p : ℕ) → Mem p (instructions f) → A p ≡ assigned new p
-    keeps-unique A K p m =
-        let F = keeps-flow f (W .places) B (W .records) (W .heads) A K in
-        let w : F .known ≡ P .known = let a = F .passes in let b = P .flows in cc in
-        F .same p m ∙ ap (λ (k : Known). stateAt k p) w ∙ known-is p m
-
-  -- a file passes exactly when the rules hold of it
-  pub passes-exactly : mapSize f ≤ length map → ((new : List ℕ) × (verdictOf f map ≡ pass new)) ↔ Right f
-  passes-exactly room = (
-    λ r. record { formed = passed-as f map (r .0) (r .1) .formed; assignment = assigned (r .0); keeps = passed-keeps (r .0) (r .1) },
-    pass-of,
-  )
-    where
-      pass-of : Right f → (new : List ℕ) × (verdictOf f map ≡ pass new)
-      pass-of R =
-          let W = R .formed in
-          let F = keeps-flow f (W .places) B (W .records) (W .heads) (R .assignment) (R .keeps) in
-          (finished f map (F .known), flow-verdict f map W room ∙ ap (flowed f map) (F .passes))
-
-  module _ (W : Formed f) (room : mapSize f ≤ length map) where
-    -- a file that 1 to 4 do not refuse is refused exactly when no assignment keeps the rules; that targets are right is one of them
-    pub refused-exactly :
-        ((n : ℕ) × (p : ℕ) × (verdictOf f map ≡ refuse n p (wiped f map))) ↔ ((A : Assignment) → Keeps f A → ⊥)
-    refused-exactly = (λ r A K. never r (passes-exactly room .1 (record { formed = W; assignment = A; keeps = K })), λ n. go n (flow f) refl)
-      where
-        never : (n : ℕ) × (p : ℕ) × (verdictOf f map ≡ refuse n p (wiped f map)) → (new : List ℕ) × (verdictOf f map ≡ pass new) → ⊥
-        never r s = let x = r .2 in let y = s .1 in let z : true ≡ false = cc in true≢false z
-
-        go : ((A : Assignment) → Keeps f A → ⊥) → (r : Result Known) → flow f ≡ r →
-            (n : ℕ) × (p : ℕ) × (verdictOf f map ≡ refuse n p (wiped f map))
-        go w (refused n p) x = (n, p, flow-verdict f map W room ∙ ap (flowed f map) x)
-        go w (passed k) x = absurd (w (stateAt k) (flow-keeps f (W .places) B (W .records) (W .heads) k x))
+  -- no other assignment keeps the rules
+  pub keeps-unique : (A : Assignment) → Keeps f A → (p : ℕ) → Mem p (instructions f) → A p ≡ assigned new p
+  keeps-unique A K p m =
+      let F = keeps-flow f (W .places) B (W .records) (W .heads) A K in
+      let w : F .known ≡ P .known = let a = F .passes in let b = P .flows in cc in
+      F .same p m ∙ ap (λ (k : Known). stateAt k p) w ∙ known-is p m

@@ -3,7 +3,7 @@
 -- because each state comes from an earlier instruction of the same procedure.
 use Prim.Native.Nat.{ℕ, zero, suc, _+_, _<_, _≤_}
 use mathlib.Core.Bool.{Bool, true, false, true≢false, _&&_}
-use mathlib.Core.List.{List}
+use mathlib.Core.List.{List, _∷_}
 use mathlib.Core.Logic.{_⊎_, inl, inr}
 use mathlib.Core.Path.{_≡_, refl, ap, sym, _∙_, subst}
 use native.Mathlib.Decide.{ℕ-discrete}
@@ -16,7 +16,7 @@ use Rattle.model.specs.Checker.{none, State, unset, isSet, Known, stateAt, firs
 use Rattle.model.specs.Rules.{Assignment, Opens, Fine, First, Got, Keeps}
 use Rattle.model.specs.Claim.{Bytes}
 use Rattle.exact.specs.Pass as Pass
-use Rattle.exact.specs.Pass.{and-true, Set, Sent, Linked, outer-none, outerAt, Places, unset-at, Code, Taken, Laws, Ran, ran, ran-places, Found, found}
+use Rattle.exact.specs.Pass.{and-true, goOn-inv, Set, Sent, Linked, outer-none, outerAt, Places, unset-at, Code, Taken, Laws, Ran, ran, ran-places, Found, found}
 use Rattle.exact.specs.Walk.{member-in, HeadsHold, instructions-rise, entry-in, entry-proc}
 
 -- only code 160 opens a handler
@@ -172,6 +172,18 @@ taken-step f p k k′ T =
       true-all (leaveTests f p (insAt f p) (stateAt k p)) (F .leaves),
     )
     (T .puts)
+
+-- past refusal 5 the targets are right
+pub taken-targets : (f ps : List ℕ) (k k′ : Known) → takeAll f ps k ≡ passed k′ → (p : ℕ) → Mem p ps → All (targetTests f p (insAt f p))
+unfolding takeAll
+taken-targets f (q ∷ ps) k k′ e p m =
+    let b = goOn-inv q (take f q k) (takeAll f ps) k′ e in
+    go (step-taken f q k (b .0) (b .1)) (taken-targets f ps (b .0) k′ (b .2) p) m
+  where
+    go : {k″ : Known} → Taken (code f) q k k″ → (Mem p ps → All (targetTests f p (insAt f p))) → Mem p (q ∷ ps) →
+        All (targetTests f p (insAt f p))
+    go T r (inl z) = rw z (T .fits .targets)
+    go T r (inr h) = r h
 
 -- a state with a byte for its main depth is known
 byte-set : (s : State) → s .main < 256 → Set s

@@ -39,7 +39,7 @@ andThen-inv : (s : Step Known) (k : Known → Step Known) (m : Known) → andThe
 andThen-inv (bad n) k m e = (m, cc, cc)
 andThen-inv (next m′) k m e = (m′, refl, e)
 
-goOn-inv : (p : ℕ) (s : Step Known) (k : Known → Result Known) (m : Known) → goOn p s k ≡ passed m →
+pub goOn-inv : (p : ℕ) (s : Step Known) (k : Known → Result Known) (m : Known) → goOn p s k ≡ passed m →
     (m′ : Known) × (s ≡ next m′) × (k m′ ≡ passed m)
 goOn-inv p (bad n) k m e = (m, cc, cc)
 goOn-inv p (next m′) k m e = (m′, refl, e)

@@ -1,6 +1,6 @@
 -- The records of a file lie end to end, so their starts rise, and so do the heads and the instructions among them. A place's
 -- procedure counts the heads up to it: behind head n, at the first instruction of procedure n, those are the heads 0 to n.
-use Prim.Native.Nat.{ℕ, zero, suc, _+_, _<_, _≤_}
+use Prim.Native.Nat.{ℕ, zero, suc, _+_, _-_, _<_, _≤_}
 use mathlib.Core.Bool.{Bool, true, false, true≢false, not}
 use mathlib.Core.List.{List, [], _∷_}
 use mathlib.Core.Logic.{_⊎_, inl, inr}
@@ -11,7 +11,7 @@ use lib.Dec.{ltb, leb, eqb}
 use lib.ListN.{length, getD}
 use borrow.Author.Tests.{ltb-true, ltb-false, leb-true, eqb-true, eqb-false, not-true, le-leb, lt-leb, eq-eqb}
 use Rattle.model.specs.Choice.{if_then_else_, all, All, all-true, true-all, Mem, member}
-use Rattle.model.specs.File.{byteAt, headKind, headSize, bodies, bodyOf, unknown, after, whole?, Records, broken, starts, more, recordsFrom, recordsOf, isHead, select, heads, instructions, procs, headOf, entry, upTo, procAt, headTests, wrong, right, headsFrom, headsOf}
+use Rattle.model.specs.File.{byteAt, headKind, headSize, codes, bodies, find, bodyOf, unknown, after, whole?, Records, broken, starts, more, recordsFrom, recordsOf, startsIn, isHead, listed, isInstruction, select, heads, instructions, procs, headOf, entry, upTo, procAt, headTests, wrong, right, headsFrom, headsOf}
 pub use Rattle.model.specs.Lists.{member-in, in-member}
 use Rattle.exact.specs.Pass.{and-true, Rising}
 
@@ -162,6 +162,58 @@ upTo-at q (h ∷ hs) (suc n) r l b w =
     let a = r .0 (getD hs n 0) (getD-in hs n 0 (omega arith)) in
     rw (le-leb h q (omega arith)) (ap suc (upTo-at q hs n (r .1) (omega arith) b (λ g m. w g (inr m))))
 
+-- "All else is an instruction": a kind with a body of known length is the head's, or the table of codes has it
+found-listed : (rs : List (ℕ × ℕ)) (k : ℕ) → (find rs k ≡ unknown → ⊥) → listed rs k ≡ true
+found-listed [] k h = absurd (h refl)
+found-listed (r ∷ rs) k h = go (eqb k (r .0)) h (found-listed rs k)
+  where
+    go : (t : Bool) → ((if t then r .1 else find rs k) ≡ unknown → ⊥) → ((find rs k ≡ unknown → ⊥) → listed rs k ≡ true) →
+        (if t then true else listed rs k) ≡ true
+    go true h i = refl
+    go false h i = i h
+
+known-listed : (k : ℕ) → (bodyOf k ≡ unknown → ⊥) → listed codes k ≡ not (eqb k headKind)
+unfolding bodyOf bodies
+known-listed k h = go (eqb k headKind) refl h
+  where
+    go : (t : Bool) → eqb k headKind ≡ t → ((if t then headSize - 1 else find codes k) ≡ unknown → ⊥) → listed codes k ≡ not t
+    go true e h = rw (eqb-true k headKind e) (unfold codes in refl)
+    go false e h = found-listed codes k h
+
+whole-listed : (f : List ℕ) (p : ℕ) → whole? f p ≡ true → isInstruction f p ≡ not (isHead f p)
+unfolding whole? isInstruction isHead
+whole-listed f p e =
+    let b = bodyOf (byteAt f p) in
+    let w = and-true (not (eqb b unknown)) (leb (after f p) (length f)) e .0 in
+    known-listed (byteAt f p) (eqb-false b unknown (not-true (eqb b unknown) w))
+
+-- so the instructions of a file are its records but the heads
+abbrev other : List ℕ → ℕ → Bool
+other f p = not (isHead f p)
+
+rest-others : (f : List ℕ) (n p : ℕ) →
+    select (isInstruction f) (startsIn (recordsFrom f n p)) ≡ select (other f) (startsIn (recordsFrom f n p))
+unfolding recordsFrom
+rest-others f zero p = refl
+rest-others f (suc n) p = go (ltb p (length f)) (whole? f p) refl (recordsFrom f n (after f p)) (rest-others f n (after f p))
+  where
+    go : (a b : Bool) → whole? f p ≡ b → (r : Records) → select (isInstruction f) (startsIn r) ≡ select (other f) (startsIn r) →
+        select (isInstruction f) (startsIn (if a then (if b then more p r else broken p) else starts [])) ≡
+        select (other f) (startsIn (if a then (if b then more p r else broken p) else starts []))
+    go false b w r e = refl
+    go true false w r e = refl
+    go true true w (broken q) e = refl
+    go true true w (starts ps) e = rw (whole-listed f p w) (ap (λ (l : List ℕ). if not (isHead f p) then p ∷ l else l) e)
+
+pub instructions-others : (f : List ℕ) → instructions f ≡ select (λ p. not (isHead f p)) (startsIn (recordsOf f))
+unfolding instructions recordsOf
+instructions-others f = go (eqb (byteAt f 0) headKind)
+  where
+    go : (t : Bool) → select (isInstruction f) (startsIn (if t then recordsFrom f (length f) 0 else broken 0)) ≡
+        select (other f) (startsIn (if t then recordsFrom f (length f) 0 else broken 0))
+    go true = rest-others f (length f) 0
+    go false = refl
+
 -- a file with no fault in its records
 module _ (f ps : List ℕ) (e : recordsOf f ≡ starts ps) where
   first-inv : (t : Bool) (r : Records) → (if t then r else broken 0) ≡ starts ps → (t ≡ true) × (r ≡ starts ps)
@@ -182,10 +234,13 @@ module _ (f ps : List ℕ) (e : recordsOf f ≡ starts ps) where
       let w : Mem p ps × (isHead f p ≡ true) = select-in (isHead f) ps p (rw e at h) in
       (w .0, eqb-true (byteAt f p) headKind (w .1))
 
+  pub instructions-are : instructions f ≡ select (λ p. not (isHead f p)) ps
+  instructions-are = instructions-others f ∙ ap (λ (r : Records). select (other f) (startsIn r)) e
+
   pub ins-in : (p : ℕ) → Mem p (instructions f) → Mem p ps × (byteAt f p ≡ headKind → ⊥)
-  unfolding instructions isHead
+  unfolding isHead
   ins-in p h =
-      let w : Mem p ps × (not (isHead f p) ≡ true) = select-in (λ q. not (isHead f q)) ps p (rw e at h) in
+      let w : Mem p ps × (not (isHead f p) ≡ true) = select-in (other f) ps p (rw instructions-are at h) in
       (w .0, eqb-false (byteAt f p) headKind (not-true (isHead f p) (w .1)))
 
   pub heads-rise : Rising (heads f)
@@ -193,8 +248,7 @@ module _ (f ps : List ℕ) (e : recordsOf f ≡ starts ps) where
   heads-rise = rw e (select-rising (isHead f) ps (walk-rising f 0 ps walk))
 
   pub instructions-rise : Rising (instructions f)
-  unfolding instructions
-  instructions-rise = rw e (select-rising (λ q. not (isHead f q)) ps (walk-rising f 0 ps walk))
+  instructions-rise = rw instructions-are (select-rising (other f) ps (walk-rising f 0 ps walk))
 
   -- an instruction lies in the file, whole, behind the first head
   pub instruction-whole : (p : ℕ) → Mem p (instructions f) → after f p ≤ length f

@@ -14,6 +14,7 @@ use borrow.Author.Tests.{eq-eqb, ne-eqb}
 use Rattle.model.specs.Choice.{if_then_else_, Mem, member}
 use Rattle.model.specs.File.{starts, recordsOf, isHead, select, instructions}
 use Rattle.model.specs.Checker.{none, State, state, unset, isSet, Known, stateAt}
+use Rattle.exact.specs.Walk.{instructions-are}
 
 abbrev pub unreached : ℕ
 unreached = 65534
@@ -150,7 +151,6 @@ blank n q = λ i. state (getD-fill n (3 * q) i) (getD-fill n (3 * q + 1) i) (get
 -- the marked part shows the instructions, and no state yet
 pub marked-shows : (f ps : List ℕ) → recordsOf f ≡ starts ps → ((p : ℕ) → Mem p ps → p < length f) →
     Shows f [] (marked f (replicate (3 * length f) none) ps)
-unfolding instructions
 marked-shows f ps e h =
     let n = 3 * length f in
     let m = replicate n none in
@@ -158,7 +158,7 @@ marked-shows f ps e h =
       long = length-marked f ps m ∙ length-replicate n none;
       at = λ q l.
           marks-at f ps m q (λ p i. let a = h p i in rw (length-replicate n none) (omega arith))
-          ∙ rw (blank n q, e);
+          ∙ rw (blank n q, instructions-are f ps e);
       only = λ q z. absurd (true≢false (sym z));
     }
 
