@@ -36,8 +36,7 @@ returns c =
     let ptr = c .less2 .ensures in
     let a = c .before .before .before .before .before .before .before .before .before .before .args in
     let pre = c .before .before .before .before .before .before .before .before .before .before .pre in
-    let fits = pre .0 in
-    (
+    let fits = pre .0 in (
       λ f lm lp e x y i. record {
         inner = inner .is i;
         place = a .c;

@@ -11,8 +11,7 @@ returns : tie.Need-returns
 returns c =
     let t = c .inner-at .ensures in
     let a = c .before .before .args in
-    let near = c .before .before .pre in
-    (
+    let near = c .before .before .pre in (
       λ f lm lp i. record {
         inner = t .is i;
         place = a .s .place;
