@@ -1,3 +1,4 @@
 pub mod Planned
 pub mod Settled
+pub mod Suits
 pub mod Bridge

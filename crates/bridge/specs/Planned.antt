@@ -6,9 +6,9 @@ use lib.Dec.{leb, eqb}
 use lib.ListN.{length}
 use Rattle.model.specs.Choice.{if_then_else_, all}
 use Rattle.model.specs.Words.{wordAt, truth, bit, operate, operate1}
-use Rattle.model.specs.File.{onMain, onPtr, keepMain, keepPtr, keepNone, Basic, local, assign, field, setField, form, literal, nil, root, setRoot, retract, binary, samePtr, unary, Ins, basic, jump, branch, branchKeep, call, return, enter, exit, raise, after, entry, insAt, paramsMain, paramsPtr}
+use Rattle.model.specs.File.{onMain, onPtr, keepMain, keepPtr, keepNone, Basic, local, assign, field, setField, make, form, literal, nil, root, setRoot, retract, binary, samePtr, unary, Ins, basic, jump, branch, branchKeep, call, return, enter, exit, raise, after, entry, insAt, paramsMain, paramsPtr}
 use Rattle.model.specs.Heap.{markOf, rootOf, inPtrs, inPlain}
-use Rattle.model.specs.Control.{Machine, recOf, recordWords, mainBase, ptrBase}
+use Rattle.model.specs.Control.{Machine, running, recordWords}
 use Rattle.model.specs.Moves.{mtop, ptop, mainWord, ptrWord}
 use Rattle.model.specs.Instructions.{callTests}
 use Rattle.model.specs.declared.Value.{Value}
@@ -38,10 +38,10 @@ onValue Outside plan = OutOfRange
 -- 58 "push heap word 1", 59 "pop into it"; 60, 62, 64 "set the top aside (not 64), drop main and pointer words, put it back";
 -- 140 to 143, 145 "pop B, pop A, push A op B"; 130, 195 to 204 push 1 or 0; 144, 146 on one word; 131 compares two pointers
 unfoldable pub basicPlan : Machine → ℕ → Basic → Plan
-basicPlan m q (local onMain s) = write Main q (mtop m + 1) (ptop m) (mtop m) (wordAt (m .main) (mainBase m + s))
-basicPlan m q (local onPtr s) = write Pointer q (mtop m) (ptop m + 1) (ptop m) (wordAt (m .ptr) (ptrBase m + s))
-basicPlan m q (assign onMain s) = write Main q (mtop m - 1) (ptop m) (mainBase m + s) (mainWord m 1)
-basicPlan m q (assign onPtr s) = write Pointer q (mtop m) (ptop m - 1) (ptrBase m + s) (ptrWord m 1)
+basicPlan m q (local onMain s) = write Main q (mtop m + 1) (ptop m) (mtop m) (wordAt (m .main) (running m .mainBase + s))
+basicPlan m q (local onPtr s) = write Pointer q (mtop m) (ptop m + 1) (ptop m) (wordAt (m .ptr) (running m .ptrBase + s))
+basicPlan m q (assign onMain s) = write Main q (mtop m - 1) (ptop m) (running m .mainBase + s) (mainWord m 1)
+basicPlan m q (assign onPtr s) = write Pointer q (mtop m) (ptop m - 1) (running m .ptrBase + s) (ptrWord m 1)
 basicPlan m q (field onMain s) =
     onObject (ptrWord m 1) (inPlain (m .heap) (ptrWord m 1) s)
     (write Read q (mtop m + 1) (ptop m - 1) (mtop m) (wordAt (m .heap) (ptrWord m 1 + s)))
@@ -54,7 +54,7 @@ basicPlan m q (setField onMain s) =
 basicPlan m q (setField onPtr s) =
     onObject (ptrWord m 1) (inPtrs (m .heap) (ptrWord m 1) s)
     (write Heap q (mtop m) (ptop m - 2) (ptrWord m 1 + s) (ptrWord m 2))
-basicPlan m q (form k n) =
+basicPlan m q (make (form k n)) =
     if leb (markOf (m .heap) + (2 + k + n)) (length (m .heap))
     then write View q (mtop m - k) (ptop m - n + 1) (ptop m - n) (markOf (m .heap))
     else HeapFull
@@ -85,7 +85,7 @@ planOf f m q (call n) =
     if all (callTests f m n)
     then write Frame (entry f n) (mtop m) (ptop m) (mtop m - paramsMain f n) (ptop m - paramsPtr f n)
     else NoRoom
-planOf f m q return = write Return (recOf (m .ctl) (m .regs .frame) .w3) (mtop m) (ptop m) 0 0
+planOf f m q return = write Return (running m .returns) (mtop m) (ptop m) 0 0
 planOf f m q (enter s) =
     if leb (m .regs .ctop + recordWords) (length (m .ctl)) then write Handler q (mtop m) (ptop m) 0 0 else NoRoom
 planOf f m q exit = write Close q (mtop m) (ptop m) 0 0
@@ -110,7 +110,7 @@ framePut f m k =
 -- and a return
 abbrev pub returnPut : Machine → Put
 returnPut m =
-    record { into = Return; place = recOf (m .ctl) (m .regs .frame) .w3; mtop = mtop m; ptop = ptop m; at = 0; word = 0 }
+    record { into = Return; place = running m .returns; mtop = mtop m; ptop = ptop m; at = 0; word = 0 }
 
 -- a 160 and a 161
 abbrev pub behindPut : Into → List ℕ → Machine → Put

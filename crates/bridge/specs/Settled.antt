@@ -1,5 +1,5 @@
 -- What a plan comes to: its writes applied, or its exception raised.
-use Prim.Native.Nat.{ℕ, suc, _+_, _-_}
+use Prim.Native.Nat.{ℕ, _-_}
 use mathlib.Core.List.{List}
 use lib.Dec.{eqb}
 use lib.ListN.{set}
@@ -8,99 +8,88 @@ use Rattle.model.specs.Choice.{if_then_else_}
 use Rattle.model.specs.Words.{cut}
 use Rattle.model.specs.File.{operand, after}
 use Rattle.model.specs.Heap.{viewKind, made}
-use Rattle.model.specs.Control.{Machine, machine, rec, recOf, putRec, recordWords, records, regs}
-use Rattle.model.specs.Moves.{mainWord}
-use Rattle.model.specs.Instructions.{finished}
+use Rattle.model.specs.Control.{Machine, handlerOf, running, recordWords, mtopReg, ptopReg, ctopReg, setReg, setMain, setPtr, setCtl, setHeap}
+use Rattle.model.specs.Moves.{mtop, ptop, mainWord, goTo, inFrame, inHandler, cutMain, cutPtr, openFrame, openHandler, finished}
+use Rattle.model.specs.Instructions.{codeOf, outOfRange, nilObject, noSuchWord, heapFull, noRoom}
 use Rattle.model.specs.Step.{Stepped, next, raised}
-use Rattle.model.specs.declared.Regs.{Regs}
 use Rattle.bridge.specs.declared.Into.{Into}
 use Rattle.bridge.specs.declared.Into.the-variants.{Nothing, Main, Pointer, Heap, Read, Drop, DropMain, DropPointer, View, Frame, Return, Handler, Close}
 use Rattle.bridge.specs.declared.Put.{Put}
 use Rattle.bridge.specs.declared.Plan.{Plan}
 use Rattle.bridge.specs.declared.Plan.the-variants.{Write, OutOfRange, NilObject, NoSuchWord, HeapFull, NoRoom, Thrown}
 
--- a stack cut to its new top, and one with a word written then
-abbrev pub mainCut : Put → Machine → List ℕ
-mainCut p m = cut (p .mtop) (m .main)
-
-abbrev pub ptrCut : Put → Machine → List ℕ
-ptrCut p m = cut (p .ptop) (m .ptr)
-
--- the registers after an instruction that leaves the control stack as it is
-abbrev pub onward : Put → Machine → Regs
-onward p m = regs (p .place) (m .regs .frame) (m .regs .handler) (p .mtop) (p .ptop) (m .regs .ctop) (m .regs .state)
-
--- the stacks are cut; then a word of the main stack is written, or of the pointer stack
+-- the stacks are cut, and the place is the next one
 abbrev pub cutOnly : Put → Machine → Machine
-cutOnly p m = machine (onward p m) (mainCut p m) (ptrCut p m) (m .ctl) (m .heap)
+cutOnly p m = goTo (p .place) (cutMain (p .mtop) (cutPtr (p .ptop) m))
 
+-- then a word of the main stack is written, of the pointer stack, of the heap
 abbrev pub mainSet : Put → Machine → Machine
-mainSet p m = machine (onward p m) (set (mainCut p m) (p .at) (p .word)) (ptrCut p m) (m .ctl) (m .heap)
+mainSet p m = setMain (set (cut (p .mtop) (m .main)) (p .at) (p .word)) (cutOnly p m)
 
 abbrev pub ptrSet : Put → Machine → Machine
-ptrSet p m = machine (onward p m) (mainCut p m) (set (ptrCut p m) (p .at) (p .word)) (m .ctl) (m .heap)
+ptrSet p m = setPtr (set (cut (p .ptop) (m .ptr)) (p .at) (p .word)) (cutOnly p m)
+
+abbrev pub heapSet : Put → Machine → Machine
+heapSet p m = setHeap (set (m .heap) (p .at) (p .word)) (cutOnly p m)
 
 -- 36: the words and pointers that are popped, "lowest first"
 abbrev pub formedFrom : Put → Machine → List ℕ
-formedFrom p m = made viewKind (slice (p .at) (m .regs .ptop) (m .ptr)) (slice (p .mtop) (m .regs .mtop) (m .main)) (m .heap)
+formedFrom p m = made viewKind (slice (p .at) (ptop m) (m .ptr)) (slice (p .mtop) (mtop m) (m .main)) (m .heap)
+
+abbrev pub viewSet : Put → Machine → Machine
+viewSet p m = setHeap (formedFrom p m) (ptrSet p m)
 
 -- 72: a new frame, which the 72 at the machine's place opens
 abbrev pub called : List ℕ → Put → Machine → Machine
 called f p m =
-    machine
-    (regs (p .place) (suc (records m)) (m .regs .handler) (p .mtop) (p .ptop) (m .regs .ctop + recordWords) (m .regs .state))
-    (m .main)
-    (m .ptr)
-    (putRec (m .ctl) (records m)
-    (rec (p .at) (p .word) (operand f (m .regs .place)) (after f (m .regs .place)) (m .regs .frame)))
-    (m .heap)
+    goTo (p .place)
+    (openFrame
+    (record {
+      mainBase = p .at;
+      ptrBase = p .word;
+      proc = operand f (m .regs .place);
+      returns = after f (m .regs .place);
+      caller = m .regs .frame;
+    })
+    (setReg mtopReg (p .mtop) (setReg ptopReg (p .ptop) m)))
+
+-- the topmost control record goes
+abbrev pub popRec : Machine → Machine
+popRec m = setReg ctopReg (m .regs .ctop - recordWords) (setCtl (cut (m .regs .ctop - recordWords) (m .ctl)) m)
 
 -- 73: leave the frame; from the first one the machine is finished
 abbrev pub returned : Put → Machine → Machine
-returned p m =
-    machine
-    (regs (p .place) (recOf (m .ctl) (m .regs .frame) .w4) (m .regs .handler) (m .regs .mtop) (m .regs .ptop)
-    (m .regs .ctop - recordWords) (m .regs .state))
-    (m .main)
-    (m .ptr)
-    (cut (m .regs .ctop - recordWords) (m .ctl))
-    (m .heap)
+returned p m = goTo (p .place) (inFrame (running m .caller) (popRec m))
 
 -- 160: a handler's record; 161: the innermost handler's record goes. In a sound state that is the topmost record, as the frame's is
 -- at 73
 abbrev pub opened : Put → Machine → Machine
 opened p m =
-    machine
-    (regs (p .place) (m .regs .frame) (suc (records m)) (m .regs .mtop) (m .regs .ptop) (m .regs .ctop + recordWords)
-    (m .regs .state))
-    (m .main)
-    (m .ptr)
-    (putRec (m .ctl) (records m)
-    (rec (m .regs .place) (m .regs .mtop) (m .regs .ptop) (m .regs .frame) (m .regs .handler)))
-    (m .heap)
+    goTo (p .place)
+    (openHandler
+    (record {
+      opened = m .regs .place;
+      mainTop = mtop m;
+      ptrTop = ptop m;
+      frame = m .regs .frame;
+      outer = m .regs .handler;
+    })
+    m)
 
 abbrev pub closed : Put → Machine → Machine
-closed p m =
-    machine
-    (regs (p .place) (m .regs .frame) (recOf (m .ctl) (m .regs .handler) .w4) (m .regs .mtop) (m .regs .ptop)
-    (m .regs .ctop - recordWords) (m .regs .state))
-    (m .main)
-    (m .ptr)
-    (cut (m .regs .ctop - recordWords) (m .ctl))
-    (m .heap)
+closed p m = goTo (p .place) (inHandler (handlerOf (m .ctl) (m .regs .handler) .outer) (popRec m))
 
 -- what a plan writes
 unfoldable pub applyInto : List ℕ → Into → Put → Machine → Machine
 applyInto f Nothing p m = cutOnly p m
 applyInto f Main p m = mainSet p m
 applyInto f Pointer p m = ptrSet p m
-applyInto f Heap p m = machine (onward p m) (mainCut p m) (ptrCut p m) (m .ctl) (set (m .heap) (p .at) (p .word))
+applyInto f Heap p m = heapSet p m
 applyInto f Read p m = mainSet p m
 applyInto f Drop p m = cutOnly p m
 applyInto f DropMain p m = mainSet p m
 applyInto f DropPointer p m = ptrSet p m
-applyInto f View p m =
-    machine (onward p m) (mainCut p m) (set (ptrCut p m) (p .at) (p .word)) (m .ctl) (formedFrom p m)
+applyInto f View p m = viewSet p m
 applyInto f Frame p m = called f p m
 applyInto f Return p m = if eqb (m .regs .frame) 1 then finished m else returned p m
 applyInto f Handler p m = opened p m
@@ -109,12 +98,12 @@ applyInto f Close p m = closed p m
 unfoldable pub applied : List ℕ → Put → Machine → Machine
 applied f p m = applyInto f (p .into) p m
 
--- the exceptions' codes; 162 raises the word that it pops
+-- the exceptions; 162 raises the word that it pops
 unfoldable pub settle : List ℕ → Machine → Plan → Stepped
 settle f m (Write p) = next (applied f p m)
-settle f m OutOfRange = raised f m 1
-settle f m NilObject = raised f m 2
-settle f m NoSuchWord = raised f m 3
-settle f m HeapFull = raised f m 4
-settle f m NoRoom = raised f m 5
+settle f m OutOfRange = raised f m (codeOf outOfRange)
+settle f m NilObject = raised f m (codeOf nilObject)
+settle f m NoSuchWord = raised f m (codeOf noSuchWord)
+settle f m HeapFull = raised f m (codeOf heapFull)
+settle f m NoRoom = raised f m (codeOf noRoom)
 settle f m Thrown = raised f m (mainWord m 1)

@@ -17,8 +17,8 @@ pub enum Into {
     Close, // takes the innermost handler's record away
 }
 
-// The writes of an instruction. Both stacks are cut to their new tops, then one word or none is written; what opens or closes a record of the
-// control stack leaves both stacks as they are.
+// The writes of an instruction. Both stacks are cut to their new tops, then a word is written, a new object with its pointer, or nothing; what
+// opens or closes a record of the control stack leaves both stacks as they are.
 pub struct Put {
     pub into: Into,
     pub place: usize, // the next place

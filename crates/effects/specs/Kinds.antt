@@ -5,7 +5,7 @@ use native.Mathlib.Nat.{eq-or-lt-of-le}
 use mathlib.Core.List.{List, [], _∷_, _++_, map}
 use mathlib.Core.Logic.{_⊎_, ⊎-elim}
 use mathlib.Core.Path.{_≡_, refl, subst}
-use Rattle.model.specs.File.{bodies, bodyOf, raise, insOf}
+use Rattle.model.specs.File.{codes, bodies, bodyOf, raise, insOf}
 use Rattle.code.specs.Kinds.{OneOf, NoneOf, every, ins-other}
 
 -- what holds at each of n numbers from a on
@@ -22,15 +22,15 @@ each P (suc n) a h k low high =
     (eq-or-lt-of-le low)
 
 pub body-jumps : (k : ℕ) → 1 ≤ k → k ≤ 6 → bodyOf k ≡ 2
-unfolding bodyOf bodies
+unfolding bodyOf bodies codes
 body-jumps k low high = each (λ n. bodyOf n ≡ 2) 6 1 (refl, (refl, (refl, (refl, (refl, (refl, tt)))))) k low (omega arith)
 
 pub body-locals : (k : ℕ) → 20 ≤ k → k ≤ 23 → bodyOf k ≡ 2
-unfolding bodyOf bodies
+unfolding bodyOf bodies codes
 body-locals k low high = each (λ n. bodyOf n ≡ 2) 4 20 (refl, (refl, (refl, (refl, tt)))) k low (omega arith)
 
 pub body-blocks : (k : ℕ) → OneOf (36 ∷ 60 ∷ 62 ∷ 64 ∷ []) k → bodyOf k ≡ 4
-unfolding bodyOf bodies
+unfolding bodyOf bodies codes
 body-blocks k o = every (λ n. bodyOf n ≡ 4) (36 ∷ 60 ∷ 62 ∷ 64 ∷ []) k (refl, (refl, (refl, (refl, tt)))) o
 
 -- the codes of the arms that are ranges

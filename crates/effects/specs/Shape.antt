@@ -4,7 +4,7 @@ use Prim.Native.Nat.{ℕ, suc}
 use mathlib.Core.Bool.{Bool, true}
 use mathlib.Core.List.{List}
 use lib.Dec.{leb}
-use Rattle.model.specs.File.{onMain, onPtr, Basic, local, assign, field, setField, form, literal, nil, root, setRoot, retract, binary, samePtr, unary, Ins, basic, jump, branch, branchKeep, call, return, enter, exit, raise, procs}
+use Rattle.model.specs.File.{onMain, onPtr, Basic, local, assign, field, setField, make, literal, nil, root, setRoot, retract, binary, samePtr, unary, Ins, basic, jump, branch, branchKeep, call, return, enter, exit, raise, procs}
 use Rattle.model.specs.Checker.{Effect, effect, basicEffect, effectOf, handlerAt}
 use Rattle.effects.specs.declared.Way.{Way}
 use Rattle.effects.specs.declared.Way.the-variants.{Next, Jump, Branch, Keep, Open, Close, Return, Raise}
@@ -32,7 +32,7 @@ words (assign onMain s) = (suc s, 0)
 words (assign onPtr s) = (0, suc s)
 words (field d s) = (0, 0)
 words (setField d s) = (0, 0)
-words (form k n) = (0, 0)
+words (make k) = (0, 0)
 words (literal w) = (0, 0)
 words nil = (0, 0)
 words root = (0, 0)

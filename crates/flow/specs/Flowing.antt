@@ -14,7 +14,7 @@ use Rattle.model.specs.Choice.{if_then_else_, Mem, member}
 use Rattle.model.specs.File.{byteAt, after, whole?, Records, starts, recordsOf, startsIn, isHead, select, instructions, heads, procs, headOf, procAt, mostMain}
 use Rattle.model.specs.Checker.{none, state, unset, isSet, Known, stateAt, firsts, own, Step, bad, next, refused, passed, goOn, take, takeAll, flow, mapFrom}
 use Rattle.exact.specs.Pass.{Set}
-use Rattle.exact.specs.Walk.{Walk, walk, walk-above, records-walk, after-above, after-head, head-in, first-head, member-in, in-member, instruction-below, HeadsHold, select-in, getD-in, procs-some, in-select}
+use Rattle.exact.specs.Walk.{instructions-others, instructions-are, Walk, walk, walk-above, records-walk, after-above, after-head, head-in, first-head, member-in, in-member, instruction-below, HeadsHold, select-in, getD-in, procs-some, in-select}
 use Rattle.exact.specs.Flow.{own-in, keeps-shape, flow-keeps, flow-rest}
 use Rattle.scan.specs.Rest.{restOf, rest-end, rest-inv, whole-inside, records-first}
 use Rattle.scan.specs.Marks.{stateIn}
@@ -67,7 +67,7 @@ module _ (f m₀ table : List ℕ) (k : ℕ) (B : Begun f m₀ table k) where
   ps = B .places
 
   pub flowing-start : Flowing f m₀ table k 0 0 0 0
-  unfolding heads flow instructions
+  unfolding heads flow
   flowing-start =
       let e = B .records in
       let z = first-head f (B .places) e in
@@ -79,7 +79,7 @@ module _ (f m₀ table : List ℕ) (k : ℕ) (B : Begun f m₀ table k) where
         most-c = omega arith;
         known = firsts f k;
         good = B .good;
-        so-far = rw (e, ← B .placed .count);
+        so-far = rw (instructions-are f (B .places) e, ← B .placed .count);
         in-proc = inl refl;
         low = omega arith;
       }
@@ -182,10 +182,11 @@ module _ (f m₀ table : List ℕ) (k : ℕ) (B : Begun f m₀ table k) where
       heads-are = ap (select (isHead f)) (next-is .1 .2) ∙ rw (ne-eqb (byteAt f p) 240 other)
 
       pub flowing-ins : Mem p (instructions f)
-      unfolding instructions isHead
+      unfolding isHead
       flowing-ins =
-          in-select (λ q. not (isHead f q)) (startsIn (recordsOf f)) p (F .part p (rw (next-is .1 .2) (inl refl)))
-          (rw (ne-eqb (byteAt f p) 240 other))
+          rw (instructions-others f)
+          (in-select (λ q. not (isHead f q)) (startsIn (recordsOf f)) p (F .part p (rw (next-is .1 .2) (inl refl)))
+          (rw (ne-eqb (byteAt f p) 240 other)))
 
       -- the procedure that p lies in
       record InProc : Type 0 where

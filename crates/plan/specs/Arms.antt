@@ -1,5 +1,5 @@
 -- What `Ready` gives to each family of codes: each is a consequence of its fields at the instruction that the code stands for.
-use Prim.Native.Nat.{ℕ, _+_, _-_, _<_, _≤_}
+use Prim.Native.Nat.{ℕ, suc, _+_, _<_, _≤_}
 use mathlib.Core.List.{List}
 use mathlib.Core.Logic.{_⊎_, inl, inr, ⊎-elim}
 use mathlib.Core.Path.{_≡_, _∙_, refl, ap}
@@ -8,11 +8,13 @@ use lib.ListN.{length}
 use Rattle.model.specs.Words.{wordAt}
 use Rattle.model.specs.File.{byteAt, bodyOf, after, operand, insOf, insAt}
 use Rattle.model.specs.Checker.{effectOf}
-use Rattle.model.specs.Control.{Machine, mainBase, ptrBase}
+use Rattle.model.specs.Control.{Machine, running}
 use Rattle.model.specs.Moves.{mtop, ptop}
 use Rattle.heap.specs.Stores.{Lies, object-lies}
 use Rattle.code.specs.Bodies.{after-above}
-use Rattle.plans.specs.Given.{Body, Within, Record, Callee}
+use Rattle.bridge.specs.Planned.{planAt}
+use Rattle.bridge.specs.declared.Plan.{Plan}
+use Rattle.plans.specs.Given.{planned, Body, Within, Record, Callee}
 use Rattle.plan.specs.Ready.{Ready, placeOf, here}
 
 -- the code at the place
@@ -59,12 +61,12 @@ module _ {f table : List ℕ} {m : Machine} (R : Ready f table m) where
   unfolding insAt
   is-at k e = ap (insOf f (placeOf m)) e
 
-  pub main-word : (codeAt f m ≡ 20) ⊎ (codeAt f m ≡ 22) → mainBase m + operand f (placeOf m) < mtop m
+  pub main-word : (codeAt f m ≡ 20) ⊎ (codeAt f m ≡ 22) → running m .mainBase + operand f (placeOf m) < mtop m
   unfolding insOf
   main-word (inl e) = R .local-main (operand f (placeOf m)) (is-at 20 e)
   main-word (inr e) = omega (arith, R .assign-main (operand f (placeOf m)) (is-at 22 e))
 
-  pub ptr-word : (codeAt f m ≡ 21) ⊎ (codeAt f m ≡ 23) → ptrBase m + operand f (placeOf m) < ptop m
+  pub ptr-word : (codeAt f m ≡ 21) ⊎ (codeAt f m ≡ 23) → running m .ptrBase + operand f (placeOf m) < ptop m
   unfolding insOf
   ptr-word (inl e) = R .local-ptr (operand f (placeOf m)) (is-at 21 e)
   ptr-word (inr e) = omega (arith, R .assign-ptr (operand f (placeOf m)) (is-at 23 e))
@@ -85,3 +87,12 @@ module _ {f table : List ℕ} {m : Machine} (R : Ready f table m) where
         main = pops-main 72 _ e refl;
         ptr = pops-ptr 72 _ e refl;
       }
+
+  -- the machine that is ready
+  abbrev pub subject : Machine
+  subject = m
+
+  -- what is planned at the code k is the plan at the place
+  pub plan-here : {r : Plan} (k n : ℕ) → codeAt f m ≡ k → bodyOf k ≡ n → r ≡ planned f m (suc n) k → r ≡ planAt f m
+  unfolding planned planAt after insAt
+  plan-here k n e b p = let s : placeOf m + suc n ≡ placeOf m + 1 + bodyOf k = omega arith in p ∙ rw (e, s)

@@ -1,17 +1,14 @@
 -- What the machine gives when it plans a step, `Ready`: of a file that the checker passed and a sound state of it.
-use Prim.Native.Nat.{ℕ, suc, _+_, _-_, _*_, _<_, _≤_}
+use Prim.Native.Nat.{ℕ, _+_, _-_, _*_, _<_, _≤_}
 use mathlib.Core.List.{List}
 use mathlib.Core.Path.{_≡_}
-use native.Mathlib.Omega.{arith}
 use lib.ListN.{length, getD}
 use Rattle.model.specs.Words.{wordAt}
-use Rattle.model.specs.File.{Ins, basic, local, assign, onMain, onPtr, call, byteAt, bodyOf, after, procs, headOf, insAt}
+use Rattle.model.specs.File.{Ins, basic, local, assign, onMain, onPtr, call, after, procs, headOf, insAt}
 use Rattle.model.specs.Checker.{effectOf}
 use Rattle.model.specs.Heap.{Heap, Pointer}
-use Rattle.model.specs.Control.{Machine, mainBase, ptrBase}
+use Rattle.model.specs.Control.{Machine, running, recordWords}
 use Rattle.model.specs.Moves.{mtop, ptop}
-use Rattle.bridge.specs.Planned.{planAt}
-use Rattle.plans.specs.Given.{planned}
 
 -- where the machine is
 abbrev pub placeOf : Machine → ℕ
@@ -47,19 +44,14 @@ pub record Ready (f table : List ℕ) (m : Machine) : Type 0 where
   pub push-main : mtop m - effectOf f (here f m) .popMain + effectOf f (here f m) .pushMain ≤ length (m .main)
   pub push-ptr : ptop m - effectOf f (here f m) .popPtr + effectOf f (here f m) .pushPtr ≤ length (m .ptr)
   -- so is the frame word that it names: refusal 7
-  pub local-main : (s : ℕ) → here f m ≡ basic (local onMain s) → mainBase m + s < mtop m
-  pub local-ptr : (s : ℕ) → here f m ≡ basic (local onPtr s) → ptrBase m + s < ptop m
-  pub assign-main : (s : ℕ) → here f m ≡ basic (assign onMain s) → mainBase m + s < mtop m - 1
-  pub assign-ptr : (s : ℕ) → here f m ≡ basic (assign onPtr s) → ptrBase m + s < ptop m - 1
+  pub local-main : (s : ℕ) → here f m ≡ basic (local onMain s) → running m .mainBase + s < mtop m
+  pub local-ptr : (s : ℕ) → here f m ≡ basic (local onPtr s) → running m .ptrBase + s < ptop m
+  pub assign-main : (s : ℕ) → here f m ≡ basic (assign onMain s) → running m .mainBase + s < mtop m - 1
+  pub assign-ptr : (s : ℕ) → here f m ≡ basic (assign onPtr s) → running m .ptrBase + s < ptop m - 1
   -- the running frame has a record: refusal 12
   pub frame-some : 1 ≤ m .regs .frame
-  pub frame-in : 5 * (m .regs .frame) ≤ m .regs .ctop
+  pub frame-in : recordWords * m .regs .frame ≤ m .regs .ctop
   -- the heap is sound with these objects, and the pointer stack's words are pointers: refusals 11 and 12
   pub objects : List ℕ
   pub heap : Heap (m .heap) objects
   pub pointers : (i : ℕ) → Pointer objects (wordAt (m .ptr) i)
-
--- the plan at the place is that of its code
-pub plan-is : (f : List ℕ) (m : Machine) (k n : ℕ) → byteAt f (placeOf m) ≡ k → bodyOf k ≡ n → planned f m (suc n) k ≡ planAt f m
-unfolding planned planAt after insAt
-plan-is f m k n e b = let s : placeOf m + suc n ≡ placeOf m + 1 + bodyOf k = omega arith in rw (e, s)

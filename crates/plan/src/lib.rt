@@ -3,6 +3,8 @@
 // it as a constant; the compiler makes one jump table of all the matches.
 use bridge::Into;
 use bridge::Plan;
+use model::MAIN_BASE;
+use model::PTR_BASE;
 use model::RECORD;
 use model::Regs;
 ghost use mathlib.Core.Path.{_≡_};
@@ -12,7 +14,7 @@ ghost use Prim.Native.Nat.{ℕ, suc, _+_, _-_, _<_, _≤_};
 ghost use lib.ListN.{length};
 ghost use Rattle.model.specs.Words.{wordAt};
 ghost use Rattle.model.specs.File as model;
-ghost use Rattle.model.specs.Control.{machine, recOf};
+ghost use Rattle.model.specs.Control.{Machine, frameOf, setRegs, setMain, setPtr, setCtl, setHeap};
 ghost use Rattle.bridge.specs.Planned.{planAt};
 ghost use Rattle.code.specs.Kinds.{NoneOf};
 ghost use Rattle.code.specs.Parts.{Small};
@@ -32,12 +34,12 @@ fn frame_word(file: &[u8], ctl: &[u32], place: usize, base: usize) -> usize
 // 20 and 22: word s of the frame.
 fn main_locals(file: &[u8], main: &[u32], ctl: &[u32], regs: Regs, kind: u8) -> Plan
     requires { ⌜ Body (now file) (regs .place) 2 × Within (now main) (regs .mtop) × Record (now ctl) (regs .frame)
-        × (recOf (now ctl) (regs .frame) .w0 + model.operand (now file) (regs .place) < regs .mtop) × ((kind ≡ 20) ⊎ (kind ≡ 22)) ⌝ }
-    ensures { λ r. ⌜ ((p h : List ℕ) → r ≡ planned (now (file .entry)) (machine regs (now (main .entry)) p (now (ctl .entry)) h) 3 kind) ⌝ }
+        × (frameOf (now ctl) (regs .frame) .mainBase + model.operand (now file) (regs .place) < regs .mtop) × ((kind ≡ 20) ⊎ (kind ≡ 22)) ⌝ }
+    ensures { λ r. ⌜ ((m : Machine) → r ≡ planned (now (file .entry)) (setRegs regs (setMain (now (main .entry)) (setCtl (now (ctl .entry)) m))) 3 kind) ⌝ }
 {
     let place = regs.place;
     let top = regs.mtop;
-    let at = frame_word(file, ctl, place, RECORD * (regs.frame - 1));
+    let at = frame_word(file, ctl, place, RECORD * (regs.frame - 1) + MAIN_BASE);
     if kind == 20 {
         return plans::writes(Into::Main, place + 3, top + 1, regs.ptop, top, main[at]);
     }
@@ -48,12 +50,12 @@ fn main_locals(file: &[u8], main: &[u32], ctl: &[u32], regs: Regs, kind: u8) -> 
 // 21 and 23: the same on the pointer stack.
 fn ptr_locals(file: &[u8], ptr: &[u32], ctl: &[u32], regs: Regs, kind: u8) -> Plan
     requires { ⌜ Body (now file) (regs .place) 2 × Within (now ptr) (regs .ptop) × Record (now ctl) (regs .frame)
-        × (recOf (now ctl) (regs .frame) .w1 + model.operand (now file) (regs .place) < regs .ptop) × ((kind ≡ 21) ⊎ (kind ≡ 23)) ⌝ }
-    ensures { λ r. ⌜ ((m h : List ℕ) → r ≡ planned (now (file .entry)) (machine regs m (now (ptr .entry)) (now (ctl .entry)) h) 3 kind) ⌝ }
+        × (frameOf (now ctl) (regs .frame) .ptrBase + model.operand (now file) (regs .place) < regs .ptop) × ((kind ≡ 21) ⊎ (kind ≡ 23)) ⌝ }
+    ensures { λ r. ⌜ ((m : Machine) → r ≡ planned (now (file .entry)) (setRegs regs (setPtr (now (ptr .entry)) (setCtl (now (ctl .entry)) m))) 3 kind) ⌝ }
 {
     let place = regs.place;
     let top = regs.ptop;
-    let at = frame_word(file, ctl, place, RECORD * (regs.frame - 1) + 1);
+    let at = frame_word(file, ctl, place, RECORD * (regs.frame - 1) + PTR_BASE);
     if kind == 21 {
         return plans::writes(Into::Pointer, place + 3, regs.mtop, top + 1, top, ptr[at]);
     }
@@ -66,7 +68,7 @@ fn plain_fields(file: &[u8], main: &[u32], ptr: &[u32], heap: &[u32], regs: Regs
     requires { ⌜ Body (now file) (regs .place) 2 × Within (now main) (regs .mtop) × Within (now ptr) (regs .ptop) × (1 ≤ regs .ptop)
         × ((wordAt (now ptr) (regs .ptop - 1) ≡ 0) ⊎ Lies (now heap) (wordAt (now ptr) (regs .ptop - 1)))
         × (kind ≡ 32 → 1 ≤ regs .mtop) × ((kind ≡ 30) ⊎ (kind ≡ 32)) ⌝ }
-    ensures { λ r. ⌜ ((c : List ℕ) → r ≡ planned (now (file .entry)) (machine regs (now (main .entry)) (now (ptr .entry)) c (now (heap .entry))) 3 kind) ⌝ }
+    ensures { λ r. ⌜ ((m : Machine) → r ≡ planned (now (file .entry)) (setRegs regs (setMain (now (main .entry)) (setPtr (now (ptr .entry)) (setHeap (now (heap .entry)) m)))) 3 kind) ⌝ }
 {
     let place = regs.place;
     let top = regs.ptop - 1;
@@ -98,7 +100,7 @@ fn ptr_fields(file: &[u8], ptr: &[u32], heap: &[u32], regs: Regs, kind: u8) -> P
     requires { ⌜ Body (now file) (regs .place) 2 × Within (now ptr) (regs .ptop) × (1 ≤ regs .ptop)
         × ((wordAt (now ptr) (regs .ptop - 1) ≡ 0) ⊎ Lies (now heap) (wordAt (now ptr) (regs .ptop - 1)))
         × (kind ≡ 33 → 2 ≤ regs .ptop) × ((kind ≡ 31) ⊎ (kind ≡ 33)) ⌝ }
-    ensures { λ r. ⌜ ((m c : List ℕ) → r ≡ planned (now (file .entry)) (machine regs m (now (ptr .entry)) c (now (heap .entry))) 3 kind) ⌝ }
+    ensures { λ r. ⌜ ((m : Machine) → r ≡ planned (now (file .entry)) (setRegs regs (setPtr (now (ptr .entry)) (setHeap (now (heap .entry)) m))) 3 kind) ⌝ }
 {
     let place = regs.place;
     let top = regs.ptop - 1;
@@ -129,7 +131,7 @@ fn ptr_fields(file: &[u8], ptr: &[u32], heap: &[u32], regs: Regs, kind: u8) -> P
 fn forms(file: &[u8], heap: &[u32], regs: Regs) -> Plan
     requires { ⌜ Body (now file) (regs .place) 4 × (model.operand (now file) (regs .place) ≤ regs .mtop)
         × (model.operand2 (now file) (regs .place) ≤ regs .ptop) × (regs .mtop ≤ 4096) × (regs .ptop ≤ 4096) × (2 ≤ length (now heap)) ⌝ }
-    ensures { λ r. ⌜ ((m p c : List ℕ) → r ≡ planned (now (file .entry)) (machine regs m p c (now (heap .entry))) 5 36) ⌝ }
+    ensures { λ r. ⌜ ((m : Machine) → r ≡ planned (now (file .entry)) (setRegs regs (setHeap (now (heap .entry)) m)) 5 36) ⌝ }
 {
     let place = regs.place;
     let plain = code::operand(file, place);
@@ -145,7 +147,7 @@ fn forms(file: &[u8], heap: &[u32], regs: Regs) -> Plan
 // 54 and 56: a literal.
 fn literals(file: &[u8], regs: Regs, kind: u8) -> Plan
     requires { ⌜ Body (now file) (regs .place) (model.bodyOf kind) × (regs .mtop ≤ 4096) × ((kind ≡ 54) ⊎ (kind ≡ 56)) ⌝ }
-    ensures { λ r. ⌜ ((m p c h : List ℕ) → r ≡ planned (now (file .entry)) (machine regs m p c h) (suc (model.bodyOf kind)) kind) ⌝ }
+    ensures { λ r. ⌜ ((m : Machine) → r ≡ planned (now (file .entry)) (setRegs regs m) (suc (model.bodyOf kind)) kind) ⌝ }
 {
     let place = regs.place;
     let top = regs.mtop;
@@ -167,7 +169,7 @@ fn literals(file: &[u8], regs: Regs, kind: u8) -> Plan
 // 59: into the root.
 fn set_root(ptr: &[u32], regs: Regs) -> Plan
     requires { ⌜ (regs .place < 4096) × Within (now ptr) (regs .ptop) × (1 ≤ regs .ptop) ⌝ }
-    ensures { λ r. ⌜ ((f m c h : List ℕ) → r ≡ planned f (machine regs m (now (ptr .entry)) c h) 1 59) ⌝ }
+    ensures { λ r. ⌜ ((f : List ℕ) (m : Machine) → r ≡ planned f (setRegs regs (setPtr (now (ptr .entry)) m)) 1 59) ⌝ }
 {
     let top = regs.ptop - 1;
     plans::writes(Into::Heap, regs.place + 1, regs.mtop, top, 1, ptr[top])
@@ -179,7 +181,7 @@ fn retracts(file: &[u8], main: &[u32], ptr: &[u32], regs: Regs, kind: u8) -> Pla
         × (model.operand (now file) (regs .place) ≤ regs .mtop) × (model.operand2 (now file) (regs .place) ≤ regs .ptop)
         × (kind ≡ 60 → model.operand (now file) (regs .place) < regs .mtop)
         × (kind ≡ 62 → model.operand2 (now file) (regs .place) < regs .ptop) × ((kind ≡ 60) ⊎ ((kind ≡ 62) ⊎ (kind ≡ 64))) ⌝ }
-    ensures { λ r. ⌜ ((c h : List ℕ) → r ≡ planned (now (file .entry)) (machine regs (now (main .entry)) (now (ptr .entry)) c h) 5 kind) ⌝ }
+    ensures { λ r. ⌜ ((m : Machine) → r ≡ planned (now (file .entry)) (setRegs regs (setMain (now (main .entry)) (setPtr (now (ptr .entry)) m))) 5 kind) ⌝ }
 {
     let place = regs.place;
     let m = regs.mtop - code::operand(file, place);
@@ -200,7 +202,7 @@ fn retracts(file: &[u8], main: &[u32], ptr: &[u32], regs: Regs, kind: u8) -> Pla
 // 131: two pointers are the same.
 fn same_ptr(ptr: &[u32], regs: Regs) -> Plan
     requires { ⌜ (regs .place < 4096) × (regs .mtop ≤ 4096) × Within (now ptr) (regs .ptop) × (2 ≤ regs .ptop) ⌝ }
-    ensures { λ r. ⌜ ((f m c h : List ℕ) → r ≡ planned f (machine regs m (now (ptr .entry)) c h) 1 131) ⌝ }
+    ensures { λ r. ⌜ ((f : List ℕ) (m : Machine) → r ≡ planned f (setRegs regs (setPtr (now (ptr .entry)) m)) 1 131) ⌝ }
 {
     let second = regs.ptop - 1;
     let first = regs.ptop - 2;
@@ -226,9 +228,9 @@ fn plan_objects(
     regs: Regs,
     kind: u8,
 ) -> Plan
-    requires { ⌜ Ready (now file) (now table) (machine regs (now main) (now ptr) (now ctl) (now heap))
+    requires { ⌜ Ready (now file) (now table) (record { regs = regs; main = now main; ptr = now ptr; ctl = now ctl; heap = now heap })
         × (model.byteAt (now file) (regs .place) ≡ kind) × NoneOf wordArms kind × NoneOf localArms kind × NoneOf atArms kind ⌝ }
-    ensures { λ r. ⌜ r ≡ planAt (now (file .entry)) (machine regs (now (main .entry)) (now (ptr .entry)) (now (ctl .entry)) (now (heap .entry))) ⌝ }
+    ensures { λ r. ⌜ r ≡ planAt (now (file .entry)) (record { regs = regs; main = now (main .entry); ptr = now (ptr .entry); ctl = now (ctl .entry); heap = now (heap .entry) }) ⌝ }
 {
     match kind {
         30 | 32 => match kind {
@@ -264,9 +266,9 @@ fn plan_words(
     regs: Regs,
     kind: u8,
 ) -> Plan
-    requires { ⌜ Ready (now file) (now table) (machine regs (now main) (now ptr) (now ctl) (now heap))
+    requires { ⌜ Ready (now file) (now table) (record { regs = regs; main = now main; ptr = now ptr; ctl = now ctl; heap = now heap })
         × (model.byteAt (now file) (regs .place) ≡ kind) × NoneOf localArms kind × NoneOf atArms kind ⌝ }
-    ensures { λ r. ⌜ r ≡ planAt (now (file .entry)) (machine regs (now (main .entry)) (now (ptr .entry)) (now (ctl .entry)) (now (heap .entry))) ⌝ }
+    ensures { λ r. ⌜ r ≡ planAt (now (file .entry)) (record { regs = regs; main = now (main .entry); ptr = now (ptr .entry); ctl = now (ctl .entry); heap = now (heap .entry) }) ⌝ }
 {
     match kind {
         130 | 195 | 198 | 201 | 204 => match kind {
@@ -304,9 +306,9 @@ fn plan_locals(
     regs: Regs,
     kind: u8,
 ) -> Plan
-    requires { ⌜ Ready (now file) (now table) (machine regs (now main) (now ptr) (now ctl) (now heap))
+    requires { ⌜ Ready (now file) (now table) (record { regs = regs; main = now main; ptr = now ptr; ctl = now ctl; heap = now heap })
         × (model.byteAt (now file) (regs .place) ≡ kind) × NoneOf atArms kind ⌝ }
-    ensures { λ r. ⌜ r ≡ planAt (now (file .entry)) (machine regs (now (main .entry)) (now (ptr .entry)) (now (ctl .entry)) (now (heap .entry))) ⌝ }
+    ensures { λ r. ⌜ r ≡ planAt (now (file .entry)) (record { regs = regs; main = now (main .entry); ptr = now (ptr .entry); ctl = now (ctl .entry); heap = now (heap .entry) }) ⌝ }
 {
     match kind {
         20 | 22 => match kind {
@@ -336,8 +338,8 @@ pub fn plan_at(
     heap: &[u32],
     regs: Regs,
 ) -> Plan
-    requires { ⌜ Ready (now file) (now table) (machine regs (now main) (now ptr) (now ctl) (now heap)) ⌝ }
-    ensures { λ r. ⌜ r ≡ planAt (now (file .entry)) (machine regs (now (main .entry)) (now (ptr .entry)) (now (ctl .entry)) (now (heap .entry))) ⌝ }
+    requires { ⌜ Ready (now file) (now table) (record { regs = regs; main = now main; ptr = now ptr; ctl = now ctl; heap = now heap }) ⌝ }
+    ensures { λ r. ⌜ r ≡ planAt (now (file .entry)) (record { regs = regs; main = now (main .entry); ptr = now (ptr .entry); ctl = now (ctl .entry); heap = now (heap .entry) }) ⌝ }
 {
     let place = regs.place;
     let kind = file[place];

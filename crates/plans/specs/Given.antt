@@ -9,7 +9,7 @@ use borrow.Author.Tests.{eq-eqb, ne-eqb, le-leb, lt-leb}
 use Rattle.model.specs.Choice.{if_then_else_, most, all}
 use Rattle.model.specs.Words.{truth}
 use Rattle.model.specs.File.{call, operand, headOf, entry, insOf, paramsMain, paramsPtr, mostMain, mostPtr}
-use Rattle.model.specs.Control.{Machine}
+use Rattle.model.specs.Control.{Machine, recordWords}
 use Rattle.model.specs.Moves.{mainWord, mtop, ptop}
 use Rattle.bridge.specs.Planned.{write, onValue, planOf}
 use Rattle.model.specs.declared.Regs.{Regs}
@@ -37,7 +37,7 @@ pub record Within (l : List ℕ) (top : ℕ) : Type 0 where
 -- a frame's record
 pub record Record (ctl : List ℕ) (n : ℕ) : Type 0 where
   pub some : 1 ≤ n
-  pub inside : 5 * n ≤ length ctl
+  pub inside : recordWords * n ≤ length ctl
   pub few : length ctl ≤ 1280
 
 -- the procedure that a call names
@@ -95,7 +95,7 @@ numbers {f} {table} {r} s {v} C e H =
 module _ {f : List ℕ} {n h : ℕ} {v : Head} (N : Numbers f n h v) (m : Machine) (q : ℕ) where
   call-is : planOf f m q (call n)
       ≡ (if all (most (mtop m - v .a + v .x) (length (m .main)) ∷ most (ptop m - v .b + v .y) (length (m .ptr))
-      ∷ most (m .regs .ctop + 5) (length (m .ctl)) ∷ [])
+      ∷ most (m .regs .ctop + recordWords) (length (m .ctl)) ∷ [])
       then write Frame (h + 7) (mtop m) (ptop m) (mtop m - v .a) (ptop m - v .b)
       else NoRoom)
   unfolding planOf entry
@@ -108,9 +108,9 @@ module _ {f : List ℕ} {n h : ℕ} {v : Head} (N : Numbers f n h v) (m : Machin
   no-ptr s t = rw (call-is, le-leb _ _ s, lt-leb _ _ t)
 
   pub no-ctl : mtop m - v .a + v .x ≤ length (m .main) → ptop m - v .b + v .y ≤ length (m .ptr) →
-      length (m .ctl) < m .regs .ctop + 5 → NoRoom ≡ planOf f m q (call n)
+      length (m .ctl) < m .regs .ctop + recordWords → NoRoom ≡ planOf f m q (call n)
   no-ctl s t u = rw (call-is, le-leb _ _ s, le-leb _ _ t, lt-leb _ _ u)
 
   pub room : mtop m - v .a + v .x ≤ length (m .main) → ptop m - v .b + v .y ≤ length (m .ptr) →
-      m .regs .ctop + 5 ≤ length (m .ctl) → write Frame (h + 7) (mtop m) (ptop m) (mtop m - v .a) (ptop m - v .b) ≡ planOf f m q (call n)
+      m .regs .ctop + recordWords ≤ length (m .ctl) → write Frame (h + 7) (mtop m) (ptop m) (mtop m - v .a) (ptop m - v .b) ≡ planOf f m q (call n)
   room s t u = rw (call-is, le-leb _ _ s, le-leb _ _ t, le-leb _ _ u)

@@ -4,6 +4,7 @@ use bridge::Into;
 use bridge::Plan;
 use bridge::Put;
 use model::RECORD;
+use model::RETURNS;
 use model::Regs;
 use model::Value;
 ghost use mathlib.Core.Path.{_≡_};
@@ -11,7 +12,7 @@ ghost use mathlib.Core.List.{List};
 ghost use mathlib.Core.Logic.{_⊎_};
 ghost use Prim.Native.Nat.{ℕ, _+_, _<_, _≤_};
 ghost use Rattle.model.specs.Words.{valueOf};
-ghost use Rattle.model.specs.Control.{machine};
+ghost use Rattle.model.specs.Control.{Machine, setRegs, setMain, setPtr, setCtl};
 ghost use Rattle.bridge.specs.Planned.{write, onValue};
 ghost use Rattle.code.specs.Parts.{Small};
 ghost use Rattle.plans.specs.Given.{planned, Body, Within, Record, Callee, Binary};
@@ -73,7 +74,7 @@ pub fn pushes(regs: Regs, word: u32) -> Plan
 // 1 and 3: forwards, backwards.
 pub fn jumps(file: &[u8], regs: Regs, kind: u8) -> Plan
     requires { ⌜ Body (now file) (regs .place) 2 × ((kind ≡ 1) ⊎ (kind ≡ 3)) ⌝ }
-    ensures { λ r. ⌜ ((m p c h : List ℕ) → r ≡ planned (now (file .entry)) (machine regs m p c h) 3 kind) ⌝ }
+    ensures { λ r. ⌜ ((m : Machine) → r ≡ planned (now (file .entry)) (setRegs regs m) 3 kind) ⌝ }
 {
     let place = regs.place;
     if kind == 1 {
@@ -99,7 +100,7 @@ pub fn jumps(file: &[u8], regs: Regs, kind: u8) -> Plan
 // 2 and 5: forwards where the word is false; 5 keeps it then.
 pub fn on_false(file: &[u8], main: &[u32], regs: Regs, kind: u8) -> Plan
     requires { ⌜ Body (now file) (regs .place) 2 × Within (now main) (regs .mtop) × (1 ≤ regs .mtop) × ((kind ≡ 2) ⊎ (kind ≡ 5)) ⌝ }
-    ensures { λ r. ⌜ ((p c h : List ℕ) → r ≡ planned (now (file .entry)) (machine regs (now (main .entry)) p c h) 3 kind) ⌝ }
+    ensures { λ r. ⌜ ((m : Machine) → r ≡ planned (now (file .entry)) (setRegs regs (setMain (now (main .entry)) m)) 3 kind) ⌝ }
 {
     let place = regs.place;
     let top = regs.mtop - 1;
@@ -116,7 +117,7 @@ pub fn on_false(file: &[u8], main: &[u32], regs: Regs, kind: u8) -> Plan
 // 4 and 6: where the word is true, 4 backwards, 6 forwards and keeps it.
 pub fn on_true(file: &[u8], main: &[u32], regs: Regs, kind: u8) -> Plan
     requires { ⌜ Body (now file) (regs .place) 2 × Within (now main) (regs .mtop) × (1 ≤ regs .mtop) × ((kind ≡ 4) ⊎ (kind ≡ 6)) ⌝ }
-    ensures { λ r. ⌜ ((p c h : List ℕ) → r ≡ planned (now (file .entry)) (machine regs (now (main .entry)) p c h) 3 kind) ⌝ }
+    ensures { λ r. ⌜ ((m : Machine) → r ≡ planned (now (file .entry)) (setRegs regs (setMain (now (main .entry)) m)) 3 kind) ⌝ }
 {
     let place = regs.place;
     let top = regs.mtop - 1;
@@ -154,7 +155,7 @@ pub fn calls(
 ) -> Plan
     requires { ⌜ Body (now file) (regs .place) 2 × Within (now main) (regs .mtop) × Within (now ptr) (regs .ptop)
         × (regs .ctop ≤ 1280) × Callee (now file) (now table) regs ⌝ }
-    ensures { λ r. ⌜ ((h : List ℕ) → r ≡ planned (now (file .entry)) (machine regs (now (main .entry)) (now (ptr .entry)) (now (ctl .entry)) h) 3 72) ⌝ }
+    ensures { λ r. ⌜ ((m : Machine) → r ≡ planned (now (file .entry)) (setRegs regs (setMain (now (main .entry)) (setPtr (now (ptr .entry)) (setCtl (now (ctl .entry)) m)))) 3 72) ⌝ }
 {
     let s = code::operand(file, regs.place);
     let h = table[s];
@@ -176,9 +177,9 @@ pub fn calls(
 // 73: back to the return place.
 pub fn leaves(ctl: &[u32], regs: Regs) -> Plan
     requires { ⌜ Record (now ctl) (regs .frame) ⌝ }
-    ensures { λ r. ⌜ ((f m p h : List ℕ) → r ≡ planned f (machine regs m p (now (ctl .entry)) h) 1 73) ⌝ }
+    ensures { λ r. ⌜ ((f : List ℕ) (m : Machine) → r ≡ planned f (setRegs regs (setCtl (now (ctl .entry)) m)) 1 73) ⌝ }
 {
-    let at = RECORD * (regs.frame - 1) + 3;
+    let at = RECORD * (regs.frame - 1) + RETURNS;
     let place = wide(ctl[at]);
     writes(Into::Return, place, regs.mtop, regs.ptop, 0, 0)
 }
@@ -186,7 +187,7 @@ pub fn leaves(ctl: &[u32], regs: Regs) -> Plan
 // 160: a handler's record.
 pub fn opens(ctl: &[u32], regs: Regs) -> Plan
     requires { ⌜ (regs .place < 4096) × (regs .ctop ≤ 1280) ⌝ }
-    ensures { λ r. ⌜ ((f m p h : List ℕ) → r ≡ planned f (machine regs m p (now (ctl .entry)) h) 3 160) ⌝ }
+    ensures { λ r. ⌜ ((f : List ℕ) (m : Machine) → r ≡ planned f (setRegs regs (setCtl (now (ctl .entry)) m)) 3 160) ⌝ }
 {
     if ctl.len() < regs.ctop + RECORD {
         return Plan::NoRoom;
@@ -211,7 +212,7 @@ fn compare(kind: u8, a: u32, b: u32) -> u32
 pub fn compares(main: &[u32], regs: Regs, kind: u8) -> Plan
     requires { ⌜ (regs .place < 4096) × Within (now main) (regs .mtop) × (2 ≤ regs .mtop)
         × ((kind ≡ 130) ⊎ ((kind ≡ 195) ⊎ ((kind ≡ 198) ⊎ ((kind ≡ 201) ⊎ (kind ≡ 204))))) ⌝ }
-    ensures { λ r. ⌜ ((f p c h : List ℕ) → r ≡ planned f (machine regs (now (main .entry)) p c h) 1 kind) ⌝ }
+    ensures { λ r. ⌜ ((f : List ℕ) (m : Machine) → r ≡ planned f (setRegs regs (setMain (now (main .entry)) m)) 1 kind) ⌝ }
 {
     let top = regs.mtop - 1;
     let at = regs.mtop - 2;
@@ -222,7 +223,7 @@ pub fn compares(main: &[u32], regs: Regs, kind: u8) -> Plan
 // 140 and 142.
 pub fn sums(main: &[u32], regs: Regs, kind: u8) -> Plan
     requires { ⌜ (regs .place < 4096) × Within (now main) (regs .mtop) × (2 ≤ regs .mtop) × ((kind ≡ 140) ⊎ (kind ≡ 142)) ⌝ }
-    ensures { λ r. ⌜ ((f p c h : List ℕ) → r ≡ planned f (machine regs (now (main .entry)) p c h) 1 kind) ⌝ }
+    ensures { λ r. ⌜ ((f : List ℕ) (m : Machine) → r ≡ planned f (setRegs regs (setMain (now (main .entry)) m)) 1 kind) ⌝ }
 {
     let place = regs.place + 1;
     let top = regs.mtop - 1;
@@ -238,7 +239,7 @@ pub fn sums(main: &[u32], regs: Regs, kind: u8) -> Plan
 // 141, 143 and 145.
 pub fn products(main: &[u32], regs: Regs, kind: u8) -> Plan
     requires { ⌜ (regs .place < 4096) × Within (now main) (regs .mtop) × (2 ≤ regs .mtop) × ((kind ≡ 141) ⊎ ((kind ≡ 143) ⊎ (kind ≡ 145))) ⌝ }
-    ensures { λ r. ⌜ ((f p c h : List ℕ) → r ≡ planned f (machine regs (now (main .entry)) p c h) 1 kind) ⌝ }
+    ensures { λ r. ⌜ ((f : List ℕ) (m : Machine) → r ≡ planned f (setRegs regs (setMain (now (main .entry)) m)) 1 kind) ⌝ }
 {
     let place = regs.place + 1;
     let top = regs.mtop - 1;
@@ -257,7 +258,7 @@ pub fn products(main: &[u32], regs: Regs, kind: u8) -> Plan
 // 144 and 146.
 pub fn unaries(main: &[u32], regs: Regs, kind: u8) -> Plan
     requires { ⌜ (regs .place < 4096) × Within (now main) (regs .mtop) × (1 ≤ regs .mtop) × ((kind ≡ 144) ⊎ (kind ≡ 146)) ⌝ }
-    ensures { λ r. ⌜ ((f p c h : List ℕ) → r ≡ planned f (machine regs (now (main .entry)) p c h) 1 kind) ⌝ }
+    ensures { λ r. ⌜ ((f : List ℕ) (m : Machine) → r ≡ planned f (setRegs regs (setMain (now (main .entry)) m)) 1 kind) ⌝ }
 {
     let place = regs.place + 1;
     let at = regs.mtop - 1;

@@ -14,55 +14,11 @@ use Rattle.model.specs.Checker.{State, state, none, passes, outer, effectOf, ha
 use Rattle.model.specs.Rules.{Passes, Fine, Keeps}
 use Rattle.model.specs.Calls.{pass, verdictOf}
 use Rattle.model.specs.Claim.{Bytes, assigned}
-use Rattle.model.specs.Sound.{mainAt, ptrAt, innerAt, isIns, callSize}
+use Rattle.model.specs.Sound.{mainAt, ptrAt, innerAt, isIns}
+use Rattle.code.specs.Codes.{call-byte, byte-call, byte-enter}
 use Rattle.exact.specs.Walk.{member-in, in-member, instruction-below, procs-some, entry-proc}
 use Rattle.exact.specs.Flow.{Open, Shape, moves}
 use Rattle.exact.specs.Exact.{Formed, passed-as, passed-keeps, passed-shape}
-
--- whether an instruction is a call
-calls? : Ins → Bool
-calls? (basic b) = false
-calls? (jump q) = false
-calls? (branch t q) = false
-calls? (branchKeep t q) = false
-calls? (call n) = true
-calls? return = false
-calls? (enter s) = false
-calls? exit = false
-calls? raise = false
-
-calls-if : (t : Bool) (a b : Ins) → calls? (if t then a else b) ≡ (if t then calls? a else calls? b)
-calls-if true a b = refl
-calls-if false a b = refl
-
-if-same : (t : Bool) → (if t then false else false) ≡ false
-if-same true = refl
-if-same false = refl
-
-not-call : (f : List ℕ) (p k : ℕ) → eqb k 72 ≡ false → calls? (insOf f p k) ≡ false
-unfolding insOf calls?
-not-call f p k e = rw e (simp (calls-if, if-same))
-
--- a call's code, its callee and the place behind it; a 160's
-pub call-byte : (f : List ℕ) (p n : ℕ) → insAt f p ≡ call n → byteAt f p ≡ 72
-unfolding insAt calls?
-call-byte f p n e = go (eqb (byteAt f p) 72) refl
-  where
-    go : (t : Bool) → eqb (byteAt f p) 72 ≡ t → byteAt f p ≡ 72
-    go true u = eqb-true (byteAt f p) 72 u
-    go false u = absurd (true≢false (sym (ap calls? e) ∙ not-call f p (byteAt f p) u))
-
-pub byte-call : (f : List ℕ) (p : ℕ) → byteAt f p ≡ 72 → insAt f p ≡ call (operand f p)
-unfolding insAt insOf
-byte-call f p e = rw e
-
-pub call-after : (f : List ℕ) (p : ℕ) → byteAt f p ≡ 72 → after f p ≡ p + callSize
-unfolding after bodyOf bodies
-call-after f p e = rw e (omega arith)
-
-pub byte-enter : (f : List ℕ) (p : ℕ) → byteAt f p ≡ 160 → insAt f p ≡ enter (operand f p)
-unfolding insAt insOf
-byte-enter f p e = rw e
 
 -- an instruction stands at q, of procedure n, and the map has this state there
 pub record Is (f map : List ℕ) (q n : ℕ) (s : State) : Type 0 where

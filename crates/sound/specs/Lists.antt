@@ -15,7 +15,7 @@ use Rattle.model.specs.Lists.{sets-other, sets-at}
 use Rattle.model.specs.Choice.{if-both}
 use Rattle.model.specs.Words.{wordAt, cut}
 use Rattle.model.specs.Heap.{isPointer}
-use Rattle.model.specs.Control.{Rec, rec, recordWords, recAt, down, putRec}
+use Rattle.model.specs.Control.{Rec, recordWords, recAt, down, putRec}
 use Rattle.model.specs.Sound.{zeros, pointers}
 
 -- the words from t on are 0; every word has a property
@@ -51,13 +51,6 @@ cut-zero zero (w ∷ l) zero h = refl
 cut-zero zero (w ∷ l) (suc i) h = cut-zero zero l i (omega arith)
 cut-zero (suc t) (w ∷ l) zero h = absurd (omega arith)
 cut-zero (suc t) (w ∷ l) (suc i) h = cut-zero t l i (omega arith)
-
--- where the words are 0 already, a cut changes nothing
-pub cut-same : (t : ℕ) (l : List ℕ) → Zero t l → cut t l ≡ l
-unfolding cut
-cut-same t [] z = refl
-cut-same zero (w ∷ l) z = rw (z 0 (omega arith), cut-same zero l (λ i h. z (suc i) (omega arith)))
-cut-same (suc t) (w ∷ l) z = ap (λ (k : List ℕ). w ∷ k) (cut-same t l (λ i h. z (suc i) (omega arith)))
 
 pub cut-each : (P : ℕ → Type 0) (t : ℕ) (l : List ℕ) → P 0 → Each P l → Each P (cut t l)
 cut-each P t l z h i = go (decLt i t)
@@ -117,17 +110,17 @@ true-pointers os [] h = refl
 true-pointers os (v ∷ l) h = rw (h 0) (true-pointers os l (λ i. h (suc i)))
 
 -- records: the same words, the same records
-pub rec-same : {a a′ b b′ c c′ d d′ e e′ : ℕ} → a ≡ a′ → b ≡ b′ → c ≡ c′ → d ≡ d′ → e ≡ e′ → rec a b c d e ≡ rec a′ b′ c′ d′ e′
-rec-same p q r s t i = rec (p i) (q i) (r i) (s i) (t i)
+pub rec-same : {r s : Rec} → r .w0 ≡ s .w0 → r .w1 ≡ s .w1 → r .w2 ≡ s .w2 → r .w3 ≡ s .w3 → r .w4 ≡ s .w4 → r ≡ s
+rec-same a b c d e i = record { w0 = a i; w1 = b i; w2 = c i; w3 = d i; w4 = e i }
 
 pub down-alike : (l l′ : List ℕ) (n : ℕ) → ((i : ℕ) → i < recordWords * n → wordAt l i ≡ wordAt l′ i) → down l n ≡ down l′ n
 unfolding recAt
 down-alike l l′ zero h = refl
 down-alike l l′ (suc k) h =
+    let at = recordWords * k in
     let r : recAt l k ≡ recAt l′ k =
-    rec-same (h (recordWords * k) (omega arith)) (h (recordWords * k + 1) (omega arith)) (h (recordWords * k + 2) (omega arith))
-    (h (recordWords * k + 3) (omega arith))
-    (h (recordWords * k + 4) (omega arith)) in
+    rec-same (h (at + 0) (omega arith)) (h (at + 1) (omega arith)) (h (at + 2) (omega arith)) (h (at + 3) (omega arith))
+    (h (at + 4) (omega arith)) in
     let rs = down-alike l l′ k (λ i w. h i (omega arith)) in
     λ i. r i ∷ rs i
 
@@ -158,12 +151,10 @@ rec-put : (l : List ℕ) (k : ℕ) (r : Rec) → recordWords * k + recordWords �
 unfolding recAt putRec
 rec-put l k r h =
     let vs = wordsOf r in
-    let z : recordWords * k ≡ recordWords * k + 0 = omega arith in
-    rec-same (ap (wordAt (sets l (recordWords * k) vs)) z ∙ sets-at vs l (recordWords * k) 0 h (omega arith))
-    (sets-at vs l (recordWords * k) 1 h (omega arith))
-    (sets-at vs l (recordWords * k) 2 h (omega arith))
-    (sets-at vs l (recordWords * k) 3 h (omega arith))
-    (sets-at vs l (recordWords * k) 4 h (omega arith))
+    let at = recordWords * k in
+    rec-same (sets-at vs l at 0 h (omega arith)) (sets-at vs l at 1 h (omega arith)) (sets-at vs l at 2 h (omega arith))
+    (sets-at vs l at 3 h (omega arith))
+    (sets-at vs l at 4 h (omega arith))
 
 pub down-put : (l : List ℕ) (k n : ℕ) (r : Rec) → k ≡ n → recordWords * n + recordWords ≤ length l →
     down (putRec l k r) (suc n) ≡ r ∷ down l n

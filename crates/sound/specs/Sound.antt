@@ -12,8 +12,8 @@ use borrow.Author.Tests.{eq-eqb, ne-eqb, eqb-true}
 use Rattle.model.specs.Choice.{All, all-true, true-all}
 use Rattle.model.specs.File.{resultsMain, resultsPtr}
 use Rattle.model.specs.Heap.{isPointer, objectsOf}
-use Rattle.model.specs.Control.{Machine, down, recordWords, records}
-use Rattle.model.specs.Sound.{mainAt, ptrAt, innerAt, stackTests, runningTests, finishedTests, sound?}
+use Rattle.model.specs.Control.{Machine, down, recordWords, records, rootWords}
+use Rattle.model.specs.Sound.{mainAt, ptrAt, innerAt, Look, topmost, stackTests, runningTests, finishedTests, sound?}
 use Rattle.model.specs.Claim.{Depths}
 use Rattle.sound.specs.Tests.{if-cases}
 use Rattle.sound.specs.Lists.{Zero, Each, zeros-true, true-zeros, pointers-true, true-pointers}
@@ -30,6 +30,18 @@ words-with : (P Q : ℕ → Type 0) (m : Machine) → ((v : ℕ) → P v → Q v
 words-with P Q m k W =
     record { zero-main = W .zero-main; zero-ptr = W .zero-ptr; zero-ctl = W .zero-ctl; pointers = λ i. k _ (W .pointers i) }
 
+-- how the records are looked at from the registers, with these bases
+abbrev pub looking : List ℕ → Machine → ℕ → ℕ → Look
+looking map m i j =
+    record {
+      inner = innerAt map (m .regs .place);
+      place = m .regs .place;
+      frame = m .regs .frame;
+      handler = m .regs .handler;
+      mainBase = i;
+      ptrBase = j;
+    }
+
 -- running, with n records; i, j: the running frame's bases
 pub record Running (f map : List ℕ) (Ptr : ℕ → Type 0) (m : Machine) (n i j : ℕ) : Type 0 where
   pub main-top : m .regs .mtop ≡ i + mainAt map (m .regs .place)
@@ -37,8 +49,7 @@ pub record Running (f map : List ℕ) (Ptr : ℕ → Type 0) (m : Machine) (n i 
   pub ctl-top : m .regs .ctop ≡ recordWords * n
   pub state-is : m .regs .state ≡ 0
   pub room : m .regs .ctop ≤ length (m .ctl)
-  pub stack : Stack f map (length (m .main)) (length (m .ptr)) (down (m .ctl) n) (innerAt map (m .regs .place)) (m .regs .place)
-      (m .regs .frame) (m .regs .handler) i j
+  pub stack : Stack f map (length (m .main)) (length (m .ptr)) (down (m .ctl) n) (looking map m i j)
   pub words : Words Ptr m
 
 pub record Finished (f : List ℕ) (Ptr : ℕ → Type 0) (m : Machine) : Type 0 where
@@ -89,6 +100,7 @@ abbrev pub Audited : Machine → ℕ → Type 0
 Audited m v = isPointer (objectsOf (m .heap)) v ≡ true
 
 words-true : (m : Machine) → All (stackTests m) → Words (Audited m) m
+unfolding rootWords
 words-true m T =
     record {
       zero-main = zeros-true (m .regs .mtop) (m .main) (T .0);
@@ -98,6 +110,7 @@ words-true m T =
     }
 
 true-words : (m : Machine) → Words (Audited m) m → All (stackTests m)
+unfolding rootWords
 true-words m W = (
   true-zeros (m .regs .mtop) (m .main) (W .zero-main),
   (
@@ -133,8 +146,7 @@ module _ (f map : List ℕ) (m : Machine) where
           ctl-top = T .1 .0;
           state-is = T .0;
           room = T .1 .1 .0;
-          stack = stack?-true f map (length (m .main)) (length (m .ptr)) (down (m .ctl) (records m)) (innerAt map (m .regs .place))
-              (m .regs .place) (m .regs .frame) (m .regs .handler) _ _ (T .1 .1 .1 .1 .1 .0);
+          stack = stack?-true f map (length (m .main)) (length (m .ptr)) (down (m .ctl) (records m)) (topmost map m) (T .1 .1 .1 .1 .1 .0);
           words = words-true m (T .1 .1 .1 .1 .1 .1);
         },
       ))

@@ -4,13 +4,14 @@ use mathlib.Core.Bool.{Bool, true, false, not}
 use mathlib.Core.List.{List, [], _∷_, _++_}
 use mathlib.Core.Path.{_≡_, refl, sym}
 use lib.Dec.{leb, eqb, leb·zero}
-use borrow.Author.Tests.{leb-true}
+use borrow.Author.Tests.{le-leb, lt-leb, leb-true, eqb-true}
+use native.Mathlib.Decide.{decLe}
 use native.Mathlib.Nat.{add-zero, sub-zero}
 use native.Mathlib.Numerals.{add-one}
 use native.Mathlib.Omega.{arith}
-use Rattle.model.specs.Choice.{if_then_else_, yes?, all, if-both}
-use Rattle.model.specs.File.{onMain, onPtr, Basic, local, assign, field, setField, form, literal, nil, root, setRoot, retract, binary, samePtr, unary, Ins, basic, jump, branch, branchKeep, call, return, enter, exit, raise, after, procAt, resultsMain, resultsPtr, mostMain, mostPtr}
-use Rattle.model.specs.Checker.{none, State, state, Effect, effect, basicEffect, effectOf, moved, goesOn, passes, own, targetTests, nextTests, wordTests, moreTests, depthTests, leaveTests}
+use Rattle.model.specs.Choice.{if_then_else_, yes?, holds, all, if-both}
+use Rattle.model.specs.File.{onMain, onPtr, Basic, local, assign, field, setField, make, literal, nil, root, setRoot, retract, binary, samePtr, unary, Ins, basic, jump, branch, branchKeep, call, return, enter, exit, raise, after, procAt, resultsMain, resultsPtr, mostMain, mostPtr}
+use Rattle.model.specs.Checker.{none, State, state, Effect, effect, basicEffect, effectOf, moved, goesOn, passes, own, targetTests, nextTests, wordTests, moreTests, floorTest, depthTests, leaveTests}
 use Rattle.effects.specs.declared.Way.{Way}
 use Rattle.effects.specs.declared.Way.the-variants.{Next, Jump, Branch, Keep, Open, Close, Return, Raise}
 use Rattle.effects.specs.declared.Shape.{Shape}
@@ -79,8 +80,11 @@ unfoldable pub targetOk : Way → Bool → Bool → ℕ → ℕ → Bool
 targetOk w known own q p = (if jumpsBy w then and own (if opensBy w then leb (suc p) q else true) else known)
 
 -- refusal 7 on one stack: the floor, the frame word and the greatest depth
+unfoldable pub floorOk : ℕ → ℕ → ℕ → Bool
+floorOk have floor pop = holds (floorTest pop floor have)
+
 unfoldable pub stackOk : ℕ → ℕ → ℕ → ℕ → ℕ → ℕ → Bool
-stackOk have floor pop push word x = and (leb (floor + pop) have) (and (leb word (have - pop)) (leb (have - pop + push) x))
+stackOk have floor pop push word x = and (floorOk have floor pop) (and (leb word (have - pop)) (leb (have - pop + push) x))
 
 -- a handler has the depth before its 160 and the raised word
 abbrev openOk : Way → ℕ → ℕ → Bool
@@ -155,7 +159,7 @@ word-tests (assign onMain w) s = simp leb·zero
 word-tests (assign onPtr w) s = simp leb·zero
 word-tests (field d w) s = simp leb·zero
 word-tests (setField d w) s = simp leb·zero
-word-tests (form k n) s = simp leb·zero
+word-tests (make k) s = simp leb·zero
 word-tests (literal w) s = simp leb·zero
 word-tests nil s = simp leb·zero
 word-tests root s = simp leb·zero
@@ -240,14 +244,14 @@ module _ (f : List ℕ) (p : ℕ) where
 
   pub depth-tests : (i : Ins) (s o : State) →
       all (depthTests f p i s o) ≡ depthOk (at i) s o (mostMain f (procAt f p)) (mostPtr f (procAt f p))
-  unfolding depthTests depthOk stackOk
+  unfolding depthTests depthOk floorOk stackOk
   depth-tests i s o =
       let x = mostMain f (procAt f p) in
       let y = mostPtr f (procAt f p) in
       rw (effect-is i, more-tests i s x)
       (by-stack
-      (leb (o .main + at i .popm) (s .main))
-      (leb (o .ptr + at i .popp) (s .ptr))
+      (floorOk (s .main) (o .main) (at i .popm))
+      (floorOk (s .ptr) (o .ptr) (at i .popp))
       (leb (s .main - at i .popm + at i .pushm) x)
       (leb (s .ptr - at i .popp + at i .pushp) y)
       (leb (at i .wordm) (s .main - at i .popm))
@@ -282,6 +286,13 @@ module _ (f : List ℕ) (p : ℕ) where
   passes-are exit s o = simp (sub-zero, add-zero)
   passes-are raise s o = refl
 
+-- a sum that must not pass x, as a difference
+pub above : (rest push x : ℕ) → rest ≤ x → leb push (x - rest) ≡ leb (rest + push) x
+above rest push x h = elim (decLe push (x - rest)) [
+  | yes a ↦ rw (le-leb push (x - rest) a, le-leb (rest + push) x (omega arith))
+  | no a ↦ rw (lt-leb push (x - rest) (omega arith), lt-leb (rest + push) x (omega arith))
+]
+
 -- what passed tests of the depths show: no pop from an empty stack, and depths that fit the map
 pub record Fits (sh : Shape) (s : State) : Type 0 where
   pub main : sh .popm ≤ s .main
@@ -290,12 +301,21 @@ pub record Fits (sh : Shape) (s : State) : Type 0 where
   pub ptr-small : s .ptr - sh .popp + sh .pushp < 65536
   pub small : s .main < 65536
 
+-- what is popped is there
+pub floor-there : (have floor pop : ℕ) → floorOk have floor pop ≡ true → pop ≤ have
+unfolding floorOk
+floor-there have floor pop e = go (eqb pop 0) refl (leb-true (if eqb pop 0 then 0 else floor + pop) have e)
+  where
+    go : (t : Bool) → eqb pop 0 ≡ t → (if t then 0 else floor + pop) ≤ have → pop ≤ have
+    go true z h = let w = eqb-true pop 0 z in omega arith
+    go false z h = omega arith
+
 stack-fits : (have floor pop push word x : ℕ) → stackOk have floor pop push word x ≡ true → (pop ≤ have) × (have - pop + push ≤ x)
 unfolding stackOk
 stack-fits have floor pop push word x e =
-    let g = if-both (leb (floor + pop) have) (and (leb word (have - pop)) (leb (have - pop + push) x)) e in
+    let g = if-both (floorOk have floor pop) (and (leb word (have - pop)) (leb (have - pop + push) x)) e in
     let h = if-both (leb word (have - pop)) (leb (have - pop + push) x) (g .1) in
-    (omega (arith, leb-true (floor + pop) have (g .0)), leb-true (have - pop + push) x (h .1))
+    (floor-there have floor pop (g .0), leb-true (have - pop + push) x (h .1))
 
 pub depth-fits : (sh : Shape) (s o : State) (x y : ℕ) → x < 256 → y < 256 → s .main < 65536 → depthOk sh s o x y ≡ true → Fits sh s
 unfolding depthOk

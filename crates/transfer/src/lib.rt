@@ -1,7 +1,7 @@
 // What an instruction makes of the state before it: the tests of 5, 7 and 8, and what passes to the next instruction and to the target.
 ghost use mathlib.Core.Path.{_≡_};
 ghost use Rattle.model.specs.Checker as checker;
-ghost use Rattle.transfer.specs.Tests.{goesBy, jumpsBy, opensBy, closesBy, leavesBy, targetOk, stackOk, depthOk, leaveOk, effectIn, innerBy, nextState, targetMain, targetState, Fits, asState};
+ghost use Rattle.transfer.specs.Tests.{goesBy, jumpsBy, opensBy, closesBy, leavesBy, targetOk, floorOk, stackOk, depthOk, leaveOk, effectIn, innerBy, nextState, targetMain, targetState, Fits, asState};
 use effects::Shape;
 use effects::Way;
 
@@ -100,14 +100,24 @@ pub fn target_ok(way: Way, known: bool, own: bool, target: usize, p: usize) -> b
     if opens(way) { p < target } else { true }
 }
 
+// "No pop goes below it": where nothing is popped, nothing is asked.
+fn floor_ok(have: usize, floor: usize, pop: usize) -> bool
+    ensures { λ r. ⌜ r ≡ floorOk have floor pop ⌝ }
+{
+    if pop == 0 {
+        return true;
+    }
+    if have < floor {
+        return false;
+    }
+    pop <= have - floor
+}
+
 // Refusal 7 on one stack, with no sum that could overflow.
 fn stack_ok(have: usize, floor: usize, pop: usize, push: usize, word: usize, most: usize) -> bool
     ensures { λ r. ⌜ r ≡ stackOk have floor pop push word most ⌝ }
 {
-    if have < floor {
-        return false;
-    }
-    if have - floor < pop {
+    if !floor_ok(have, floor, pop) {
         return false;
     }
     let rest = have - pop;

@@ -2,7 +2,7 @@
 use mathlib.Core.Logic.{⊎-elim}
 use mathlib.Core.Path.{_≡_}
 use Rattle.model.specs.Checker.{basicEffect}
-use Rattle.model.specs.File.{insOf}
+use Rattle.model.specs.File.{makerPops, insOf}
 use Rattle.effects.specs.Shape.{shapeOf}
 use borrow.Author.Needs.{needs}
 use Rattle.effects.proofs.blocks.Statement.{statement}
@@ -33,7 +33,7 @@ effect-requires-4 : tie.Need-effect-requires-4
 effect-requires-4 c κs = search needs
 
 returns : tie.Need-returns
-unfolding shapeOf insOf basicEffect
+unfolding shapeOf insOf basicEffect makerPops
 returns c = rw (c .before .match .keys1, c .effect .ensures, c .before .before .before .operand .ensures .is, c .before .before .operand2 .ensures .is)
 
 returns-2 : tie.Need-returns-2

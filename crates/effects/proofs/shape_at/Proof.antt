@@ -3,7 +3,7 @@ use borrow.Author.Needs.{needs}
 use mathlib.Core.Logic.{⊎-elim, inl, inr}
 use mathlib.Core.Path.{ap}
 use native.Mathlib.Omega.{arith}
-use Rattle.model.specs.File.{bodies, bodyOf, byteAt, insOf, insAt}
+use Rattle.model.specs.File.{codes, bodies, bodyOf, byteAt, insOf, insAt}
 use Rattle.model.specs.Checker.{basicEffect, handlerAt}
 use Rattle.code.specs.Bodies.{after-above}
 use Rattle.effects.specs.Shape.{shapeOf}
@@ -31,7 +31,7 @@ effect-requires-4 : tie.Need-effect-requires-4
 effect-requires-4 c κs = search needs
 
 operand-requires : tie.Need-operand-requires
-unfolding bodyOf bodies
+unfolding bodyOf bodies codes
 operand-requires c κs = room (c .before .before .before .pre .1) 2 (ap bodyOf (c .match .keys6))
 
 calls-requires : tie.Need-calls-requires
@@ -47,7 +47,7 @@ effect-requires-7 : tie.Need-effect-requires-7
 effect-requires-7 c κs = search needs
 
 operand-requires-2 : tie.Need-operand-requires-2
-unfolding bodyOf bodies
+unfolding bodyOf bodies codes
 operand-requires-2 c κs = room (c .before .before .before .pre .1) 2 (ap bodyOf (c .match .keys10))
 
 add-leads : tie.Need-add-leads

@@ -35,7 +35,7 @@ add-if1-3 c = search needs
 returns : tie.Need-returns
 unfolding planned planOf basicPlan insOf
 returns c =
-    λ m p q.
+    λ m.
     let f = c .before .before .before .before .before .before .before .args .file .now in
     let at = c .before .before .before .before .before .before .before .args .regs .place in
     let h = c .before .before .before .before .before .before .before .args .heap .now in
@@ -68,7 +68,7 @@ writes-requires c κs = search needs
 returns-2 : tie.Need-returns-2
 unfolding planned planOf basicPlan insOf
 returns-2 c =
-    λ m p q.
+    λ m.
     let f = c .before .before .before .before .before .before .before .before .before .before .args .file .now in
     let at = c .before .before .before .before .before .before .before .before .before .before .args .regs .place in
     let h = c .before .before .before .before .before .before .before .before .before .before .args .heap .now in

@@ -1,7 +1,7 @@
 -- `plan::literals`: at each of the two codes the definition computes.
 use native.Mathlib.Omega.{arith}
 use borrow.Author.Needs.{needs}
-use Rattle.model.specs.File.{bodies, bodyOf, insOf}
+use Rattle.model.specs.File.{codes, bodies, bodyOf, insOf}
 use Rattle.bridge.specs.Planned.{basicPlan, planOf}
 use Rattle.plans.specs.Given.{planned, other}
 use Rattle.plan.proofs.literals.Statement.{statement}
@@ -11,7 +11,7 @@ add-at : tie.Need-add-at
 add-at c = search needs
 
 shared-slice-read-signed-byte : tie.Need-shared-slice-read-signed-byte
-unfolding bodyOf bodies
+unfolding bodyOf bodies codes
 shared-slice-read-signed-byte c = let b = rw (c .before .if1 .taken) at (c .before .before .before .pre .0) in omega (arith, b .inside)
 
 signed-byte-requires : tie.Need-signed-byte-requires
@@ -27,8 +27,8 @@ writes-requires : tie.Need-writes-requires
 writes-requires c κs = search needs
 
 returns : tie.Need-returns
-unfolding planned planOf basicPlan insOf bodyOf bodies
-returns c = λ m p q h. rw (c .writes .ensures, c .before .before .before .if1 .taken, c .before .signed-byte .ensures .is)
+unfolding planned planOf basicPlan insOf bodyOf bodies codes
+returns c = λ m. rw (c .writes .ensures, c .before .before .before .if1 .taken, c .before .signed-byte .ensures .is)
 
 add-writes-3 : tie.Need-add-writes-3
 add-writes-3 c = search needs
@@ -37,7 +37,7 @@ add-writes-4 : tie.Need-add-writes-4
 add-writes-4 c = search needs
 
 operand4-requires : tie.Need-operand4-requires
-unfolding bodyOf bodies
+unfolding bodyOf bodies codes
 operand4-requires c κs =
     let e = other (c .before .before .pre .2) (c .if1 .left) in
     let b = rw e at (c .before .before .pre .0) in
@@ -47,9 +47,9 @@ writes-requires-2 : tie.Need-writes-requires-2
 writes-requires-2 c κs = search needs
 
 returns-2 : tie.Need-returns-2
-unfolding planned planOf basicPlan insOf bodyOf bodies
+unfolding planned planOf basicPlan insOf bodyOf bodies codes
 returns-2 c =
-    λ m p q h.
+    λ m.
     let e = other (c .before .before .before .before .pre .2) (c .before .before .if1 .left) in
     rw (c .writes2 .ensures, e, c .before .operand4 .ensures .is)
 

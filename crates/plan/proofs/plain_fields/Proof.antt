@@ -27,7 +27,7 @@ wide-requires c κs = search needs
 returns : tie.Need-returns
 unfolding planned planOf basicPlan insOf
 returns c =
-    λ q.
+    λ m.
     let read = c .before in
     let z = sym (read .wide .ensures .is) ∙ c .if1 .taken in
     ⊎-elim (λ e. rw e (rw (eq-eqb _ _ z))) (λ e. rw e (rw (eq-eqb _ _ z)))
@@ -45,7 +45,7 @@ in-plain-requires c κs =
 returns-2 : tie.Need-returns-2
 unfolding planned planOf basicPlan insOf
 returns-2 c =
-    λ q.
+    λ m.
     let asked = c .before in
     let read = asked .before .before .before in
     let n = not-nil (read .wide .ensures .is) (asked .before .before .if1 .left) in
@@ -83,7 +83,7 @@ writes-requires c κs = search needs
 returns-3 : tie.Need-returns-3
 unfolding planned planOf basicPlan insOf
 returns-3 c =
-    λ q.
+    λ m.
     let asked = c .before .before .before .before .before in
     let read = asked .before .before .before in
     let n = not-nil (read .wide .ensures .is) (asked .before .before .if1 .left) in
@@ -122,7 +122,7 @@ writes-requires-2 c κs = search needs
 returns-4 : tie.Need-returns-4
 unfolding planned planOf basicPlan insOf
 returns-4 c =
-    λ q.
+    λ m.
     let asked = c .before .before .before .before .before in
     let read = asked .before .before .before in
     let pre = c .before .before .before .before .before .before .before .before .before .before .before .before .before .before .before .pre in

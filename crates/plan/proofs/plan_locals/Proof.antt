@@ -3,36 +3,35 @@ use mathlib.Core.Logic.{inl, inr}
 use mathlib.Core.Path.{_∙_, refl}
 use native.Mathlib.Omega.{arith}
 use borrow.Author.Needs.{needs}
-use Rattle.model.specs.File.{bodies, bodyOf}
+use Rattle.model.specs.File.{codes, bodies, bodyOf}
 use Rattle.plans.specs.Given.{other}
-use Rattle.plan.specs.Arms.{main-within, ptr-within, record-in, body, main-word, ptr-word}
-use Rattle.plan.specs.Ready.{plan-is}
+use Rattle.plan.specs.Arms.{main-within, ptr-within, record-in, body, main-word, ptr-word, subject, plan-here}
 use Rattle.plan.proofs.plan_locals.Statement.{statement}
 use Rattle.plan.proofs.plan_locals.Tie as tie
 
 main-locals-requires : tie.Need-main-locals-requires
-unfolding bodyOf bodies
+unfolding bodyOf bodies codes
 main-locals-requires c κs =
     let R = c .before .before .before .before .before .before .before .pre .0 in
     let e = c .before .before .before .before .before .before .before .pre .1 ∙ c .match2 .keys1 in
     (body R 20 2 e refl, main-within R, record-in R, main-word R (inl e), inl refl)
 
 main-locals-requires-2 : tie.Need-main-locals-requires-2
-unfolding bodyOf bodies
+unfolding bodyOf bodies codes
 main-locals-requires-2 c κs =
     let R = c .before .before .before .before .before .before .before .pre .0 in
     let e = c .before .before .before .before .before .before .before .pre .1 ∙ other (c .before .match .keys1) (c .match2 .rest .1) in
     (body R 22 2 e refl, main-within R, record-in R, main-word R (inr e), inr refl)
 
 ptr-locals-requires : tie.Need-ptr-locals-requires
-unfolding bodyOf bodies
+unfolding bodyOf bodies codes
 ptr-locals-requires c κs =
     let R = c .before .before .before .before .before .before .before .pre .0 in
     let e = c .before .before .before .before .before .before .before .pre .1 ∙ c .match3 .keys1 in
     (body R 21 2 e refl, ptr-within R, record-in R, ptr-word R (inl e), inl refl)
 
 ptr-locals-requires-2 : tie.Need-ptr-locals-requires-2
-unfolding bodyOf bodies
+unfolding bodyOf bodies codes
 ptr-locals-requires-2 c κs =
     let R = c .before .before .before .before .before .before .before .pre .0 in
     let e = c .before .before .before .before .before .before .before .pre .1 ∙ other (c .before .match .keys2) (c .match3 .rest .1) in
@@ -54,26 +53,38 @@ plan-words-requires : tie.Need-plan-words-requires
 plan-words-requires c κs = search needs
 
 returns : tie.Need-returns
-unfolding bodyOf bodies
-returns c = c .main-locals .ensures _ _ ∙ plan-is _ _ 20 2 (c .before .before .before .before .before .before .before .before .pre .1 ∙ c .before .match2 .keys1) refl
+unfolding bodyOf bodies codes
+returns c =
+    let a = c .before .before .before .before .before .before .before .before .pre in
+    plan-here (a .0) 20 2 (a .1 ∙ c .before .match2 .keys1) refl (c .main-locals .ensures (subject (a .0)))
 
 returns-2 : tie.Need-returns-2
-unfolding bodyOf bodies
-returns-2 c = c .main-locals2 .ensures _ _ ∙ plan-is _ _ 22 2 (c .before .before .before .before .before .before .before .before .pre .1 ∙ other (c .before .before .match .keys1) (c .before .match2 .rest .1)) refl
+unfolding bodyOf bodies codes
+returns-2 c =
+    let a = c .before .before .before .before .before .before .before .before .pre in
+    plan-here (a .0) 22 2 (a .1 ∙ other (c .before .before .match .keys1) (c .before .match2 .rest .1)) refl (c .main-locals2 .ensures (subject (a .0)))
 
 returns-3 : tie.Need-returns-3
-unfolding bodyOf bodies
-returns-3 c = c .ptr-locals .ensures _ _ ∙ plan-is _ _ 21 2 (c .before .before .before .before .before .before .before .before .pre .1 ∙ c .before .match3 .keys1) refl
+unfolding bodyOf bodies codes
+returns-3 c =
+    let a = c .before .before .before .before .before .before .before .before .pre in
+    plan-here (a .0) 21 2 (a .1 ∙ c .before .match3 .keys1) refl (c .ptr-locals .ensures (subject (a .0)))
 
 returns-4 : tie.Need-returns-4
-unfolding bodyOf bodies
-returns-4 c = c .ptr-locals2 .ensures _ _ ∙ plan-is _ _ 23 2 (c .before .before .before .before .before .before .before .before .pre .1 ∙ other (c .before .before .match .keys2) (c .before .match3 .rest .1)) refl
+unfolding bodyOf bodies codes
+returns-4 c =
+    let a = c .before .before .before .before .before .before .before .before .pre in
+    plan-here (a .0) 23 2 (a .1 ∙ other (c .before .before .match .keys2) (c .before .match3 .rest .1)) refl (c .ptr-locals2 .ensures (subject (a .0)))
 
 returns-5 : tie.Need-returns-5
-returns-5 c = c .literals .ensures _ _ _ _ ∙ plan-is _ _ 54 (bodyOf 54) (c .before .before .before .before .before .before .before .before .pre .1 ∙ c .before .match4 .keys1) refl
+returns-5 c =
+    let a = c .before .before .before .before .before .before .before .before .pre in
+    plan-here (a .0) 54 (bodyOf 54) (a .1 ∙ c .before .match4 .keys1) refl (c .literals .ensures (subject (a .0)))
 
 returns-6 : tie.Need-returns-6
-returns-6 c = c .literals2 .ensures _ _ _ _ ∙ plan-is _ _ 56 (bodyOf 56) (c .before .before .before .before .before .before .before .before .pre .1 ∙ other (c .before .before .match .keys3) (c .before .match4 .rest .1)) refl
+returns-6 c =
+    let a = c .before .before .before .before .before .before .before .before .pre in
+    plan-here (a .0) 56 (bodyOf 56) (a .1 ∙ other (c .before .before .match .keys3) (c .before .match4 .rest .1)) refl (c .literals2 .ensures (subject (a .0)))
 
 returns-7 : tie.Need-returns-7
 returns-7 c = c .plan-words .ensures

@@ -3,11 +3,10 @@ use mathlib.Core.Logic.{inl, inr}
 use mathlib.Core.Path.{_∙_, refl}
 use borrow.Author.Needs.{needs}
 use Rattle.model.specs.Checker.{basicEffect, effectOf}
-use Rattle.model.specs.File.{bodies, bodyOf, insOf}
+use Rattle.model.specs.File.{codes, bodies, bodyOf, insOf}
 use Rattle.plans.specs.Given.{other}
-use Rattle.plan.specs.Arms.{on-words}
+use Rattle.plan.specs.Arms.{on-words, subject, plan-here}
 use Rattle.plan.specs.Kinds.{third, fifth}
-use Rattle.plan.specs.Ready.{plan-is}
 use Rattle.plan.proofs.plan_words.Statement.{statement}
 use Rattle.plan.proofs.plan_words.Tie as tie
 
@@ -87,52 +86,76 @@ plan-objects-requires : tie.Need-plan-objects-requires
 plan-objects-requires c κs = search needs
 
 returns : tie.Need-returns
-unfolding bodyOf bodies
-returns c = c .compares .ensures _ _ _ _ ∙ plan-is _ _ 130 0 (c .before .before .before .before .before .before .before .before .pre .1 ∙ c .before .match2 .keys1) refl
+unfolding bodyOf bodies codes
+returns c =
+    let a = c .before .before .before .before .before .before .before .before .pre in
+    plan-here (a .0) 130 0 (a .1 ∙ c .before .match2 .keys1) refl (c .compares .ensures _ (subject (a .0)))
 
 returns-2 : tie.Need-returns-2
-unfolding bodyOf bodies
-returns-2 c = c .compares2 .ensures _ _ _ _ ∙ plan-is _ _ 195 0 (c .before .before .before .before .before .before .before .before .pre .1 ∙ c .before .match2 .keys2) refl
+unfolding bodyOf bodies codes
+returns-2 c =
+    let a = c .before .before .before .before .before .before .before .before .pre in
+    plan-here (a .0) 195 0 (a .1 ∙ c .before .match2 .keys2) refl (c .compares2 .ensures _ (subject (a .0)))
 
 returns-3 : tie.Need-returns-3
-unfolding bodyOf bodies
-returns-3 c = c .compares3 .ensures _ _ _ _ ∙ plan-is _ _ 198 0 (c .before .before .before .before .before .before .before .before .pre .1 ∙ c .before .match2 .keys3) refl
+unfolding bodyOf bodies codes
+returns-3 c =
+    let a = c .before .before .before .before .before .before .before .before .pre in
+    plan-here (a .0) 198 0 (a .1 ∙ c .before .match2 .keys3) refl (c .compares3 .ensures _ (subject (a .0)))
 
 returns-4 : tie.Need-returns-4
-unfolding bodyOf bodies
-returns-4 c = c .compares4 .ensures _ _ _ _ ∙ plan-is _ _ 201 0 (c .before .before .before .before .before .before .before .before .pre .1 ∙ c .before .match2 .keys4) refl
+unfolding bodyOf bodies codes
+returns-4 c =
+    let a = c .before .before .before .before .before .before .before .before .pre in
+    plan-here (a .0) 201 0 (a .1 ∙ c .before .match2 .keys4) refl (c .compares4 .ensures _ (subject (a .0)))
 
 returns-5 : tie.Need-returns-5
-unfolding bodyOf bodies
-returns-5 c = c .compares5 .ensures _ _ _ _ ∙ plan-is _ _ 204 0 (c .before .before .before .before .before .before .before .before .pre .1 ∙ fifth (c .before .before .match .keys1) (c .before .match2 .rest)) refl
+unfolding bodyOf bodies codes
+returns-5 c =
+    let a = c .before .before .before .before .before .before .before .before .pre in
+    plan-here (a .0) 204 0 (a .1 ∙ fifth (c .before .before .match .keys1) (c .before .match2 .rest)) refl (c .compares5 .ensures _ (subject (a .0)))
 
 returns-6 : tie.Need-returns-6
-unfolding bodyOf bodies
-returns-6 c = c .sums .ensures _ _ _ _ ∙ plan-is _ _ 140 0 (c .before .before .before .before .before .before .before .before .pre .1 ∙ c .before .match3 .keys1) refl
+unfolding bodyOf bodies codes
+returns-6 c =
+    let a = c .before .before .before .before .before .before .before .before .pre in
+    plan-here (a .0) 140 0 (a .1 ∙ c .before .match3 .keys1) refl (c .sums .ensures _ (subject (a .0)))
 
 returns-7 : tie.Need-returns-7
-unfolding bodyOf bodies
-returns-7 c = c .sums2 .ensures _ _ _ _ ∙ plan-is _ _ 142 0 (c .before .before .before .before .before .before .before .before .pre .1 ∙ other (c .before .before .match .keys2) (c .before .match3 .rest .1)) refl
+unfolding bodyOf bodies codes
+returns-7 c =
+    let a = c .before .before .before .before .before .before .before .before .pre in
+    plan-here (a .0) 142 0 (a .1 ∙ other (c .before .before .match .keys2) (c .before .match3 .rest .1)) refl (c .sums2 .ensures _ (subject (a .0)))
 
 returns-8 : tie.Need-returns-8
-unfolding bodyOf bodies
-returns-8 c = c .products .ensures _ _ _ _ ∙ plan-is _ _ 141 0 (c .before .before .before .before .before .before .before .before .pre .1 ∙ c .before .match4 .keys1) refl
+unfolding bodyOf bodies codes
+returns-8 c =
+    let a = c .before .before .before .before .before .before .before .before .pre in
+    plan-here (a .0) 141 0 (a .1 ∙ c .before .match4 .keys1) refl (c .products .ensures _ (subject (a .0)))
 
 returns-9 : tie.Need-returns-9
-unfolding bodyOf bodies
-returns-9 c = c .products2 .ensures _ _ _ _ ∙ plan-is _ _ 143 0 (c .before .before .before .before .before .before .before .before .pre .1 ∙ c .before .match4 .keys2) refl
+unfolding bodyOf bodies codes
+returns-9 c =
+    let a = c .before .before .before .before .before .before .before .before .pre in
+    plan-here (a .0) 143 0 (a .1 ∙ c .before .match4 .keys2) refl (c .products2 .ensures _ (subject (a .0)))
 
 returns-10 : tie.Need-returns-10
-unfolding bodyOf bodies
-returns-10 c = c .products3 .ensures _ _ _ _ ∙ plan-is _ _ 145 0 (c .before .before .before .before .before .before .before .before .pre .1 ∙ third (c .before .before .match .keys3) (c .before .match4 .rest)) refl
+unfolding bodyOf bodies codes
+returns-10 c =
+    let a = c .before .before .before .before .before .before .before .before .pre in
+    plan-here (a .0) 145 0 (a .1 ∙ third (c .before .before .match .keys3) (c .before .match4 .rest)) refl (c .products3 .ensures _ (subject (a .0)))
 
 returns-11 : tie.Need-returns-11
-unfolding bodyOf bodies
-returns-11 c = c .unaries .ensures _ _ _ _ ∙ plan-is _ _ 144 0 (c .before .before .before .before .before .before .before .before .pre .1 ∙ c .before .match5 .keys1) refl
+unfolding bodyOf bodies codes
+returns-11 c =
+    let a = c .before .before .before .before .before .before .before .before .pre in
+    plan-here (a .0) 144 0 (a .1 ∙ c .before .match5 .keys1) refl (c .unaries .ensures _ (subject (a .0)))
 
 returns-12 : tie.Need-returns-12
-unfolding bodyOf bodies
-returns-12 c = c .unaries2 .ensures _ _ _ _ ∙ plan-is _ _ 146 0 (c .before .before .before .before .before .before .before .before .pre .1 ∙ other (c .before .before .match .keys4) (c .before .match5 .rest .1)) refl
+unfolding bodyOf bodies codes
+returns-12 c =
+    let a = c .before .before .before .before .before .before .before .before .pre in
+    plan-here (a .0) 146 0 (a .1 ∙ other (c .before .before .match .keys4) (c .before .match5 .rest .1)) refl (c .unaries2 .ensures _ (subject (a .0)))
 
 returns-13 : tie.Need-returns-13
 returns-13 c = c .plan-objects .ensures

@@ -82,7 +82,7 @@ writes-requires-3 c κs = search needs
 returns : tie.Need-returns
 unfolding planned planOf basicPlan insOf
 returns c =
-    λ p h.
+    λ m.
     rw (
       c .writes .ensures,
       c .before .before .before .match .keys1,
@@ -93,7 +93,7 @@ returns c =
 returns-2 : tie.Need-returns-2
 unfolding planned planOf basicPlan insOf
 returns-2 c =
-    λ p h.
+    λ m.
     rw (
       c .writes2 .ensures,
       c .before .before .before .match .keys2,
@@ -104,7 +104,7 @@ returns-2 c =
 returns-3 : tie.Need-returns-3
 unfolding planned planOf basicPlan insOf
 returns-3 c =
-    λ p h.
+    λ m.
     let n = c .before .match .rest in
     let e = other (other (c .before .before .before .before .before .before .before .before .before .pre .7) (n .0 .1)) (n .1) in
     rw (

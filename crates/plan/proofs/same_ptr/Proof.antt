@@ -39,7 +39,7 @@ writes-requires c κs = search needs
 
 returns : tie.Need-returns
 unfolding planned planOf basicPlan insOf
-returns c = λ f m q h. rw (c .writes .ensures, same-word _ _ (c .before .before .before .eq-w .ensures))
+returns c = λ f m. rw (c .writes .ensures, same-word _ _ (c .before .before .before .eq-w .ensures))
 
 pub same-ptr-spec : {M : Type 1} → statement M
 same-ptr-spec =

@@ -23,7 +23,7 @@ writes-requires c κs = search needs
 
 returns : tie.Need-returns
 unfolding planned planOf basicPlan insOf
-returns c = λ f m q h. c .writes .ensures
+returns c = λ f m. c .writes .ensures
 
 pub set-root-spec : {M : Type 1} → statement M
 set-root-spec =

@@ -2,7 +2,7 @@
 use mathlib.Core.Path.{_∙_}
 use native.Mathlib.Omega.{arith}
 use borrow.Author.Needs.{needs}
-use Rattle.model.specs.Control.{machine}
+use Rattle.model.specs.Control.{setRegs, setMain, setPtr, setCtl}
 use Rattle.model.specs.File.{insOf}
 use Rattle.plans.specs.Given.{numbers, no-main, no-ptr, no-ctl, room, planned}
 use Rattle.plans.proofs.calls.Statement.{statement}
@@ -42,11 +42,11 @@ add-if1 c =
 returns : tie.Need-returns
 unfolding planned insOf
 returns c =
-    λ h.
+    λ m.
     let read = c .before .before .before .before .before .before in
     let k = numbers _ (read .before .before .before .before .before .before .before .pre .4) (read .before .before .operand .ensures .is)
     (read .head-at .ensures) in
-    no-main k (machine _ _ _ _ h) _ (c .if1 .taken)
+    no-main k (setRegs _ (setMain _ (setPtr _ (setCtl _ m)))) _ (c .if1 .taken)
 
 add-if2 : tie.Need-add-if2
 add-if2 c =
@@ -56,11 +56,11 @@ add-if2 c =
 returns-2 : tie.Need-returns-2
 unfolding planned insOf
 returns-2 c =
-    λ h.
+    λ m.
     let read = c .before .before .before .before .before .before .before .before in
     let k = numbers _ (read .before .before .before .before .before .before .before .pre .4) (read .before .before .operand .ensures .is)
     (read .head-at .ensures) in
-    no-ptr k (machine _ _ _ _ h) _ (c .before .before .if1 .left) (c .if2 .taken)
+    no-ptr k (setRegs _ (setMain _ (setPtr _ (setCtl _ m)))) _ (c .before .before .if1 .left) (c .if2 .taken)
 
 add-if3 : tie.Need-add-if3
 add-if3 c =
@@ -70,11 +70,11 @@ add-if3 c =
 returns-3 : tie.Need-returns-3
 unfolding planned insOf
 returns-3 c =
-    λ h.
+    λ m.
     let read = c .before .before .before .before .before .before .before .before .before .before in
     let k = numbers _ (read .before .before .before .before .before .before .before .pre .4) (read .before .before .operand .ensures .is)
     (read .head-at .ensures) in
-    no-ctl k (machine _ _ _ _ h) _ (c .before .before .before .before .if1 .left) (c .before .before .if2 .left) (c .if3 .taken)
+    no-ctl k (setRegs _ (setMain _ (setPtr _ (setCtl _ m)))) _ (c .before .before .before .before .if1 .left) (c .before .before .if2 .left) (c .if3 .taken)
 
 add-writes : tie.Need-add-writes
 add-writes c =
@@ -94,11 +94,11 @@ writes-requires c κs = search needs
 returns-4 : tie.Need-returns-4
 unfolding planned insOf
 returns-4 c =
-    λ h.
+    λ m.
     let read = c .before .before .before .before .before .before .before .before .before .before .before in
     let k = numbers _ (read .before .before .before .before .before .before .before .pre .4) (read .before .before .operand .ensures .is)
     (read .head-at .ensures) in
-    c .writes .ensures ∙ room k (machine _ _ _ _ h) _ (c .before .before .before .before .before .if1 .left)
+    c .writes .ensures ∙ room k (setRegs _ (setMain _ (setPtr _ (setCtl _ m)))) _ (c .before .before .before .before .before .if1 .left)
     (c .before .before .before .if2 .left) (c .before .if3 .left)
 
 pub calls-spec : {M : Type 1} → statement M

@@ -1,7 +1,7 @@
 -- `plans::compares`: by what `compare` ensures of the two topmost words.
 use mathlib.Core.Path.{_∙_, refl}
 use borrow.Author.Needs.{needs}
-use Rattle.model.specs.Control.{machine}
+use Rattle.model.specs.Control.{setRegs, setMain}
 use Rattle.plans.specs.Given.{Binary, planned}
 use Rattle.plans.proofs.compares.Statement.{statement}
 use Rattle.plans.proofs.compares.Tie as tie
@@ -35,7 +35,7 @@ writes-requires c κs = search needs
 
 returns : tie.Need-returns
 unfolding planned Binary
-returns c = λ f p q h. c .writes .ensures ∙ c .before .before .compare .ensures f _ (machine _ _ p q h) _ refl refl
+returns c = λ f m. c .writes .ensures ∙ c .before .before .compare .ensures f _ (setRegs _ (setMain _ m)) _ refl refl
 
 pub compares-spec : {M : Type 1} → statement M
 compares-spec =

@@ -14,7 +14,7 @@ writes-requires c κs = search needs
 
 returns : tie.Need-returns
 unfolding planned planOf insOf
-returns c = λ m p q h. rw (c .writes .ensures, c .before .before .if1 .taken, c .before .forwards .ensures .is)
+returns c = λ m. rw (c .writes .ensures, c .before .before .if1 .taken, c .before .forwards .ensures .is)
 
 backwards-requires : tie.Need-backwards-requires
 backwards-requires c κs = search needs
@@ -25,7 +25,7 @@ writes-requires-2 c κs = search needs
 returns-2 : tie.Need-returns-2
 unfolding planned planOf insOf
 returns-2 c =
-    λ m p q h.
+    λ m.
     let e = other (c .before .before .before .before .pre .1) (c .before .before .if1 .left) in
     rw (c .writes2 .ensures, e, c .before .backwards .ensures .is)
 

@@ -1,4 +1,4 @@
--- `plans::leaves`: the return place is word 3 of the frame's record.
+-- `plans::leaves`: the return place is the word `RETURNS` of the frame's record.
 use borrow.Author.Needs.{needs}
 use Rattle.model.specs.Control.{recAt}
 use Rattle.model.specs.File.{insOf}
@@ -30,7 +30,7 @@ writes-requires c κs = search needs
 
 returns : tie.Need-returns
 unfolding planned planOf insOf recAt
-returns c = λ f m p h. rw (c .writes .ensures, c .before .wide .ensures .is)
+returns c = λ f m. rw (c .writes .ensures, c .before .wide .ensures .is)
 
 pub leaves-spec : {M : Type 1} → statement M
 leaves-spec =

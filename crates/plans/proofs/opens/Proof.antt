@@ -12,7 +12,7 @@ add-if1 c = search needs
 
 returns : tie.Need-returns
 unfolding planned planOf insOf
-returns c = λ f m p h. rw (lt-leb _ _ (c .if1 .taken))
+returns c = λ f m. rw (lt-leb _ _ (c .if1 .taken))
 
 add-writes : tie.Need-add-writes
 add-writes c = search needs
@@ -22,7 +22,7 @@ writes-requires c κs = search needs
 
 returns-2 : tie.Need-returns-2
 unfolding planned planOf insOf
-returns-2 c = λ f m p h. rw (c .writes .ensures, le-leb _ _ (c .before .before .if1 .left))
+returns-2 c = λ f m. rw (c .writes .ensures, le-leb _ _ (c .before .before .if1 .left))
 
 pub opens-spec : {M : Type 1} → statement M
 opens-spec = tie.close (tie.spec add-if1 returns add-writes writes-requires returns-2)

@@ -40,7 +40,7 @@ number-requires c κs = search needs
 returns : tie.Need-returns
 unfolding planned planOf basicPlan insOf operate
 returns c =
-    λ f p q h.
+    λ f m.
     let z = c .before .times in
     rw (c .number .ensures, c .before .before .if1 .taken, toZ-ofZ w64 _ (record { sfits = z .ok }) ∙ z .ensures)
 
@@ -52,7 +52,7 @@ result-requires c κs = search needs
 
 returns-2 : tie.Need-returns-2
 unfolding planned planOf basicPlan insOf
-returns-2 c = λ f p q h. rw (c .result .ensures, c .before .before .if2 .taken, c .before .div .ensures)
+returns-2 c = λ f m. rw (c .result .ensures, c .before .before .if2 .taken, c .before .div .ensures)
 
 rem-requires : tie.Need-rem-requires
 rem-requires c κs = search needs
@@ -63,7 +63,7 @@ result-requires-2 c κs = search needs
 returns-3 : tie.Need-returns-3
 unfolding planned planOf basicPlan insOf
 returns-3 c =
-    λ f p q h.
+    λ f m.
     let e = other (other (c .before .before .before .before .before .before .before .before .before .before .pre .3) (c .before .before .before .if1 .left)) (c .before .before .if2 .left) in
     rw (c .result2 .ensures, e, c .before .rem .ensures)
 

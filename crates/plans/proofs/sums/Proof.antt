@@ -40,7 +40,7 @@ number-requires c κs = search needs
 returns : tie.Need-returns
 unfolding planned planOf basicPlan insOf operate
 returns c =
-    λ f p q h.
+    λ f m.
     let z = c .before .plus in
     rw (c .number .ensures, c .before .before .if1 .taken, toZ-ofZ w64 _ (record { sfits = z .ok }) ∙ z .ensures)
 
@@ -53,7 +53,7 @@ number-requires-2 c κs = search needs
 returns-2 : tie.Need-returns-2
 unfolding planned planOf basicPlan insOf operate
 returns-2 c =
-    λ f p q h.
+    λ f m.
     let z = c .before .minus in
     let e = other (c .before .before .before .before .before .before .before .before .before .pre .3) (c .before .before .if1 .left) in
     rw (c .number2 .ensures, e, toZ-ofZ w64 _ (record { sfits = z .ok }) ∙ z .ensures)

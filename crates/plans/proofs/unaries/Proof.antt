@@ -27,7 +27,7 @@ negates-requires c κs = search needs
 returns : tie.Need-returns
 unfolding planned planOf basicPlan insOf operate1 valueOf
 returns c =
-    λ f p q h.
+    λ f m.
     let t = sym (c .before .negates .ensures) ∙ not-true _ (c .if2 .taken) in
     rw (c .before .before .if1 .taken, t)
 
@@ -40,7 +40,7 @@ writes-requires c κs = search needs
 returns-2 : tie.Need-returns-2
 unfolding planned planOf basicPlan insOf operate1 valueOf
 returns-2 c =
-    λ f p q h.
+    λ f m.
     let asked = c .before .before .before in
     let t = sym (asked .negates .ensures) ∙ not-false _ (c .before .before .if2 .left) in
     rw (c .writes .ensures, asked .before .if1 .taken, c .before .neg .ensures, t)
@@ -54,7 +54,7 @@ writes-requires-2 c κs = search needs
 returns-3 : tie.Need-returns-3
 unfolding planned planOf basicPlan insOf
 returns-3 c =
-    λ f p q h.
+    λ f m.
     let e = other (c .before .before .before .before .before .before .before .pre .3) (c .before .before .if1 .left) in
     rw (c .writes2 .ensures, e, ← (c .before .not .ensures))
 

@@ -1,58 +1,52 @@
 -- `transfer::stack_ok`: by the definition's own tests, turned into differences.
-use mathlib.Core.Bool.{false}
-use mathlib.Core.Path.{_≡_, _∙_}
+use mathlib.Core.Bool.{true, false}
+use mathlib.Core.Path.{_≡_, _∙_, sym}
 use Prim.Native.Nat.{ℕ, _+_, _-_, _<_, _≤_}
-use native.Mathlib.Decide.{decLe}
 use native.Mathlib.Omega.{arith}
 use lib.Dec.{leb}
-use borrow.Author.Tests.{le-leb, lt-leb}
-use Rattle.transfer.specs.Tests.{stackOk}
+use borrow.Author.Tests.{le-leb, lt-leb, not-true, not-false}
+use Rattle.transfer.specs.Tests.{floorOk, stackOk, above, floor-there}
 use borrow.Author.Needs.{needs}
 use Rattle.transfer.proofs.stack_ok.Statement.{statement}
 use Rattle.transfer.proofs.stack_ok.Tie as tie
 
-above : (rest push x : ℕ) → rest ≤ x → leb push (x - rest) ≡ leb (rest + push) x
-above rest push x h = elim (decLe push (x - rest)) [
-  | yes a ↦ rw (le-leb push (x - rest) a, le-leb (rest + push) x (omega arith))
-  | no a ↦ rw (lt-leb push (x - rest) (omega arith), lt-leb (rest + push) x (omega arith))
-]
-
 module _ (have floor pop push word x : ℕ) where
-  under : have < floor + pop → false ≡ stackOk have floor pop push word x
+  under : floorOk have floor pop ≡ false → false ≡ stackOk have floor pop push word x
   unfolding stackOk
-  under h = rw (lt-leb (floor + pop) have h)
+  under h = rw h
 
-  short : floor + pop ≤ have → have - pop < word → false ≡ stackOk have floor pop push word x
+  short : floorOk have floor pop ≡ true → have - pop < word → false ≡ stackOk have floor pop push word x
   unfolding stackOk
-  short h l = rw (le-leb (floor + pop) have h, lt-leb word (have - pop) l)
+  short h l = rw (h, lt-leb word (have - pop) l)
 
-  enough : floor + pop ≤ have → word ≤ have - pop → leb (have - pop + push) x ≡ stackOk have floor pop push word x
+  enough : floorOk have floor pop ≡ true → word ≤ have - pop → leb (have - pop + push) x ≡ stackOk have floor pop push word x
   unfolding stackOk
-  enough h l = rw (le-leb (floor + pop) have h, le-leb word (have - pop) l)
+  enough h l = rw (h, le-leb word (have - pop) l)
 
-  high : floor + pop ≤ have → word ≤ have - pop → x < have - pop → false ≡ stackOk have floor pop push word x
+  high : floorOk have floor pop ≡ true → word ≤ have - pop → x < have - pop → false ≡ stackOk have floor pop push word x
   high h l m = rw (lt-leb (have - pop + push) x (omega arith)) at (enough h l)
 
-  fits : floor + pop ≤ have → word ≤ have - pop → have - pop ≤ x → leb push (x - (have - pop)) ≡ stackOk have floor pop push word x
+  fits : floorOk have floor pop ≡ true → word ≤ have - pop → have - pop ≤ x →
+      leb push (x - (have - pop)) ≡ stackOk have floor pop push word x
   fits h l m = above (have - pop) push x m ∙ enough h l
 
-returns : tie.Need-returns
-returns c = under _ _ _ _ _ _ (omega arith)
+floor-ok-requires : tie.Need-floor-ok-requires
+floor-ok-requires c κs = search needs
 
-returns-2 : tie.Need-returns-2
-returns-2 c = under _ _ _ _ _ _ (omega arith)
+returns : tie.Need-returns
+returns c = under _ _ _ _ _ _ (sym (c .before .floor-ok .ensures) ∙ not-true _ (c .if1 .taken))
 
 sub-rest : tie.Need-sub-rest
-sub-rest c = search needs
+sub-rest c = floor-there _ _ _ (sym (c .before .floor-ok .ensures) ∙ not-false _ (c .if1 .left))
+
+returns-2 : tie.Need-returns-2
+returns-2 c = short _ _ _ _ _ _ (sym (c .before .before .floor-ok .ensures) ∙ not-false _ (c .before .if1 .left)) (omega arith)
 
 returns-3 : tie.Need-returns-3
-returns-3 c = short _ _ _ _ _ _ (omega arith) (omega arith)
+returns-3 c = high _ _ _ _ _ _ (sym (c .before .before .before .floor-ok .ensures) ∙ not-false _ (c .before .before .if1 .left)) (omega arith) (omega arith)
 
 returns-4 : tie.Need-returns-4
-returns-4 c = high _ _ _ _ _ _ (omega arith) (omega arith) (omega arith)
-
-returns-5 : tie.Need-returns-5
-returns-5 c = fits _ _ _ _ _ _ (omega arith) (omega arith) (omega arith)
+returns-4 c = fits _ _ _ _ _ _ (sym (c .before .before .before .floor-ok .ensures) ∙ not-false _ (c .before .before .if1 .left)) (omega arith) (omega arith)
 
 pub stack-ok-spec : {M : Type 1} → statement M
-stack-ok-spec = tie.close (tie.spec returns returns-2 sub-rest returns-3 returns-4 returns-5)
+stack-ok-spec = tie.close (tie.spec floor-ok-requires returns sub-rest returns-2 returns-3 returns-4)
