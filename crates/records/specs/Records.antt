@@ -126,10 +126,14 @@ pub call-below : (f : List ℕ) (q : ℕ) → callBefore f q ≤ q
 unfolding callBefore
 call-below f q = omega arith
 
+-- the head's parameters are what is popped
+abbrev pub Pops : Effect → Head → Type 0
+Pops e h = (e .popMain ≡ h .a) × (e .popPtr ≡ h .b)
+
 -- what the call of a frame that passes its caller's tests popped
 pub called : (f map : List ℕ) (lm lp : ℕ) (w : FrameRead) (c : ℕ) (h : Head) → HeadFor f (w .proc) h →
     true ≡ all (callerTests f map lm lp (theFrame w) c (effectOf f (insAt f c))) →
-    (effectOf f (insAt f c) .popMain ≡ h .a) × (effectOf f (insAt f c) .popPtr ≡ h .b)
+    Pops (effectOf f (insAt f c)) h
 called f map lm lp w c h H e =
     let t = all-true (callerTests f map lm lp (theFrame w) c (effectOf f (insAt f c))) (sym e) .1 .1 .1 in
     let p = call-pops f c (call-byte f c (t .0)) (w .proc) (t .1 .0) in

@@ -12,7 +12,7 @@ ghost use Rattle.model.specs.Control.{Rec, asHandler, recAt, down};
 ghost use Rattle.model.specs.Sound.{callBefore, frameTests, firstTests, callerTests, caller, handlerTests, outside};
 ghost use Rattle.code.specs.Parts.{Small};
 ghost use Rattle.places.specs.Places.{Shows, Ready, HeadFor};
-ghost use Rattle.records.specs.Records.{theFrame, theHandler, theLook, FrameIs, Near, Reads, Fits, Told};
+ghost use Rattle.records.specs.Records.{theFrame, theHandler, theLook, FrameIs, Near, Reads, Fits, Pops, Told};
 use code::Head;
 use model::CALLER;
 use model::FRAME;
@@ -190,7 +190,7 @@ fn caller_right(file: &[u8], map: &[u16], w: Frame, head: Head, c: usize) -> boo
 // frame's bases.
 fn caller_of(map: &[u16], w: Frame, s: Look, head: Head, c: usize) -> Look
     requires { ⌜ Fits w × (head .a < 256) × (head .b < 256) × (c < 4294967296) ⌝ }
-    ensures { λ r. ⌜ ((f : List ℕ) (lm lp : ℕ) (e : Effect) → e .popMain ≡ head .a → e .popPtr ≡ head .b → theLook r ≡ caller f (now (map .entry)) lm lp (theFrame w) (theLook s) c e) × Near r ⌝ }
+    ensures { λ r. ⌜ ((f : List ℕ) (lm lp : ℕ) (e : Effect) → Pops e head → theLook r ≡ caller f (now (map .entry)) lm lp (theFrame w) (theLook s) c e) × Near r ⌝ }
 {
     Look {
         inner: places::inner_at(map, c),

@@ -37,13 +37,13 @@ returns c =
     let a = c .before .before .before .before .before .before .before .before .before .before .args in
     let pre = c .before .before .before .before .before .before .before .before .before .before .pre in
     let fits = pre .0 in (
-      λ f lm lp e x y i. record {
+      λ f lm lp e pops i. record {
         inner = inner .is i;
         place = a .c;
         frame = a .w .caller;
         handler = a .s .handler;
-        mainBase = (main ∙ (λ j. a .w .«main_base» + sym x j - m j)) i;
-        ptrBase = (ptr ∙ (λ j. a .w .«ptr_base» + sym y j - p j)) i;
+        mainBase = (main ∙ (λ j. a .w .«main_base» + sym (pops .0) j - m j)) i;
+        ptrBase = (ptr ∙ (λ j. a .w .«ptr_base» + sym (pops .1) j - p j)) i;
       },
       record { inner = let l = inner .small in omega arith; place = pre .3; main = omega arith; ptr = omega arith },
     )

@@ -46,7 +46,10 @@ returns-3 c =
     λ lm lp. fails 0 (callerTests (a .file .now) (a .map .now) lm lp (theFrame (a .w)) (a .c) (effectOf (a .file .now) (insAt (a .file .now) (a .c)))) (omega arith)
 
 add-if4 : tie.Need-add-if4
-add-if4 c = let n = c .before .before .before .before .before .before .before .before .before .before .before .pre .2 .main in let h = c .before .before .before .before .before .before .before .before .before .before .before .pre .0 .a-small in omega arith
+add-if4 c =
+    let n = c .before .before .before .before .before .before .before .before .before .before .before .pre .2 .main in
+    let h = c .before .before .before .before .before .before .before .before .before .before .before .pre .0 .a-small in
+    omega arith
 
 main-at-requires : tie.Need-main-at-requires
 main-at-requires c κs = search needs
@@ -67,7 +70,10 @@ ptr-at-requires : tie.Need-ptr-at-requires
 ptr-at-requires c κs = search needs
 
 add-result : tie.Need-add-result
-add-result c = let n = c .before .before .before .before .before .before .before .before .before .before .before .before .before .before .before .before .pre .2 .ptr in let h = c .before .before .before .before .before .before .before .before .before .before .before .before .before .before .before .before .pre .0 .b-small in omega arith
+add-result c =
+    let n = c .before .before .before .before .before .before .before .before .before .before .before .before .before .before .before .before .pre .2 .ptr in
+    let h = c .before .before .before .before .before .before .before .before .before .before .before .before .before .before .before .before .pre .0 .b-small in
+    omega arith
 
 returns-5 : tie.Need-returns-5
 returns-5 c =

@@ -8,19 +8,29 @@ use Rattle.records.proofs.first_right.Statement.{statement}
 use Rattle.records.proofs.first_right.Tie as tie
 
 returns : tie.Need-returns
-returns c = λ f map lm lp. fails 0 (firstTests f map lm lp (theFrame (c .before .before .args .w)) (theLook (c .before .before .args .s))) (c .if1 .taken)
+returns c =
+    let a = c .before .before .args in
+    λ f map lm lp. fails 0 (firstTests f map lm lp (theFrame (a .w)) (theLook (a .s))) (c .if1 .taken)
 
 returns-2 : tie.Need-returns-2
-returns-2 c = λ f map lm lp. fails 1 (firstTests f map lm lp (theFrame (c .before .before .before .before .args .w)) (theLook (c .before .before .before .before .args .s))) (c .if2 .taken)
+returns-2 c =
+    let a = c .before .before .before .before .args in
+    λ f map lm lp. fails 1 (firstTests f map lm lp (theFrame (a .w)) (theLook (a .s))) (c .if2 .taken)
 
 returns-3 : tie.Need-returns-3
-returns-3 c = λ f map lm lp. fails 2 (firstTests f map lm lp (theFrame (c .before .before .before .before .before .before .args .w)) (theLook (c .before .before .before .before .before .before .args .s))) (c .if3 .taken)
+returns-3 c =
+    let a = c .before .before .before .before .before .before .args in
+    λ f map lm lp. fails 2 (firstTests f map lm lp (theFrame (a .w)) (theLook (a .s))) (c .if3 .taken)
 
 returns-4 : tie.Need-returns-4
-returns-4 c = λ f map lm lp. fails 3 (firstTests f map lm lp (theFrame (c .before .before .before .before .before .before .before .before .args .w)) (theLook (c .before .before .before .before .before .before .before .before .args .s))) (c .if4 .taken)
+returns-4 c =
+    let a = c .before .before .before .before .before .before .before .before .args in
+    λ f map lm lp. fails 3 (firstTests f map lm lp (theFrame (a .w)) (theLook (a .s))) (c .if4 .taken)
 
 returns-5 : tie.Need-returns-5
-returns-5 c = λ f map lm lp. fails 4 (firstTests f map lm lp (theFrame (c .before .before .before .before .before .before .before .before .before .before .args .w)) (theLook (c .before .before .before .before .before .before .before .before .before .before .args .s))) (c .if5 .taken)
+returns-5 c =
+    let a = c .before .before .before .before .before .before .before .before .before .before .args in
+    λ f map lm lp. fails 4 (firstTests f map lm lp (theFrame (a .w)) (theLook (a .s))) (c .if5 .taken)
 
 returns-6 : tie.Need-returns-6
 returns-6 c =

@@ -31,10 +31,14 @@ returns-2 c =
     λ rs e. fails 1 (frameTests (a .file .now) (a .map .now) (a .lm) (a .lp) (theFrame (a .w)) rs (theLook (a .s))) (omega arith)
 
 returns-3 : tie.Need-returns-3
-returns-3 c = let a = c .before .before .before .before .before .before .before .before .before .args in λ rs e. fails 2 (frameTests (a .file .now) (a .map .now) (a .lm) (a .lp) (theFrame (a .w)) rs (theLook (a .s))) (c .if3 .taken)
+returns-3 c =
+    let a = c .before .before .before .before .before .before .before .before .before .args in
+    λ rs e. fails 2 (frameTests (a .file .now) (a .map .now) (a .lm) (a .lp) (theFrame (a .w)) rs (theLook (a .s))) (c .if3 .taken)
 
 returns-4 : tie.Need-returns-4
-returns-4 c = let a = c .before .before .before .before .before .before .before .before .before .before .before .before .args in λ rs e. fails 3 (frameTests (a .file .now) (a .map .now) (a .lm) (a .lp) (theFrame (a .w)) rs (theLook (a .s))) (c .if4 .taken)
+returns-4 c =
+    let a = c .before .before .before .before .before .before .before .before .before .before .before .before .args in
+    λ rs e. fails 3 (frameTests (a .file .now) (a .map .now) (a .lm) (a .lp) (theFrame (a .w)) rs (theLook (a .s))) (c .if4 .taken)
 
 head-of-requires : tie.Need-head-of-requires
 head-of-requires c κs =
@@ -43,7 +47,10 @@ head-of-requires c κs =
     (heads, in-proc-below _ _ _ heads _ _ (sym (s .before .within .ensures) ∙ not-false _ (s .if1 .left)))
 
 add-if5 : tie.Need-add-if5
-add-if5 c = let n = c .before .before .before .before .before .before .before .before .before .before .before .before .before .before .before .pre .1 .main in let h = c .before .before .head-of .ensures .x-small in omega arith
+add-if5 c =
+    let n = c .before .before .before .before .before .before .before .before .before .before .before .before .before .before .before .pre .1 .main in
+    let h = c .before .before .head-of .ensures .x-small in
+    omega arith
 
 returns-5 : tie.Need-returns-5
 returns-5 c =

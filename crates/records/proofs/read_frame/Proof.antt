@@ -106,7 +106,7 @@ returns-4 c =
     let pops = called (a .file .now) (a .map .now) (a .lm) (a .lp) (w .result) call (c .before .before .before .before .head-of .result) (c .before .before .before .before .head-of .ensures) yes in
     let r = c .caller-of .ensures in
     told-caller _ _ _ _ _ _ _ (w .result) (w .ensures .is) (pre .3) own (c .before .before .before .before .before .if2 .left) _ (c .before .before .before .call-before .ensures) _ yes
-    (r .0 (a .file .now) (a .lm) (a .lp) (effectOf (a .file .now) (insAt (a .file .now) call)) (pops .0) (pops .1)) (r .1)
+    (r .0 (a .file .now) (a .lm) (a .lp) (effectOf (a .file .now) (insAt (a .file .now) call)) pops) (r .1)
 
 pub read-frame-spec : {M : Type 1} → statement M
 read-frame-spec =
