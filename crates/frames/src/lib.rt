@@ -5,18 +5,19 @@ ghost use mathlib.Core.List.{List};
 ghost use Prim.Native.Nat.{ℕ, _*_, _<_, _≤_};
 ghost use lib.ListN.{length, drop};
 ghost use Rattle.model.specs.Heap.{objectsOf};
-ghost use Rattle.model.specs.Control.{down, machine};
-ghost use Rattle.model.specs.Sound.{zeros, sound?};
+ghost use Rattle.model.specs.Choice.{all};
+ghost use Rattle.model.specs.Control.{Machine, setRegs, down};
+ghost use Rattle.model.specs.Sound.{zeros, stack?, stackTests, topmost, sound?};
 ghost use Rattle.heap.specs.Table.{Marks};
 ghost use Rattle.registers.specs.Registers.{Words};
 ghost use Rattle.places.specs.Places.{Ready};
-ghost use Rattle.records.specs.Records.{Near, stackOf};
-ghost use Rattle.frames.specs.Audit.{topsOk, doneOk, restOk, topmost};
+ghost use Rattle.records.specs.Records.{theLook, Near};
+ghost use Rattle.frames.specs.Audit.{topsOk, doneOk};
 use code::Head;
 use model::RECORD;
 use model::Regs;
 use records::Below;
-use records::Reading;
+use records::Look;
 
 // The topmost `count` records, from the top downwards.
 fn records_right(
@@ -28,17 +29,16 @@ fn records_right(
     lp: usize,
     ctl: &[u32],
     count: usize,
-    top: Reading,
+    top: Look,
 ) -> bool
     requires { ⌜ Ready (now file) (now map) (now table) k × Near top × (5 * count ≤ length (now ctl)) × (count < 4294967296) × (lm ≤ 4096) × (lp ≤ 4096) ⌝ }
-    ensures { λ r. ⌜ r ≡ stackOf (now (file .entry)) (now (map .entry)) lm lp (down (now (ctl .entry)) count) top ⌝ }
+    ensures { λ r. ⌜ r ≡ stack? (now (file .entry)) (now (map .entry)) lm lp (down (now (ctl .entry)) count) (theLook top) ⌝ }
 {
     let mut left = count;
     let mut s = top;
     while 0 < left {
         left -= 1;
-        let w = records::record_at(ctl, left);
-        let found = records::read_record(file, map, table, k, lm, lp, left, w, s);
+        let found = records::read_record(file, map, table, k, lm, lp, ctl, left, s);
         match found {
             Below::End(right) => {
                 return right;
@@ -67,7 +67,8 @@ fn zeros_from(words: &[u32], top: usize) -> bool
 
 // The words of the stacks: 0 above the tops, pointers on the pointer stack.
 fn words_right(main: &[u32], ptr: &[u32], ctl: &[u32], marks: &[bool; 16384], regs: Regs) -> bool
-    ensures { λ r. ⌜ ((heap : List ℕ) → Marks (objectsOf heap) (now (marks .entry)) → r ≡ restOk (machine regs (now (main .entry)) (now (ptr .entry)) (now (ctl .entry)) heap)) ⌝ }
+    ensures { λ r. ⌜ ((heap : List ℕ) → Marks (objectsOf heap) (now (marks .entry)) →
+        r ≡ all (stackTests (record { regs = regs; main = now (main .entry); ptr = now (ptr .entry); ctl = now (ctl .entry); heap = heap }))) ⌝ }
 {
     if !zeros_from(main, regs.mtop) {
         return false;
@@ -124,17 +125,17 @@ fn done_right(head: Head, regs: Regs) -> bool
 }
 
 // What the registers tell of the topmost frame.
-fn top_frame(map: &[u16], regs: Regs) -> Reading
+fn top_frame(map: &[u16], regs: Regs) -> Look
     requires { ⌜ Words regs ⌝ }
-    ensures { λ r. ⌜ (r ≡ topmost (now (map .entry)) regs) × Near r ⌝ }
+    ensures { λ r. ⌜ ((m : Machine) → theLook r ≡ topmost (now (map .entry)) (setRegs regs m)) × Near r ⌝ }
 {
-    Reading {
+    Look {
         inner: places::inner_at(map, regs.place),
         place: regs.place,
         frame: regs.frame,
         handler: regs.handler,
-        main: records::less(regs.mtop, places::main_at(map, regs.place)),
-        ptr: records::less(regs.ptop, places::ptr_at(map, regs.place)),
+        main_base: records::less(regs.mtop, places::main_at(map, regs.place)),
+        ptr_base: records::less(regs.ptop, places::ptr_at(map, regs.place)),
     }
 }
 
@@ -151,7 +152,8 @@ pub fn sound_state(
     regs: Regs,
 ) -> bool
     requires { ⌜ Ready (now file) (now map) (now table) k × Words regs × (length (now main) ≤ 4096) × (length (now ptr) ≤ 4096) ⌝ }
-    ensures { λ r. ⌜ ((heap : List ℕ) → Marks (objectsOf heap) (now (marks .entry)) → r ≡ sound? (now (file .entry)) (now (map .entry)) (machine regs (now (main .entry)) (now (ptr .entry)) (now (ctl .entry)) heap)) ⌝ }
+    ensures { λ r. ⌜ ((heap : List ℕ) → Marks (objectsOf heap) (now (marks .entry)) →
+        r ≡ sound? (now (file .entry)) (now (map .entry)) (record { regs = regs; main = now (main .entry); ptr = now (ptr .entry); ctl = now (ctl .entry); heap = heap })) ⌝ }
 {
     if regs.state == 1 {
         let head = places::head_of(file, table, k, 0);

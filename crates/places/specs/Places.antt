@@ -27,10 +27,14 @@ pub record Tabled (f table : List ℕ) (k : ℕ) : Type 0 where
   pub records : recordsOf f ≡ starts places
   pub placed : Placed f table k
 
--- and with a map that has 65,535 where no instruction starts: what the audit goes by
+-- a map that has 65,535 where no instruction starts
+abbrev pub Shows : List ℕ → List ℕ → Type 0
+Shows f map = (p : ℕ) → p < length f → eqb (mainAt map p) none ≡ not (isIns f p)
+
+-- both: what the audit goes by
 pub record Ready (f map table : List ℕ) (k : ℕ) : Type 0 where
   pub heads : Tabled f table k
-  pub shows : (p : ℕ) → p < length f → eqb (mainAt map p) none ≡ not (isIns f p)
+  pub shows : Shows f map
 
 -- a file that passed is ready, with the finished map
 pub passed-ready : (f map₀ map table : List ℕ) (k : ℕ) → Bytes f → verdictOf f map₀ ≡ pass map → Placed f table k → Ready f map table k
@@ -66,12 +70,12 @@ endOf f n = if ltb (n + 1) (procs f) then headOf f (n + 1) else length f
 unfoldable pub inProc : List ℕ → ℕ → ℕ → Bool
 inProc f n p = isIns f p && eqb n (procAt f p)
 
-pub in-proc-true : (f : List ℕ) (n p : ℕ) → inProc f n p ≡ true → n ≡ procAt f p
+pub in-proc-true : (f : List ℕ) (n p : ℕ) → inProc f n p ≡ true → (isIns f p ≡ true) × (n ≡ procAt f p)
 unfolding inProc
 in-proc-true f n p e = go (isIns f p) (eqb n (procAt f p)) refl e
   where
-    go : (t u : Bool) → eqb n (procAt f p) ≡ u → (t && u) ≡ true → n ≡ procAt f p
-    go true true w e = eqb-true n (procAt f p) w
+    go : (t u : Bool) → eqb n (procAt f p) ≡ u → (t && u) ≡ true → (t ≡ true) × (n ≡ procAt f p)
+    go true true w e = (refl, eqb-true n (procAt f p) w)
     go true false w e = absurd (true≢false (sym e))
     go false u w e = absurd (true≢false (sym e))
 
@@ -246,7 +250,7 @@ module _ (f table : List ℕ) (k : ℕ) (T : Tabled f table k) (n : ℕ) where
 
   pub in-proc-below : (p : ℕ) → inProc f n p ≡ true → n < k
   in-proc-below p e =
-      let a = in-proc-true f n p e in
+      let a = in-proc-true f n p e .1 in
       let b = proc-below f (T .places) (T .records) p in
       let c = T .placed .count in
       omega arith

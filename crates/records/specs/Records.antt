@@ -1,149 +1,166 @@
--- Control records from the top downwards: the tests with the procedure that the record names are the model's, since a frame whose
--- place is an instruction of that procedure has it; and what one record leaves of `stack?` to the records below.
-use Prim.Native.Nat.{ℕ, suc, _+_, _-_, _<_, _≤_}
-use mathlib.Core.Bool.{Bool, true, false, _&&_}
-use mathlib.Core.List.{List, [], _∷_, _++_}
+-- One control record against a passed file and its map: what the code reads has the model's names, the tests that the code makes are the
+-- model's, though in another order, and what one record leaves of `stack?` to the records below.
+use Prim.Native.Nat.{ℕ, zero, suc, _+_, _-_, _<_, _≤_}
+use mathlib.Core.Bool.{Bool, true, false, true≢false, not, _&&_}
+use mathlib.Core.List.{List, _∷_}
 use mathlib.Core.Path.{_≡_, refl, ap, sym, _∙_}
+use native.Mathlib.Decide.{decLt}
 use native.Mathlib.Omega.{arith}
 use lib.Dec.{eqb}
 use lib.ListN.{length}
 use borrow.Author.Tests.{eq-eqb, ne-eqb, eqb-true}
-use Rattle.model.specs.Choice.{if_then_else_, Test, same, most, yes?, holds, all, All, all-true}
-use Rattle.model.specs.File.{byteAt, operand, procAt, paramsMain, paramsPtr, mostMain, mostPtr}
-use Rattle.model.specs.Checker.{none}
-use Rattle.model.specs.Control.{Rec, rec, recAt}
-use Rattle.model.specs.Sound.{mainAt, ptrAt, innerAt, isIns, isCall, callSize, frameTests, stack?}
-use Rattle.records.specs.declared.Record.{Record}
-use Rattle.records.specs.declared.Reading.{Reading}
+use Rattle.model.specs.Choice.{if_then_else_, Test, all, all-true}
+use Rattle.model.specs.File.{codes, bodies, bodyOf, byteAt, operand, after, procAt, insOf, insAt, paramsMain, paramsPtr}
+use Rattle.model.specs.Checker.{none, Effect, effectOf}
+use Rattle.model.specs.Control.{Rec, Frame, Handler, asFrame, asHandler, frameRec, handlerRec, recAt, down}
+use Rattle.model.specs.Sound.{Look, mainAt, isIns, isCode, callBefore, frameTests, firstTests, callerTests, caller, handlerTests, outside, stack?}
+use Rattle.records.specs.declared.Frame.{Frame as FrameRead}
+use Rattle.records.specs.declared.Handler.{Handler as HandlerRead}
+use Rattle.records.specs.declared.Look.{Look as LookRead}
 use Rattle.records.specs.declared.Below.{Below}
 use Rattle.records.specs.declared.Below.the-variants.{End, On}
-use Rattle.records.specs.Tests.{Fails, test, fails, last}
+use Rattle.records.specs.Tests.{fails-at}
 use Rattle.code.specs.declared.Head.{Head}
-use Rattle.code.specs.Parts.{Small}
-use Rattle.places.specs.Places.{inProc, in-proc-true, HeadFor}
+use Rattle.places.specs.Places.{Shows, beyond, inProc, HeadFor}
 
-abbrev pub asRec : Record → Rec
-asRec w = rec (w .w0) (w .w1) (w .w2) (w .w3) (w .w4)
+-- the structs of the code as the model's records
+abbrev pub theFrame : FrameRead → Frame
+theFrame w =
+    record {
+      mainBase = w .«main_base»;
+      ptrBase = w .«ptr_base»;
+      proc = w .proc;
+      returns = w .returns;
+      caller = w .caller;
+    }
 
-pub record RecordIs (l : List ℕ) (k : ℕ) (w : Record) : Type 0 where
-  pub is : asRec w ≡ recAt l k
-  pub small : w .w3 < 4294967296
+abbrev pub theHandler : HandlerRead → Handler
+theHandler w =
+    record {
+      opened = w .opened;
+      mainTop = w .«main_top»;
+      ptrTop = w .«ptr_top»;
+      frame = w .frame;
+      outer = w .outer;
+    }
+
+abbrev pub theLook : LookRead → Look
+theLook s =
+    record {
+      inner = s .inner;
+      place = s .place;
+      frame = s .frame;
+      handler = s .handler;
+      mainBase = s .«main_base»;
+      ptrBase = s .«ptr_base»;
+    }
+
+pub record FrameIs (l : List ℕ) (k : ℕ) (w : FrameRead) : Type 0 where
+  pub is : theFrame w ≡ asFrame (recAt l k)
+  pub small : w .returns < 4294967296
 
 -- what indexes the map, or is added to, is a word
-pub record Near (s : Reading) : Type 0 where
+pub record Near (s : LookRead) : Type 0 where
   pub inner : s .inner < 4294967296
   pub place : s .place < 4294967296
-  pub main : s .main < 4294967296
-  pub ptr : s .ptr < 4294967296
+  pub main : s .«main_base» < 4294967296
+  pub ptr : s .«ptr_base» < 4294967296
 
 -- what is known where a record is read: the lengths of the main and the pointer stack are in 01's range
-pub record Reads (lm lp left : ℕ) (w : Record) (s : Reading) : Type 0 where
+pub record Reads (lm lp left : ℕ) (s : LookRead) : Type 0 where
   pub near : Near s
   pub main : lm ≤ 4096
   pub ptr : lp ≤ 4096
   pub few : left < 4294967296
-  pub small : w .w3 < 4294967296
 
--- the tests of a record on top of `left` others, the last one apart. A frame's procedure is the one that its record names, or n
-module _ (w : Record) (s : Reading) where
-  module _ (f : List ℕ) (lm lp left : ℕ) where
-    abbrev pub frameFirst : List Test
-    frameFirst =
-        yes? (inProc f (w .w2) (s .place))
-        ∷ same (s .frame) (left + 1)
-        ∷ same (w .w0) (s .main)
-        ∷ same (w .w1) (s .ptr)
-        ∷ most (s .main + mostMain f (w .w2)) lm
-        ∷ []
+-- the bases of a frame that lies in the lists
+pub record Fits (w : FrameRead) : Type 0 where
+  pub main : w .«main_base» ≤ 4096
+  pub ptr : w .«ptr_base» ≤ 4096
 
-    abbrev pub frameLast : Test
-    frameLast = most (s .ptr + mostPtr f (w .w2)) lp
+-- a call, by its code: the place behind it, and what it pops, which is its procedure's parameters
+module _ (f : List ℕ) (c : ℕ) (b : byteAt f c ≡ 72) where
+  pub call-after : after f c ≡ c + 3
+  unfolding after bodyOf bodies codes
+  call-after = rw b (omega arith)
 
-    unfoldable pub frameOk : Bool
-    frameOk = all (frameFirst ++ (frameLast ∷ []))
+  pub call-pops : (n : ℕ) → operand f c ≡ n →
+      (effectOf f (insAt f c) .popMain ≡ paramsMain f n) × (effectOf f (insAt f c) .popPtr ≡ paramsPtr f n)
+  unfolding insAt insOf effectOf
+  call-pops n e = rw (b, e) (refl, refl)
 
-    pub frame-fails : (k : ℕ) → Fails (test k (frameFirst ++ (frameLast ∷ []))) → false ≡ frameOk
-    unfolding frameOk
-    frame-fails k h = fails k (frameFirst ++ (frameLast ∷ [])) h
+  -- a place with a depth in the map is an instruction
+  pub is-call : (map : List ℕ) → Shows f map → mainAt map c < none → isCode f 72 c ≡ true
+  unfolding isCode
+  is-call map shows h =
+      let e = shows c (inside (decLt c (length f))) in
+      rw (here (isIns f c) (sym e ∙ ne-eqb (mainAt map c) none (omega arith)), eq-eqb (byteAt f c) 72 b)
+    where
+      inside : Dec (c < length f) → c < length f
+      inside (yes l) = l
+      inside (no l) = let z = beyond f c 0 (omega arith) in absurd (omega arith)
 
-    pub frame-last : (r : Bool) → r ≡ holds frameLast → All frameFirst → r ≡ frameOk
-    unfolding frameOk
-    frame-last r e h = last frameFirst frameLast r e h
+      here : (t : Bool) → not t ≡ false → t ≡ true
+      here true e = refl
+      here false e = absurd (true≢false e)
 
-    pub frame-in : frameOk ≡ true → inProc f (w .w2) (s .place) ≡ true
-    unfolding frameOk
-    frame-in e = all-true (frameFirst ++ (frameLast ∷ [])) e .0
+module _ (f : List ℕ) (c : ℕ) where
+  pub not-call : (byteAt f c ≡ 72 → ⊥) → isCode f 72 c ≡ false
+  unfolding isCode
+  not-call h = rw (ne-eqb (byteAt f c) 72 h) (go (isIns f c))
+    where
+      go : (t : Bool) → (t && false) ≡ false
+      go true = refl
+      go false = refl
 
-    -- the bases of a frame that fits are small
-    pub frame-fits : frameOk ≡ true → (s .main ≤ lm) × (s .ptr ≤ lp)
-    unfolding frameOk
-    frame-fits e = let h = all-true (frameFirst ++ (frameLast ∷ [])) e .1 .1 .1 .1 in (omega arith, omega arith)
+  call-byte : isCode f 72 c ≡ true → byteAt f c ≡ 72
+  unfolding isCode
+  call-byte e = go (isIns f c) (eqb (byteAt f c) 72) refl e
+    where
+      go : (t u : Bool) → eqb (byteAt f c) 72 ≡ u → (t && u) ≡ true → byteAt f c ≡ 72
+      go true true w e = eqb-true (byteAt f c) 72 w
+      go true false w e = absurd (true≢false (sym e))
+      go false u w e = absurd (true≢false (sym e))
 
-  module _ (n : ℕ) where
-    abbrev pub firstFirst : List Test
-    firstFirst = same n 0 ∷ same (s .main) 0 ∷ same (s .ptr) 0 ∷ same (w .w3) 0 ∷ same (w .w4) 0 ∷ []
+pub call-below : (f : List ℕ) (q : ℕ) → callBefore f q ≤ q
+unfolding callBefore
+call-below f q = omega arith
 
-    abbrev pub firstLast : Test
-    firstLast = same (s .handler) 0
+-- the head's parameters are what is popped
+abbrev pub Pops : Effect → Head → Type 0
+Pops e h = (e .popMain ≡ h .a) × (e .popPtr ≡ h .b)
 
-    unfoldable pub firstOk : Bool
-    firstOk = all (firstFirst ++ (firstLast ∷ []))
+-- what the call of a frame that passes its caller's tests popped
+pub called : (f map : List ℕ) (lm lp : ℕ) (w : FrameRead) (c : ℕ) (h : Head) → HeadFor f (w .proc) h →
+    true ≡ all (callerTests f map lm lp (theFrame w) c (effectOf f (insAt f c))) →
+    Pops (effectOf f (insAt f c)) h
+called f map lm lp w c h H e =
+    let t = all-true (callerTests f map lm lp (theFrame w) c (effectOf f (insAt f c))) (sym e) .1 .1 .1 in
+    let p = call-pops f c (call-byte f c (t .0)) (w .proc) (t .1 .0) in
+    (p .0 ∙ sym (H .a-is), p .1 ∙ sym (H .b-is))
 
-    pub first-fails : (k : ℕ) → Fails (test k (firstFirst ++ (firstLast ∷ []))) → false ≡ firstOk
-    unfolding firstOk
-    first-fails k h = fails k (firstFirst ++ (firstLast ∷ [])) h
+-- the tests of a frame's record with the procedure that it names
+module _ (f map : List ℕ) (lm lp : ℕ) (w : FrameRead) (rs : List Rec) (s : LookRead) where
+  abbrev tests : List Test
+  tests = frameTests f map lm lp (theFrame w) rs (theLook s)
 
-    pub first-last : All firstFirst → holds firstLast ≡ firstOk
-    unfolding firstOk
-    first-last h = last firstFirst firstLast (holds firstLast) refl h
+  pub not-within : inProc f (w .proc) (s .place) ≡ false → false ≡ all tests
+  unfolding inProc
+  not-within e = go (isIns f (s .place)) refl e
+    where
+      go : (t : Bool) → isIns f (s .place) ≡ t → (t && eqb (w .proc) (procAt f (s .place))) ≡ false → false ≡ all tests
+      go true i e = fails-at 4 tests e
+      go false i e = fails-at 0 tests i
 
-  module _ (f map : List ℕ) (n c : ℕ) where
-    abbrev pub callerFirst : List Test
-    callerFirst =
-        same (byteAt f c) 72
-        ∷ same (operand f c) n
-        ∷ same (w .w3) (c + callSize)
-        ∷ most (mainAt map c) (s .main + paramsMain f n)
-        ∷ []
+  -- the bases of a frame that passes are those read above it, and it lies in the lists
+  pub frame-fits : true ≡ all tests → lm ≤ 4096 → lp ≤ 4096 → Fits w
+  frame-fits e m p = let h = all-true tests (sym e) in record { main = omega arith; ptr = omega arith }
 
-    abbrev pub callerLast : Test
-    callerLast = most (ptrAt map c) (s .ptr + paramsPtr f n)
+  pub frame-proc : true ≡ all tests → inProc f (w .proc) (s .place) ≡ true
+  unfolding inProc
+  frame-proc e = let h = all-true tests (sym e) in rw (h .0) (eq-eqb (w .proc) (procAt f (s .place)) (h .1 .1 .1 .1 .0))
 
-    unfoldable pub callerOk : Bool
-    callerOk = all (callerFirst ++ (callerLast ∷ []))
-
-    pub caller-fails : (k : ℕ) → Fails (test k (callerFirst ++ (callerLast ∷ []))) → false ≡ callerOk
-    unfolding callerOk
-    caller-fails k h = fails k (callerFirst ++ (callerLast ∷ [])) h
-
-    pub caller-last : (r : Bool) → r ≡ holds callerLast → All callerFirst → r ≡ callerOk
-    unfolding callerOk
-    caller-last r e h = last callerFirst callerLast r e h
-
-  module _ (map : List ℕ) (left : ℕ) where
-    abbrev pub handlerFirst : List Test
-    handlerFirst =
-        same (s .handler) (left + 1)
-        ∷ same (w .w0) (s .inner)
-        ∷ same (w .w1) (s .main + mainAt map (s .inner))
-        ∷ same (w .w2) (s .ptr + ptrAt map (s .inner))
-        ∷ []
-
-    abbrev pub handlerLast : Test
-    handlerLast = same (w .w3) (s .frame)
-
-    unfoldable pub handlerOk : Bool
-    handlerOk = all (handlerFirst ++ (handlerLast ∷ []))
-
-    pub handler-fails : (k : ℕ) → Fails (test k (handlerFirst ++ (handlerLast ∷ []))) → false ≡ handlerOk
-    unfolding handlerOk
-    handler-fails k h = fails k (handlerFirst ++ (handlerLast ∷ [])) h
-
-    pub handler-last : All handlerFirst → holds handlerLast ≡ handlerOk
-    unfolding handlerOk
-    handler-last h = last handlerFirst handlerLast (holds handlerLast) refl h
-
-abbrev pub told : Below → (Reading → Bool) → Bool
+abbrev pub told : Below → (LookRead → Bool) → Bool
 told (End t) k = t
 told (On s) k = k s
 
@@ -151,124 +168,80 @@ abbrev pub NearBelow : Below → Type 0
 NearBelow (End t) = Unit {0}
 NearBelow (On s) = Near s
 
-abbrev pub reading : ℕ → ℕ → ℕ → ℕ → ℕ → ℕ → Reading
-reading t p n h i j = record { inner = t; place = p; frame = n; handler = h; main = i; ptr = j }
+pub down-length : (l : List ℕ) (n : ℕ) → length (down l n) ≡ n
+down-length l zero = refl
+down-length l (suc n) = ap suc (down-length l n)
 
-unfoldable pub stackOf : List ℕ → List ℕ → ℕ → ℕ → List Rec → Reading → Bool
-stackOf f map lm lp rs s = stack? f map lm lp rs (s .inner) (s .place) (s .frame) (s .handler) (s .main) (s .ptr)
-
--- what a record tells
-pub record Told (f map : List ℕ) (lm lp : ℕ) (rs : List Rec) (w : Record) (s : Reading) (r : Below) : Type 0 where
-  pub is : stackOf f map lm lp (asRec w ∷ rs) s ≡ told r (stackOf f map lm lp rs)
+-- what a record tells, on top of rs
+pub record Told (f map : List ℕ) (lm lp : ℕ) (w : Rec) (rs : List Rec) (s : LookRead) (r : Below) : Type 0 where
+  pub is : stack? f map lm lp (w ∷ rs) (theLook s) ≡ told r (λ (t : LookRead). stack? f map lm lp rs (theLook t))
   pub near : NearBelow r
 
-module _ (f map : List ℕ) (lm lp : ℕ) (rs : List Rec) (left : ℕ) (count : length rs ≡ left) (w : Record) (s : Reading) where
-  abbrev outside : Reading
-  outside = reading (innerAt map (s .inner)) (s .place) (s .frame) (w .w4) (s .main) (s .ptr)
+module _ (f map : List ℕ) (lm lp : ℕ) (rs : List Rec) (s : LookRead) where
+  module _ (v : Rec) (w : FrameRead) (v-is : theFrame w ≡ asFrame v) (bare : s .inner ≡ none) where
+    abbrev pops : ℕ → Effect
+    pops c = effectOf f (insAt f c)
 
-  abbrev calls : ℕ
-  calls = w .w3 - callSize
+    -- what follows a frame's own tests, where c is the call
+    abbrev rest : ℕ → Bool
+    rest c =
+        if eqb (s .frame) 1
+        then all (firstTests f map lm lp (theFrame w) (theLook s))
+        else
+        (if all (callerTests f map lm lp (theFrame w) c (pops c))
+        then stack? f map lm lp rs (caller f map lm lp (theFrame w) (theLook s) c (pops c))
+        else false)
 
-  abbrev caller : ℕ → Reading
-  caller n =
-      reading (innerAt map calls) calls (w .w4) (s .handler) (s .main + paramsMain f n - mainAt map calls)
-      (s .ptr + paramsPtr f n - ptrAt map calls)
+    stack-frame : (t : Bool) → t ≡ all (frameTests f map lm lp (theFrame w) rs (theLook s)) →
+        stack? f map lm lp (v ∷ rs) (theLook s) ≡ (if t then rest (callBefore f (w .returns)) else false)
+    unfolding stack?
+    stack-frame t e =
+        ap (λ (x : Frame). stack? f map lm lp (frameRec x ∷ rs) (theLook s)) (sym v-is)
+        ∙ rw (eq-eqb (s .inner) none bare) (ap (λ (b : Bool). if b then rest (callBefore f (w .returns)) else false) (sym e))
 
-  above : suc (length rs) ≡ left + 1
-  above = omega arith
+    pub told-frame : false ≡ all (frameTests f map lm lp (theFrame w) rs (theLook s)) →
+        Told f map lm lp v rs s (End false)
+    told-frame e = record { is = stack-frame false e; near = tt }
 
-  frame-alike : frameOk w s f lm lp left ≡ all (frameTests f map lm lp (asRec w) rs (s .place) (s .frame) (s .main) (s .ptr))
-  unfolding frameOk inProc
-  frame-alike = rw above (go (isIns f (s .place)) (eqb (w .w2) (procAt f (s .place))) refl)
-    where
-      -- the three tests between, and the last two for procedure n
-      behind : Bool → Bool → Bool → Bool → Bool
-      behind a b c r = if a then (if b then (if c then r else false) else false) else false
+    module _ (e : true ≡ all (frameTests f map lm lp (theFrame w) rs (theLook s))) where
+      pub told-first : (r : Bool) → s .frame ≡ 1 → r ≡ all (firstTests f map lm lp (theFrame w) (theLook s)) →
+          Told f map lm lp v rs s (End r)
+      told-first r h d = record { is = stack-frame true e ∙ rw (eq-eqb (s .frame) 1 h) (sym d); near = tt }
 
-      between : Bool → Bool
-      between r = behind (eqb (s .frame) (left + 1)) (eqb (w .w0) (s .main)) (eqb (w .w1) (s .ptr)) r
+      module _ (later : s .frame ≡ 1 → ⊥) (c : ℕ) (c-is : c ≡ callBefore f (w .returns)) where
+        later-frame : (t : Bool) → t ≡ all (callerTests f map lm lp (theFrame w) c (pops c)) →
+            stack? f map lm lp (v ∷ rs) (theLook s)
+            ≡ (if t then stack? f map lm lp rs (caller f map lm lp (theFrame w) (theLook s) c (pops c)) else false)
+        later-frame t d =
+            stack-frame true e
+            ∙ ap rest (sym c-is)
+            ∙ rw (ne-eqb (s .frame) 1 later)
+            (ap (λ (b : Bool). if b then stack? f map lm lp rs (caller f map lm lp (theFrame w) (theLook s) c (pops c)) else false) (sym d))
 
-      rest : ℕ → Bool
-      rest n = all (most (s .main + mostMain f n) lm ∷ most (s .ptr + mostPtr f n) lp ∷ [])
+        pub told-call : false ≡ all (callerTests f map lm lp (theFrame w) c (pops c)) →
+            Told f map lm lp v rs s (End false)
+        told-call d = record { is = later-frame false d; near = tt }
 
-      dead : (a b c : Bool) → false ≡ behind a b c false
-      dead true true true = refl
-      dead true true false = refl
-      dead true false c = refl
-      dead false b c = refl
+        pub told-caller : (t : LookRead) → true ≡ all (callerTests f map lm lp (theFrame w) c (pops c)) →
+            theLook t ≡ caller f map lm lp (theFrame w) (theLook s) c (pops c) → Near t →
+            Told f map lm lp v rs s (On t)
+        told-caller t d t-is near = record { is = later-frame true d ∙ ap (stack? f map lm lp rs) (sym t-is); near = near }
 
-      go : (t u : Bool) → eqb (w .w2) (procAt f (s .place)) ≡ u →
-          (if t && u then between (rest (w .w2)) else false)
-          ≡ (if t then between (if u then rest (procAt f (s .place)) else false) else false)
-      go true true e = rw (eqb-true (w .w2) (procAt f (s .place)) e)
-      go true false e = dead (eqb (s .frame) (left + 1)) (eqb (w .w0) (s .main)) (eqb (w .w1) (s .ptr))
-      go false u e = refl
+  module _ (v : Rec) (w : HandlerRead) (v-is : theHandler w ≡ asHandler v) (held : s .inner ≡ none → ⊥) where
+    stack-handler : (t : Bool) → t ≡ all (handlerTests f map lm lp (theHandler w) rs (theLook s)) →
+        stack? f map lm lp (v ∷ rs) (theLook s)
+        ≡ (if t then stack? f map lm lp rs (outside f map lm lp (theHandler w) (theLook s)) else false)
+    unfolding stack?
+    stack-handler t e =
+        ap (λ (x : Handler). stack? f map lm lp (handlerRec x ∷ rs) (theLook s)) (sym v-is)
+        ∙ rw (ne-eqb (s .inner) none held)
+        (ap (λ (b : Bool). if b then stack? f map lm lp rs (outside f map lm lp (theHandler w) (theLook s)) else false) (sym e))
 
-  own-proc : frameOk w s f lm lp left ≡ true → procAt f (s .place) ≡ w .w2
-  own-proc e = sym (in-proc-true f (w .w2) (s .place) (frame-in w s f lm lp left e))
+    pub told-handler : false ≡ all (handlerTests f map lm lp (theHandler w) rs (theLook s)) →
+        Told f map lm lp v rs s (End false)
+    told-handler e = record { is = stack-handler false e; near = tt }
 
-  -- what follows a frame's own tests
-  abbrev frame-rest : ℕ → Bool
-  frame-rest n =
-      if eqb (s .frame) 1
-      then firstOk w s n
-      else (if callerOk w s f map n calls then stackOf f map lm lp rs (caller n) else false)
-
-  module _ (bare : s .inner ≡ none) where
-    stack-frame : stackOf f map lm lp (asRec w ∷ rs) s ≡ (if frameOk w s f lm lp left then frame-rest (procAt f (s .place)) else false)
-    unfolding stackOf stack? firstOk callerOk isCall
-    stack-frame =
-        rw (eq-eqb (s .inner) none bare)
-        (λ i. if sym frame-alike i then frame-rest (procAt f (s .place)) else false)
-
-    pub told-frame : frameOk w s f lm lp left ≡ false → Told f map lm lp rs w s (End false)
-    told-frame e = record { is = stack-frame ∙ rw e; near = tt }
-
-    module _ (e : frameOk w s f lm lp left ≡ true) where
-      frame-yes : stackOf f map lm lp (asRec w ∷ rs) s ≡ frame-rest (w .w2)
-      frame-yes = stack-frame ∙ rw e (ap frame-rest (own-proc e))
-
-      pub told-first : (r : Bool) → s .frame ≡ 1 → r ≡ firstOk w s (w .w2) → Told f map lm lp rs w s (End r)
-      told-first r h d = record { is = frame-yes ∙ rw (eq-eqb (s .frame) 1 h) (sym d); near = tt }
-
-      module _ (later : s .frame ≡ 1 → ⊥) (c : ℕ) (c-is : c ≡ w .w3 - callSize) where
-        pub told-call : callerOk w s f map (w .w2) c ≡ false → Told f map lm lp rs w s (End false)
-        told-call h =
-            let d : callerOk w s f map (w .w2) calls ≡ false = rw c-is at h in
-            record { is = frame-yes ∙ rw (ne-eqb (s .frame) 1 later, d); near = tt }
-
-        -- t, m and q are the map's numbers at the call, i and j the caller's bases
-        pub told-caller : (h : Head) (t m q i j : ℕ) → Reads lm lp left w s → HeadFor f (w .w2) h → callerOk w s f map (w .w2) c ≡ true →
-            Small 65536 (innerAt map c) t → m ≡ mainAt map c → q ≡ ptrAt map c → i ≡ s .main + h .a - m → j ≡ s .ptr + h .b - q →
-            Told f map lm lp rs w s (On (reading t c (w .w4) (s .handler) i j))
-        told-caller h t m q i j R H a T em eq ei ej =
-            let d : callerOk w s f map (w .w2) calls ≡ true = rw c-is at a in
-            let x : i ≡ s .main + paramsMain f (w .w2) - mainAt map c = let y = H .a-is in omega arith in
-            let z : j ≡ s .ptr + paramsPtr f (w .w2) - ptrAt map c = let y = H .b-is in omega arith in
-            let fits = frame-fits w s f lm lp left e in
-            let ha = H .a-small in
-            let hb = H .b-small in
-            let ts = T .small in
-            let lm-low = R .main in
-            let lp-low = R .ptr in
-            let small = R .small in
-            record {
-              is = frame-yes ∙ rw (ne-eqb (s .frame) 1 later, d, T .is, x, z, c-is);
-              near = record { inner = omega arith; place = omega arith; main = omega arith; ptr = omega arith };
-            }
-
-  module _ (held : s .inner ≡ none → ⊥) where
-    stack-handler : stackOf f map lm lp (asRec w ∷ rs) s ≡ (if handlerOk w s map left then stackOf f map lm lp rs outside else false)
-    unfolding stackOf stack? handlerOk
-    stack-handler = rw (ne-eqb (s .inner) none held, above)
-
-    pub told-handler : handlerOk w s map left ≡ false → Told f map lm lp rs w s (End false)
-    told-handler e = record { is = stack-handler ∙ rw e; near = tt }
-
-    pub told-outside : (t : ℕ) → handlerOk w s map left ≡ true → Small 65536 (innerAt map (s .inner)) t → Near s →
-        Told f map lm lp rs w s (On (reading t (s .place) (s .frame) (w .w4) (s .main) (s .ptr)))
-    told-outside t e T N =
-        record {
-          is = stack-handler ∙ rw (e, T .is);
-          near = record { inner = let l = T .small in omega arith; place = N .place; main = N .main; ptr = N .ptr };
-        }
+    pub told-outside : (t : LookRead) → true ≡ all (handlerTests f map lm lp (theHandler w) rs (theLook s)) →
+        theLook t ≡ outside f map lm lp (theHandler w) (theLook s) → Near t →
+        Told f map lm lp v rs s (On t)
+    told-outside t e t-is near = record { is = stack-handler true e ∙ ap (stack? f map lm lp rs) (sym t-is); near = near }

@@ -1,8 +1,9 @@
--- Lists of tests as code makes them, one after the other: one test that fails decides, and behind tests that hold the last one does.
+-- Lists of tests as code makes them, one after the other, not always in the list's order: one test that fails decides, and behind tests
+-- that hold the last one does.
 use Prim.Native.Nat.{ℕ, zero, suc, _<_}
 use mathlib.Core.Bool.{Bool, true, false}
 use mathlib.Core.List.{List, [], _∷_, _++_}
-use mathlib.Core.Path.{_≡_, refl, sym, _∙_}
+use mathlib.Core.Path.{_≡_, refl, sym}
 use lib.ListN.{getD}
 use borrow.Author.Tests.{ne-eqb, lt-leb}
 use Rattle.model.specs.Choice.{if_then_else_, Test, same, most, yes?, holds, all, All, true-all}
@@ -21,14 +22,22 @@ fails-false (yes? t) h = h
 abbrev pub test : ℕ → List Test → Test
 test k ts = getD ts k (yes? true)
 
-pub fails : (k : ℕ) (ts : List Test) → Fails (test k ts) → false ≡ all ts
-fails k [] h = sym h
-fails zero (t ∷ ts) h = rw (fails-false t h)
-fails (suc k) (t ∷ ts) h = go (holds t) (fails k ts h)
+pub fails-at : (k : ℕ) (ts : List Test) → holds (test k ts) ≡ false → false ≡ all ts
+fails-at k [] h = sym h
+fails-at zero (t ∷ ts) h = rw h
+fails-at (suc k) (t ∷ ts) h = go (holds t) (fails-at k ts h)
   where
     go : (b : Bool) → false ≡ all ts → false ≡ (if b then all ts else false)
     go true e = e
     go false e = refl
+
+pub fails : (k : ℕ) (ts : List Test) → Fails (test k ts) → false ≡ all ts
+fails k ts h = fails-at k ts (fails-false (test k ts) h)
+
+-- the test that is made last decides, wherever it stands in the list
+pub decided : (k : ℕ) (ts : List Test) (r : Bool) → r ≡ holds (test k ts) → (r ≡ true → All ts) → r ≡ all ts
+decided k ts true e h = sym (true-all ts (h refl))
+decided k ts false e h = fails-at k ts (sym e)
 
 pub all-both : (ts us : List Test) → all (ts ++ us) ≡ (if all ts then all us else false)
 all-both [] us = refl
@@ -42,6 +51,3 @@ all-both (t ∷ ts) us = go (holds t) (all-both ts us)
 pub alone : (b : Bool) → b ≡ (if b then true else false)
 alone true = refl
 alone false = refl
-
-pub last : (ts : List Test) (t : Test) (r : Bool) → r ≡ holds t → All ts → r ≡ all (ts ++ (t ∷ []))
-last ts t r e h = e ∙ alone (holds t) ∙ sym (all-both ts (t ∷ []) ∙ rw (true-all ts h))

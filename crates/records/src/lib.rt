@@ -4,23 +4,32 @@ ghost use mathlib.Core.Path.{_≡_};
 ghost use mathlib.Core.List.{List};
 ghost use Prim.Native.Nat.{ℕ, _+_, _-_, _*_, _<_};
 ghost use lib.ListN.{length};
-ghost use Rattle.model.specs.Control.{Rec};
+ghost use Rattle.model.specs.Choice.{all};
+ghost use Rattle.model.specs.Words.{wordAt};
+ghost use Rattle.model.specs.File.{insAt};
+ghost use Rattle.model.specs.Checker.{Effect, effectOf};
+ghost use Rattle.model.specs.Control.{Rec, asHandler, recAt, down};
+ghost use Rattle.model.specs.Sound.{callBefore, frameTests, firstTests, callerTests, caller, handlerTests, outside};
 ghost use Rattle.code.specs.Parts.{Small};
-ghost use Rattle.places.specs.Places.{Ready, HeadFor};
-ghost use Rattle.records.specs.Records.{RecordIs, Near, Reads, Told, frameOk, firstOk, callerOk, handlerOk};
+ghost use Rattle.places.specs.Places.{Shows, Ready, HeadFor};
+ghost use Rattle.records.specs.Records.{theFrame, theHandler, theLook, FrameIs, Near, Reads, Fits, Pops, Told};
 use code::Head;
+use model::CALLER;
+use model::FRAME;
+use model::MAIN_BASE;
+use model::MAIN_TOP;
+use model::OPENED;
+use model::OUTER;
+use model::PROC;
+use model::PTR_BASE;
+use model::PTR_TOP;
 use model::RECORD;
+use model::RETURNS;
 use places::NONE;
 
 const CALL: usize = 72;
 
 const CALL_SIZE: usize = 3;
-
-fn wide(w: u32) -> usize
-    ensures { λ r. ⌜ Small 4294967296 w r ⌝ }
-{
-    w as usize
-}
 
 // The difference, 0 if that is below 0.
 pub fn less(a: usize, b: usize) -> usize
@@ -29,38 +38,68 @@ pub fn less(a: usize, b: usize) -> usize
     if b <= a { a - b } else { 0 }
 }
 
-// A control record's words: a frame's, or a handler's.
-pub struct Record {
-    pub w0: usize, // main base; the place of its 160
-    pub w1: usize, // pointer base; the main top then
-    pub w2: usize, // procedure; the pointer top then
-    pub w3: usize, // return place; its frame's record
-    pub w4: usize, // the caller's record; the next outer handler's
+// A frame's record.
+pub struct Frame {
+    pub main_base: usize,
+    pub ptr_base: usize,
+    pub proc: usize,
+    pub returns: usize, // the return place; 0 for the first frame
+    pub caller: usize, // the caller's record
 }
 
-// The record on top of `left` others.
-pub fn record_at(ctl: &[u32], left: usize) -> Record
-    requires { ⌜ 5 * left + 4 < length (now ctl) ⌝ }
-    ensures { λ r. ⌜ RecordIs (now (ctl .entry)) left r ⌝ }
+// A handler's record.
+pub struct Handler {
+    pub opened: usize, // the place of its 160
+    pub main_top: usize, // the tops then
+    pub ptr_top: usize,
+    pub frame: usize, // its frame's record
+    pub outer: usize, // the next outer handler's record
+}
+
+// Word `i` of the record on top of `left` others.
+fn word_of(ctl: &[u32], left: usize, i: usize) -> usize
+    requires { ⌜ 5 * left + i < length (now ctl) ⌝ }
+    ensures { λ r. ⌜ Small 4294967296 (wordAt (now (ctl .entry)) (5 * left + i)) r ⌝ }
 {
-    let at = RECORD * left;
-    Record {
-        w0: wide(ctl[at]),
-        w1: wide(ctl[at + 1]),
-        w2: wide(ctl[at + 2]),
-        w3: wide(ctl[at + 3]),
-        w4: wide(ctl[at + 4]),
+    ctl[RECORD * left + i] as usize
+}
+
+// The record on top of `left` others, a frame's.
+fn frame_at(ctl: &[u32], left: usize) -> Frame
+    requires { ⌜ 5 * left + 4 < length (now ctl) ⌝ }
+    ensures { λ r. ⌜ FrameIs (now (ctl .entry)) left r ⌝ }
+{
+    Frame {
+        main_base: word_of(ctl, left, MAIN_BASE),
+        ptr_base: word_of(ctl, left, PTR_BASE),
+        proc: word_of(ctl, left, PROC),
+        returns: word_of(ctl, left, RETURNS),
+        caller: word_of(ctl, left, CALLER),
+    }
+}
+
+// The record on top of `left` others, a handler's.
+fn handler_at(ctl: &[u32], left: usize) -> Handler
+    requires { ⌜ 5 * left + 4 < length (now ctl) ⌝ }
+    ensures { λ r. ⌜ theHandler r ≡ asHandler (recAt (now (ctl .entry)) left) ⌝ }
+{
+    Handler {
+        opened: word_of(ctl, left, OPENED),
+        main_top: word_of(ctl, left, MAIN_TOP),
+        ptr_top: word_of(ctl, left, PTR_TOP),
+        frame: word_of(ctl, left, FRAME),
+        outer: word_of(ctl, left, OUTER),
     }
 }
 
 // What the records above tell of the frame that is still to be read.
-pub struct Reading {
+pub struct Look {
     pub inner: usize, // its innermost handler that is still to be read, or 65,535
     pub place: usize, // its place, or the call that it waits for
     pub frame: usize, // the number of its record
     pub handler: usize, // the number of the nearest handler's record
-    pub main: usize, // its main base
-    pub ptr: usize, // its pointer base
+    pub main_base: usize,
+    pub ptr_base: usize,
 }
 
 // The tests of a frame's record, on top of `left` others.
@@ -72,126 +111,151 @@ fn frame_right(
     lm: usize,
     lp: usize,
     left: usize,
-    w: Record,
-    s: Reading,
+    w: Frame,
+    s: Look,
 ) -> bool
     requires { ⌜ Ready (now file) (now map) (now table) k × Near s × (left < 4294967296) ⌝ }
-    ensures { λ r. ⌜ r ≡ frameOk w s (now (file .entry)) lm lp left ⌝ }
+    ensures { λ r. ⌜ ((rs : List Rec) → length rs ≡ left → r ≡ all (frameTests (now (file .entry)) (now (map .entry)) lm lp (theFrame w) rs (theLook s))) ⌝ }
 {
-    if !places::within(file, map, table, k, w.w2, s.place) {
+    if !places::within(file, map, table, k, w.proc, s.place) {
         return false;
     }
     if s.frame != left + 1 {
         return false;
     }
-    if w.w0 != s.main {
+    if w.main_base != s.main_base {
         return false;
     }
-    if w.w1 != s.ptr {
+    if w.ptr_base != s.ptr_base {
         return false;
     }
-    let head = places::head_of(file, table, k, w.w2);
-    if lm < s.main + head.x {
+    let head = places::head_of(file, table, k, w.proc);
+    if lm < s.main_base + head.x {
         return false;
     }
-    s.ptr + head.y <= lp
+    s.ptr_base + head.y <= lp
 }
 
 // The tests of the first frame's record.
-fn first_right(w: Record, s: Reading) -> bool
-    ensures { λ r. ⌜ r ≡ firstOk w s (w .w2) ⌝ }
+fn first_right(w: Frame, s: Look) -> bool
+    ensures { λ r. ⌜ ((f map : List ℕ) (lm lp : ℕ) → r ≡ all (firstTests f map lm lp (theFrame w) (theLook s))) ⌝ }
 {
-    if w.w2 != 0 {
+    if w.proc != 0 {
         return false;
     }
-    if s.main != 0 {
+    if w.main_base != 0 {
         return false;
     }
-    if s.ptr != 0 {
+    if w.ptr_base != 0 {
         return false;
     }
-    if w.w3 != 0 {
+    if w.returns != 0 {
         return false;
     }
-    if w.w4 != 0 {
+    if w.caller != 0 {
         return false;
     }
     s.handler == 0
 }
 
-// The frame was called at `c`; `head` is its procedure's.
-fn caller_right(file: &[u8], map: &[u16], w: Record, s: Reading, head: Head, c: usize) -> bool
-    requires { ⌜ HeadFor (now file) (w .w2) head × Near s × (c < 4294967296) ⌝ }
-    ensures { λ r. ⌜ r ≡ callerOk w s (now (file .entry)) (now (map .entry)) (w .w2) c ⌝ }
+// The call that has `q` as its return place. Where no call ends there, the tests of the call fail.
+fn call_before(file: &[u8], q: usize) -> usize
+    ensures { λ r. ⌜ r ≡ callBefore (now (file .entry)) q ⌝ }
+{
+    less(q, CALL_SIZE)
+}
+
+// The frame was called at `c`; `head` is its procedure's. That an instruction starts at `c` is not asked: elsewhere the map's depth is
+// 65,535, more than any caller has.
+fn caller_right(file: &[u8], map: &[u16], w: Frame, head: Head, c: usize) -> bool
+    requires { ⌜ HeadFor (now file) (w .proc) head × Shows (now file) (now map) × Fits w × (c < 4294967296) ⌝ }
+    ensures { λ r. ⌜ ((lm lp : ℕ) → r ≡ all (callerTests (now (file .entry)) (now (map .entry)) lm lp (theFrame w) c (effectOf (now (file .entry)) (insAt (now (file .entry)) c)))) ⌝ }
 {
     if places::byte_at(file, c) != CALL {
         return false;
     }
-    if places::operand(file, c) != w.w2 {
+    if places::operand(file, c) != w.proc {
         return false;
     }
-    if w.w3 != c + CALL_SIZE {
+    if w.returns != c + CALL_SIZE {
         return false;
     }
-    if s.main + head.a < places::main_at(map, c) {
+    if w.main_base + head.a < places::main_at(map, c) {
         return false;
     }
-    places::ptr_at(map, c) <= s.ptr + head.b
+    places::ptr_at(map, c) <= w.ptr_base + head.b
+}
+
+// What a frame's record tells of its caller: with the parameters, which the call at `c` popped, the caller's depths reach up to the
+// frame's bases.
+fn caller_of(map: &[u16], w: Frame, s: Look, head: Head, c: usize) -> Look
+    requires { ⌜ Fits w × (head .a < 256) × (head .b < 256) × (c < 4294967296) ⌝ }
+    ensures { λ r. ⌜ ((f : List ℕ) (lm lp : ℕ) (e : Effect) → Pops e head → theLook r ≡ caller f (now (map .entry)) lm lp (theFrame w) (theLook s) c e) × Near r ⌝ }
+{
+    Look {
+        inner: places::inner_at(map, c),
+        place: c,
+        frame: w.caller,
+        handler: s.handler,
+        main_base: less(w.main_base + head.a, places::main_at(map, c)),
+        ptr_base: less(w.ptr_base + head.b, places::ptr_at(map, c)),
+    }
 }
 
 // The tests of a handler's record, on top of `left` others.
-fn handler_right(map: &[u16], left: usize, w: Record, s: Reading) -> bool
+fn handler_right(map: &[u16], left: usize, w: Handler, s: Look) -> bool
     requires { ⌜ Near s × (left < 4294967296) ⌝ }
-    ensures { λ r. ⌜ r ≡ handlerOk w s (now (map .entry)) left ⌝ }
+    ensures { λ r. ⌜ ((f : List ℕ) (lm lp : ℕ) (rs : List Rec) → length rs ≡ left → r ≡ all (handlerTests f (now (map .entry)) lm lp (theHandler w) rs (theLook s))) ⌝ }
 {
     if s.handler != left + 1 {
         return false;
     }
-    if w.w0 != s.inner {
+    if w.opened != s.inner {
         return false;
     }
-    if w.w1 != s.main + places::main_at(map, s.inner) {
+    if w.main_top != s.main_base + places::main_at(map, s.inner) {
         return false;
     }
-    if w.w2 != s.ptr + places::ptr_at(map, s.inner) {
+    if w.ptr_top != s.ptr_base + places::ptr_at(map, s.inner) {
         return false;
     }
-    w.w3 == s.frame
+    w.frame == s.frame
 }
 
-// A caller's base: its depth at the call, less the parameters, reaches up to the base of the frame that it called.
-fn caller_base(base: usize, params: usize, depth: usize) -> usize
-    requires { ⌜ (base < 4294967296) × (params < 256) ⌝ }
-    ensures { λ r. ⌜ r ≡ base + params - depth ⌝ }
+// What a handler's record tells of the records below: the next outer handler of its frame, or the frame.
+fn outside_of(map: &[u16], w: Handler, s: Look) -> Look
+    requires { ⌜ Near s ⌝ }
+    ensures { λ r. ⌜ ((f : List ℕ) (lm lp : ℕ) → theLook r ≡ outside f (now (map .entry)) lm lp (theHandler w) (theLook s)) × Near r ⌝ }
 {
-    less(base + params, depth)
+    Look {
+        inner: places::inner_at(map, s.inner),
+        place: s.place,
+        frame: s.frame,
+        handler: w.outer,
+        main_base: s.main_base,
+        ptr_base: s.ptr_base,
+    }
 }
 
 // What a record tells: the verdict, or what to read on with.
 pub enum Below {
     End(bool),
-    On(Reading),
+    On(Look),
 }
 
-// A handler's record leads to the next outer one of its frame, or to the frame.
-fn read_handler(map: &[u16], left: usize, w: Record, s: Reading) -> Below
-    requires { ⌜ Near s × (left < 4294967296) ⌝ }
-    ensures { λ r. ⌜ ((f : List ℕ) (lm lp : ℕ) (rs : List Rec) → length rs ≡ left → (s .inner ≡ 65535 → ⊥) → Told f (now (map .entry)) lm lp rs w s r) ⌝ }
+// A handler's record, on top of `left` others, leads to the next outer one of its frame, or to the frame.
+fn read_handler(map: &[u16], ctl: &[u32], left: usize, s: Look) -> Below
+    requires { ⌜ Near s × (left < 4294967296) × (5 * left + 4 < length (now ctl)) ⌝ }
+    ensures { λ r. ⌜ ((f : List ℕ) (lm lp : ℕ) → (s .inner ≡ 65535 → ⊥) → Told f (now (map .entry)) lm lp (recAt (now (ctl .entry)) left) (down (now (ctl .entry)) left) s r) ⌝ }
 {
+    let w = handler_at(ctl, left);
     if !handler_right(map, left, w, s) {
         return Below::End(false);
     }
-    Below::On(Reading {
-        inner: places::inner_at(map, s.inner),
-        place: s.place,
-        frame: s.frame,
-        handler: w.w4,
-        main: s.main,
-        ptr: s.ptr,
-    })
+    Below::On(outside_of(map, w, s))
 }
 
-// A frame's record: the first frame ends the reading, any other leads to its caller.
+// A frame's record, on top of `left` others: the first frame ends the reading, any other leads to its caller.
 fn read_frame(
     file: &[u8],
     map: &[u16],
@@ -199,37 +263,29 @@ fn read_frame(
     k: usize,
     lm: usize,
     lp: usize,
+    ctl: &[u32],
     left: usize,
-    w: Record,
-    s: Reading,
+    s: Look,
 ) -> Below
-    requires { ⌜ Ready (now file) (now map) (now table) k × Reads lm lp left w s × (s .inner ≡ 65535) ⌝ }
-    ensures { λ r. ⌜ ((rs : List Rec) → length rs ≡ left → Told (now (file .entry)) (now (map .entry)) lm lp rs w s r) ⌝ }
+    requires { ⌜ Ready (now file) (now map) (now table) k × Reads lm lp left s × (5 * left + 4 < length (now ctl)) × (s .inner ≡ 65535) ⌝ }
+    ensures { λ r. ⌜ Told (now (file .entry)) (now (map .entry)) lm lp (recAt (now (ctl .entry)) left) (down (now (ctl .entry)) left) s r ⌝ }
 {
+    let w = frame_at(ctl, left);
     if !frame_right(file, map, table, k, lm, lp, left, w, s) {
         return Below::End(false);
     }
     if s.frame == 1 {
         return Below::End(first_right(w, s));
     }
-    let head = places::head_of(file, table, k, w.w2);
-    let c = less(w.w3, CALL_SIZE);
-    if !caller_right(file, map, w, s, head, c) {
+    let head = places::head_of(file, table, k, w.proc);
+    let c = call_before(file, w.returns);
+    if !caller_right(file, map, w, head, c) {
         return Below::End(false);
     }
-    let main = caller_base(s.main, head.a, places::main_at(map, c));
-    let ptr = caller_base(s.ptr, head.b, places::ptr_at(map, c));
-    Below::On(Reading {
-        inner: places::inner_at(map, c),
-        place: c,
-        frame: w.w4,
-        handler: s.handler,
-        main,
-        ptr,
-    })
+    Below::On(caller_of(map, w, s, head, c))
 }
 
-// The record on top of `left` others.
+// The record on top of `left` others: a handler's as long as one of the frame's is still to be read, else the frame's.
 pub fn read_record(
     file: &[u8],
     map: &[u16],
@@ -237,16 +293,16 @@ pub fn read_record(
     k: usize,
     lm: usize,
     lp: usize,
+    ctl: &[u32],
     left: usize,
-    w: Record,
-    s: Reading,
+    s: Look,
 ) -> Below
-    requires { ⌜ Ready (now file) (now map) (now table) k × Reads lm lp left w s ⌝ }
-    ensures { λ r. ⌜ ((rs : List Rec) → length rs ≡ left → Told (now (file .entry)) (now (map .entry)) lm lp rs w s r) ⌝ }
+    requires { ⌜ Ready (now file) (now map) (now table) k × Reads lm lp left s × (5 * left + 4 < length (now ctl)) ⌝ }
+    ensures { λ r. ⌜ Told (now (file .entry)) (now (map .entry)) lm lp (recAt (now (ctl .entry)) left) (down (now (ctl .entry)) left) s r ⌝ }
 {
     if s.inner == NONE {
-        read_frame(file, map, table, k, lm, lp, left, w, s)
+        read_frame(file, map, table, k, lm, lp, ctl, left, s)
     } else {
-        read_handler(map, left, w, s)
+        read_handler(map, ctl, left, s)
     }
 }

@@ -47,7 +47,7 @@ pub registers-stored : (b₀ b₁ b₂ b₃ b₄ b₅ b₆ b₇ : List ℕ) (r :
     Stored b₅ 5 (r .ctop) b₆ → Stored b₆ 6 (r .state) b₇ → b₇ ≡ regBytes r
 unfolding regBytes
 registers-stored b₀ b₁ b₂ b₃ b₄ b₅ b₆ b₇ r h s₀ s₁ s₂ s₃ s₄ s₅ s₆ =
-    sym (take-all 28 b₇ (omega arith))
+    sym (take-all registerBytes b₇ (omega arith))
     ∙ s₆ .front
     ∙ on (r .state) (s₅ .front ∙ on (r .ctop) (s₄ .front ∙ on (r .ptop) (s₃ .front ∙ on (r .mtop) (s₂ .front ∙ on (r .handler) (s₁ .front ∙ on (r .frame) (s₀ .front))))))
   where

@@ -3,14 +3,14 @@
 ghost use mathlib.Core.Path.{_≡_};
 ghost use Prim.Native.Nat.{_+_, _*_, _/_, _<_};
 ghost use lib.ListN.{length};
-ghost use Rattle.model.specs.Control.{wordFrom, regsFrom, regBytes};
+ghost use Rattle.model.specs.Control.{registers, registerBytes, wordFrom, regsFrom, regBytes};
 ghost use Rattle.code.specs.Parts.{Small};
 ghost use Rattle.registers.specs.Registers.{Words, Stored};
 use model::Regs;
 
 // Register `i`.
 fn word_from(bytes: &[u8], i: usize) -> usize
-    requires { ⌜ (length (now bytes) ≡ 28) × (i < 7) ⌝ }
+    requires { ⌜ (length (now bytes) ≡ registerBytes) × (i < registers) ⌝ }
     ensures { λ r. ⌜ Small 4294967296 (wordFrom (now (bytes .entry)) i) r ⌝ }
 {
     let at = 4 * i;
@@ -20,7 +20,7 @@ fn word_from(bytes: &[u8], i: usize) -> usize
 }
 
 pub fn regs_from(bytes: &[u8]) -> Regs
-    requires { ⌜ length (now bytes) ≡ 28 ⌝ }
+    requires { ⌜ length (now bytes) ≡ registerBytes ⌝ }
     ensures { λ r. ⌜ (r ≡ regsFrom (now (bytes .entry))) × Words r ⌝ }
 {
     Regs {
@@ -36,7 +36,7 @@ pub fn regs_from(bytes: &[u8]) -> Regs
 
 // Puts register `i`, most significant byte first.
 fn put_word(bytes: &mut [u8], i: usize, w: usize)
-    requires { ⌜ (length (now bytes) ≡ 28) × (i < 7) ⌝ }
+    requires { ⌜ (length (now bytes) ≡ registerBytes) × (i < registers) ⌝ }
     ensures { λ _. ⌜ Stored (now (bytes .entry)) i w (now (bytes .exit)) ⌝ }
 {
     let at = 4 * i;
@@ -47,7 +47,7 @@ fn put_word(bytes: &mut [u8], i: usize, w: usize)
 }
 
 pub fn put_regs(bytes: &mut [u8], regs: Regs)
-    requires { ⌜ length (now bytes) ≡ 28 ⌝ }
+    requires { ⌜ length (now bytes) ≡ registerBytes ⌝ }
     ensures { λ _. ⌜ now (bytes .exit) ≡ regBytes regs ⌝ }
 {
     put_word(bytes, 0, regs.place);

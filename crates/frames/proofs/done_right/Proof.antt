@@ -1,4 +1,6 @@
 -- One test after the other.
+use mathlib.Core.Path.{refl}
+use borrow.Author.Tests.{eqb-true}
 use Rattle.frames.specs.Audit.{done-fails, done-last}
 use Rattle.frames.proofs.done_right.Statement.{statement}
 use Rattle.frames.proofs.done_right.Tie as tie
@@ -19,7 +21,14 @@ returns-5 : tie.Need-returns-5
 returns-5 c = done-fails _ _ _ 4 (c .if5 .taken)
 
 returns-6 : tie.Need-returns-6
-returns-6 c = done-last _ _ _ (c .before .before .before .before .before .before .before .before .before .before .before .if1 .left, (c .before .before .before .before .before .before .before .before .before .if2 .left, (c .before .before .before .before .before .before .before .if3 .left, (c .before .before .before .before .before .if4 .left, (c .before .before .if5 .left, tt)))))
+returns-6 c =
+    let c₅ = c .before .before in
+    let c₄ = c₅ .before .before .before in
+    let c₃ = c₄ .before .before in
+    let c₂ = c₃ .before .before in
+    let c₁ = c₂ .before .before in
+    done-last _ _ _ _ refl
+    (λ t. (c₁ .if1 .left, (c₂ .if2 .left, (c₃ .if3 .left, (c₄ .if4 .left, (c₅ .if5 .left, (eqb-true _ _ t, tt)))))))
 
 pub done-right-spec : {M : Type 1} → statement M
 done-right-spec = tie.close (tie.spec returns returns-2 returns-3 returns-4 returns-5 returns-6)

@@ -1,10 +1,8 @@
 -- The bases are the tops less the depths at the place.
-use mathlib.Core.Path.{ap, _∙_}
 use Prim.Native.Nat.{_-_}
+use mathlib.Core.Path.{ap, _∙_}
 use native.Mathlib.Omega.{arith}
 use borrow.Author.Needs.{needs}
-use Rattle.frames.specs.Audit.{topmost}
-use Rattle.records.specs.Records.{reading}
 use Rattle.frames.proofs.top_frame.Statement.{statement}
 use Rattle.frames.proofs.top_frame.Tie as tie
 
@@ -24,8 +22,27 @@ less-requires-2 : tie.Need-less-requires-2
 less-requires-2 c κs = search needs
 
 returns : tie.Need-returns
-unfolding topmost
-returns c = let d = c .before .before .before .before .inner-at .ensures .small in let p = c .before .before .before .before .before .before .pre in (λ i. reading (c .before .before .before .before .inner-at .ensures .is i) (c .before .before .before .before .before .before .args .regs .place) (c .before .before .before .before .before .before .args .regs .frame) (c .before .before .before .before .before .before .args .regs .handler) ((c .before .before .less .ensures ∙ ap (_-_ (c .before .before .before .before .before .before .args .regs .mtop)) (c .before .before .before .main-at .ensures .is)) i) ((c .less2 .ensures ∙ ap (_-_ (c .before .before .before .before .before .before .args .regs .ptop)) (c .before .ptr-at .ensures .is)) i), record { inner = omega arith; place = p .place; main = let e = c .before .before .less .ensures in let m = p .mtop in omega arith; ptr = let e = c .less2 .ensures in let m = p .ptop in omega arith })
+returns c =
+    let inner = c .before .before .before .before .inner-at .ensures in
+    let main = c .before .before .less .ensures in
+    let ptr = c .less2 .ensures in
+    let r = c .before .before .before .before .before .before .args .regs in
+    let words = c .before .before .before .before .before .before .pre in (
+      λ m i. record {
+        inner = inner .is i;
+        place = r .place;
+        frame = r .frame;
+        handler = r .handler;
+        mainBase = (main ∙ ap (_-_ (r .mtop)) (c .before .before .before .main-at .ensures .is)) i;
+        ptrBase = (ptr ∙ ap (_-_ (r .ptop)) (c .before .ptr-at .ensures .is)) i;
+      },
+      record {
+        inner = let l = inner .small in omega arith;
+        place = words .place;
+        main = let l = words .mtop in omega arith;
+        ptr = let l = words .ptop in omega arith;
+      },
+    )
 
 pub top-frame-spec : {M : Type 1} → statement M
 top-frame-spec =

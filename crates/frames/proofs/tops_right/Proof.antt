@@ -1,8 +1,9 @@
 -- One test after the other.
-use mathlib.Core.Path.{ap}
 use Prim.Native.Nat.{ℕ}
+use mathlib.Core.Path.{ap}
 use native.Mathlib.Omega.{arith}
 use lib.Dec.{leb}
+use borrow.Author.Tests.{leb-true}
 use borrow.Author.Needs.{needs}
 use Rattle.frames.specs.Audit.{tops-fails, tops-last}
 use Rattle.frames.proofs.tops_right.Statement.{statement}
@@ -30,7 +31,18 @@ ptr-at-requires : tie.Need-ptr-at-requires
 ptr-at-requires c κs = search needs
 
 returns-5 : tie.Need-returns-5
-returns-5 c = let e = c .before .before .before .before .main-at .ensures .is in let t = c .before .before .if4 .left in tops-last _ _ _ _ (ap (λ (x : ℕ). leb x (c .before .before .before .before .before .before .before .before .before .before .before .before .before .args .regs .ptop)) (c .before .ptr-at .ensures .is)) (c .before .before .before .before .before .before .before .before .before .before .if1 .left, (c .before .before .before .before .before .before .before .if2 .left, (c .before .before .before .before .before .if3 .left, (omega arith, tt))))
+returns-5 c =
+    let c₄ = c .before .before in
+    let c₃ = c₄ .before .before .before in
+    let c₂ = c₃ .before .before in
+    let c₁ = c₂ .before .before .before in
+    let r = c₁ .before .before .before .args .regs in
+    let m = c₄ .before .before .main-at .ensures .is in
+    let p = c .before .ptr-at .ensures .is in
+    let u = c₄ .if4 .left in
+    tops-last _ _ _ _ (ap (λ (n : ℕ). leb n (r .ptop)) p)
+    (λ t. let l = leb-true (c .before .ptr-at .result) (r .ptop) t in
+    (c₁ .if1 .left, (c₂ .if2 .left, (c₃ .if3 .left, (omega arith, (omega arith, tt))))))
 
 pub tops-right-spec : {M : Type 1} → statement M
 tops-right-spec =

@@ -17,7 +17,12 @@ cast-result : tie.Need-cast-result
 cast-result c = omega (arith, c .shared-slice-known .given (c .before .before .args .i))
 
 returns : tie.Need-returns
-returns c = record { is = getD-any (c .before .before .args .map .now) (c .before .before .args .i) 0 65535 (omega arith); small = omega (arith, c .shared-slice-known .given (c .before .before .args .i)) }
+returns c =
+    let a = c .before .before .args in
+    record {
+      is = getD-any (a .map .now) (a .i) 0 65535 (omega arith);
+      small = omega (arith, c .shared-slice-known .given (a .i));
+    }
 
 returns-2 : tie.Need-returns-2
 returns-2 c = record { is = sym (beyond (c .before .args .map .now) (c .before .args .i) 65535 (omega arith)); small = omega arith }

@@ -27,7 +27,12 @@ main-at-requires : tie.Need-main-at-requires
 main-at-requires c κs = search needs
 
 returns-4 : tie.Need-returns-4
-returns-4 c = let e = c .before .before .end-of .ensures in rw (c .main-at .ensures .is) (within-here _ _ _ _ (c .before .before .before .before .before .before .before .before .pre .0) _ _ (c .before .before .before .before .before .if1 .left) (c .before .before .before .if2 .left) (omega arith))
+returns-4 c =
+    let e = c .before .before .end-of .ensures in
+    let d = c .before .before .before in
+    let b = d .before .before in
+    rw (c .main-at .ensures .is)
+    (within-here _ _ _ _ (b .before .before .before .pre .0) _ _ (b .if1 .left) (d .if2 .left) (omega arith))
 
 pub within-spec : {M : Type 1} → statement M
 within-spec =

@@ -1,19 +1,18 @@
 -- A handler is read before its frame.
-use borrow.Author.Needs.{needs}
 use Rattle.records.proofs.read_record.Statement.{statement}
 use Rattle.records.proofs.read_record.Tie as tie
 
 read-frame-requires : tie.Need-read-frame-requires
-read-frame-requires c κs = (c .before .before .before .before .pre .0, c .before .before .before .before .pre .1, c .if1 .taken)
+read-frame-requires c κs = let pre = c .before .before .before .before .before .pre in (pre .0, pre .1, pre .2, c .if1 .taken)
 
 read-handler-requires : tie.Need-read-handler-requires
-read-handler-requires c κs = (c .before .before .before .before .pre .1 .near, c .before .before .before .before .pre .1 .few)
+read-handler-requires c κs = let pre = c .before .before .before .before .before .pre in (pre .1 .near, pre .1 .few, pre .2)
 
 returns : tie.Need-returns
-returns c = search needs
+returns c = c .read-frame .ensures
 
 returns-2 : tie.Need-returns-2
-returns-2 c = λ rs e. c .read-handler .ensures _ _ _ rs e (c .before .if1 .left)
+returns-2 c = c .read-handler .ensures _ _ _ (c .before .if1 .left)
 
 pub read-record-spec : {M : Type 1} → statement M
 read-record-spec = tie.close (tie.spec read-frame-requires read-handler-requires returns returns-2)

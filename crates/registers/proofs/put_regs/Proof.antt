@@ -29,7 +29,16 @@ same-length : tie.Need-same-length
 same-length c = search needs
 
 returns : tie.Need-returns
-returns c = registers-stored _ _ _ _ _ _ _ _ _ (c .before .before .before .before .before .before .before .before .before .before .before .before .before .before .before .before .before .before .before .before .before .before .before .before .before .before .before .before .before .pre) (c .before .before .before .before .before .before .before .before .before .before .before .before .before .before .before .before .before .before .before .before .before .before .before .before .before .before .put-word .ensures) (c .before .before .before .before .before .before .before .before .before .before .before .before .before .before .before .before .before .before .before .before .before .before .put-word2 .ensures) (c .before .before .before .before .before .before .before .before .before .before .before .before .before .before .before .before .before .before .put-word3 .ensures) (c .before .before .before .before .before .before .before .before .before .before .before .before .before .before .put-word4 .ensures) (c .before .before .before .before .before .before .before .before .before .before .put-word5 .ensures) (c .before .before .before .before .before .before .put-word6 .ensures) (c .before .before .put-word7 .ensures)
+returns c =
+    let c₇ = c .before .before in
+    let c₆ = c₇ .before .before .before .before in
+    let c₅ = c₆ .before .before .before .before in
+    let c₄ = c₅ .before .before .before .before in
+    let c₃ = c₄ .before .before .before .before in
+    let c₂ = c₃ .before .before .before .before in
+    let c₁ = c₂ .before .before .before .before in
+    registers-stored _ _ _ _ _ _ _ _ _ (c₁ .before .before .before .pre) (c₁ .put-word .ensures) (c₂ .put-word2 .ensures)
+    (c₃ .put-word3 .ensures) (c₄ .put-word4 .ensures) (c₅ .put-word5 .ensures) (c₆ .put-word6 .ensures) (c₇ .put-word7 .ensures)
 
 pub put-regs-spec : {M : Type 1} → statement M
 put-regs-spec =

@@ -61,7 +61,12 @@ add-result c = search needs
 
 returns : tie.Need-returns
 unfolding wordFrom
-returns c = let a = c .before .before .before .before .before .before .wide .ensures in let b = c .before .before .before .before .wide2 .ensures in let d = c .before .before .wide3 .ensures in let e = c .wide4 .ensures in record { is = omega arith; small = omega arith }
+returns c =
+    let a = c .before .before .before .before .before .before .wide .ensures in
+    let b = c .before .before .before .before .wide2 .ensures in
+    let d = c .before .before .wide3 .ensures in
+    let e = c .wide4 .ensures in
+    record { is = omega arith; small = omega arith }
 
 pub word-from-spec : {M : Type 1} → statement M
 word-from-spec =
