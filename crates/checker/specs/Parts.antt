@@ -1,16 +1,16 @@
 -- The checker's answer and map from those of its passes: the part of the map that is the file's is overwritten, the rest is kept.
-use Prim.Native.Nat.{ℕ, zero, suc, _+_, _-_, _*_, _<_, _≤_}
+use Prim.Native.Nat.{ℕ, zero, suc, _+_, _*_, _<_, _≤_}
 use mathlib.Core.Bool.{Bool, true, false, true≢false}
 use mathlib.Core.Logic.{inl}
 use mathlib.Core.List.{List, [], _++_}
-use mathlib.Core.Path.{_≡_, refl, ap, sym, _∙_}
+use mathlib.Core.Path.{_≡_, refl, sym, _∙_}
 use native.Mathlib.Omega.{arith}
-use lib.Dec.{leb, eqb}
+use lib.Dec.{eqb}
 use lib.ListN.{length, drop, replicate}
 use borrow.Author.Tests.{le-leb, lt-leb}
 use Rattle.model.specs.Choice.{if_then_else_}
 use Rattle.model.specs.File.{byteAt, Records, broken, starts, recordsOf, wrong, right, headsOf, headOf, entry, procs, paramsMain, paramsPtr}
-use Rattle.model.specs.Checker.{none, Known, stateAt, isSet, refused, passed, flow, firsts, first, mapFrom}
+use Rattle.model.specs.Checker.{none, Known, stateAt, isSet, firsts, first, mapFrom}
 use Rattle.model.specs.Calls.{overMap, wiped, pass, refuse, scanned, verdictOf, checked, answered, checkOf}
 use Rattle.exact.specs.Walk.{heads-right, walk, walk-above, after-above}
 use Rattle.scan.specs.Marks.{Shows, marked, marked-shows}

@@ -1,7 +1,7 @@
 // The checker: refusals 1 to 9, and the map.
 ghost use mathlib.Core.Path.{_≡_};
-ghost use Prim.Native.Nat.{_+_, _*_, _<_, _≤_};
-ghost use lib.ListN.{length, replicate};
+ghost use Prim.Native.Nat.{_*_, _<_};
+ghost use lib.ListN.{replicate};
 ghost use Rattle.scan.specs.Heading.{Marked};
 ghost use Rattle.checker.specs.Parts.{Lengths, Looked, Filled, Checks};
 ghost use Rattle.model.specs.Calls.{checked, checkOf};

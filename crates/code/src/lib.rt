@@ -1,6 +1,6 @@
 // The code file of document 01: body lengths, operands, jump targets, procedure heads.
 ghost use mathlib.Core.Path.{_≡_};
-ghost use Prim.Native.Nat.{_+_, _<_, _≤_};
+ghost use Prim.Native.Nat.{_+_, _<_};
 ghost use lib.ListN.{length};
 ghost use Rattle.model.specs.File as model;
 ghost use Rattle.code.specs.Parts.{Small};

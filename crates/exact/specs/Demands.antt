@@ -10,7 +10,6 @@ use Rattle.model.specs.Checker.{Known, stateAt, Result, refused as stops, passe
 use Rattle.model.specs.Rules.{Assignment, Keeps}
 use Rattle.model.specs.Calls.{mapSize, Verdict, pass, refuse, flowed, verdictOf, answered, checkOf}
 use Rattle.model.specs.Claim.{Bytes, assigned, InOrder, MapKeeps, MapAlone, RefusedExactly, RightCode, PassedExactly}
-use Rattle.model.specs.declared.Answer.{Answer}
 use Rattle.model.specs.declared.Answer.the-variants.{Passed, Refused}
 use Rattle.exact.specs.Flow.{flow-keeps, keeps-flow}
 use Rattle.exact.specs.Exact.{passed-as, flow-verdict, passed-keeps, keeps-unique}

@@ -137,6 +137,19 @@ from7 f p k = need (all (depthTests f p (insAt f p) (stateAt k p) (outerAt (stat
 abbrev from6 : List ℕ → ℕ → Known → Step Known
 from6 f p k = need (isSet (stateAt k p) && all (nextTests f p (insAt f p))) 6 (from7 f p k)
 
+taken-step : (f : List ℕ) (p : ℕ) (k k′ : Known) → Taken (code f) p k k′ → take f p k ≡ next k′
+unfolding take takeWith
+taken-step f p k k′ T =
+    let F = T .fits in
+    rw (
+      true-all (targetTests f p (insAt f p)) (F .targets),
+      T .set,
+      true-all (nextTests f p (insAt f p)) (F .nexts),
+      true-all (depthTests f p (insAt f p) (stateAt k p) (outerAt (stateAt k) p)) (F .depths),
+      true-all (leaveTests f p (insAt f p) (stateAt k p)) (F .leaves),
+    )
+    (T .puts)
+
 step-taken : (f : List ℕ) (p : ℕ) (k k′ : Known) → take f p k ≡ next k′ → Taken (code f) p k k′
 unfolding take takeWith
 step-taken f p k k′ e =
@@ -159,19 +172,6 @@ step-taken f p k k′ e =
           };
       puts = d .1;
     }
-
-taken-step : (f : List ℕ) (p : ℕ) (k k′ : Known) → Taken (code f) p k k′ → take f p k ≡ next k′
-unfolding take takeWith
-taken-step f p k k′ T =
-    let F = T .fits in
-    rw (
-      true-all (targetTests f p (insAt f p)) (F .targets),
-      T .set,
-      true-all (nextTests f p (insAt f p)) (F .nexts),
-      true-all (depthTests f p (insAt f p) (stateAt k p) (outerAt (stateAt k) p)) (F .depths),
-      true-all (leaveTests f p (insAt f p) (stateAt k p)) (F .leaves),
-    )
-    (T .puts)
 
 -- past refusal 5 the targets are right
 pub taken-targets : (f ps : List ℕ) (k k′ : Known) → takeAll f ps k ≡ passed k′ → (p : ℕ) → Mem p ps → All (targetTests f p (insAt f p))

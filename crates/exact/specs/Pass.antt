@@ -335,7 +335,7 @@ module _ (C : Code) where
                 Set (stateAt k q) ⊎ Got (p ∷ ps) (stateAt k′) q
             just q h s (inl w) = inl w
             just q h s (inr w) =
-                inr (record { from = p; there = inl refl; earlier = a .0 q h; sent = rw (same, R .grown q s) w })
+                inr (record { from = p; there = inl refl; earlier = let b = a .0 q h in omega arith; sent = rw (same, R .grown q s) w })
 
             later : (q : ℕ) → Mem q ps → Set (stateAt m q) ⊎ Got ps (stateAt k′) q → Set (stateAt k q) ⊎ Got (p ∷ ps) (stateAt k′) q
             later q h (inl s) = just q h s (P .from q s)

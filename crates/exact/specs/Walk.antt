@@ -10,7 +10,7 @@ use native.Mathlib.Omega.{arith}
 use lib.Dec.{ltb, leb, eqb}
 use lib.ListN.{length, getD}
 use borrow.Author.Tests.{ltb-true, ltb-false, leb-true, eqb-true, eqb-false, not-true, le-leb, lt-leb, eq-eqb}
-use Rattle.model.specs.Choice.{if_then_else_, all, All, all-true, true-all, Mem, member}
+use Rattle.model.specs.Choice.{if_then_else_, all, All, all-true, true-all, Mem}
 use Rattle.model.specs.File.{byteAt, headKind, headSize, codes, bodies, find, bodyOf, unknown, after, whole?, Records, broken, starts, more, recordsFrom, recordsOf, startsIn, isHead, listed, isInstruction, select, heads, instructions, procs, headOf, entry, upTo, procAt, headTests, wrong, right, headsFrom, headsOf}
 pub use Rattle.model.specs.Lists.{member-in, in-member}
 use Rattle.exact.specs.Pass.{and-true, Rising}

@@ -1,5 +1,5 @@
 -- What the functions of the flow answer, and what they rest on.
-use Prim.Native.Nat.{ℕ, zero, suc, _+_, _-_, _*_, _<_, _≤_}
+use Prim.Native.Nat.{ℕ, zero, suc, _+_, _*_, _<_, _≤_}
 use mathlib.Core.Bool.{Bool, true, false, true≢false, _&&_}
 use mathlib.Core.List.{List, [], _∷_, _++_}
 use mathlib.Core.Logic.{_⊎_}
@@ -8,9 +8,9 @@ use native.Mathlib.Omega.{arith}
 use lib.Dec.{ltb, leb, eqb}
 use lib.ListN.{length, getD}
 use borrow.Author.Tests.{lt-ltb, le-ltb, eq-eqb, ne-eqb, ltb-true}
-use Rattle.model.specs.Choice.{if_then_else_, all, if-both}
+use Rattle.model.specs.Choice.{if_then_else_, if-both}
 use Rattle.model.specs.File.{byteAt, insAt, after, procAt, resultsMain, resultsPtr, mostMain, mostPtr}
-use Rattle.model.specs.Checker.{none, State, state, outer, passes, own, Step, bad, next, need, meet, andThen}
+use Rattle.model.specs.Checker.{none, State, state, outer, own, Step, bad, next, need, meet, andThen}
 use Rattle.transfer.specs.declared.State.{State as Numbers}
 use Rattle.effects.specs.declared.Shape.{Shape}
 use Rattle.effects.specs.Shape.{shapeOf}

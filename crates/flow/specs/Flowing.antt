@@ -6,14 +6,13 @@ use mathlib.Core.Logic.{_⊎_, inl, inr}
 use mathlib.Core.Path.{_≡_, refl, ap, sym, _∙_}
 use native.Mathlib.Decide.{ℕ-discrete, decLt}
 use native.Mathlib.Omega.{arith}
-use lib.Dec.{ltb, eqb}
+use lib.Dec.{ltb}
 use lib.ListN.{length, getD, drop, length-drop}
 use lib.Seq.{getD-drop, drop-drop}
 use borrow.Author.Tests.{lt-ltb, le-ltb, eq-eqb, ne-eqb, eqb-true}
 use Rattle.model.specs.Choice.{if_then_else_, Mem, member}
 use Rattle.model.specs.File.{byteAt, after, whole?, Records, starts, recordsOf, startsIn, isHead, select, instructions, heads, procs, headOf, procAt, mostMain}
-use Rattle.model.specs.Checker.{none, state, unset, isSet, Known, stateAt, firsts, own, Step, bad, next, refused, passed, goOn, take, takeAll, flow, mapFrom}
-use Rattle.exact.specs.Pass.{Set}
+use Rattle.model.specs.Checker.{none, state, isSet, Known, stateAt, firsts, Step, bad, next, refused, passed, goOn, take, takeAll, flow, mapFrom}
 use Rattle.exact.specs.Walk.{instructions-others, instructions-are, Walk, walk, walk-above, records-walk, after-above, after-head, head-in, first-head, member-in, in-member, instruction-below, HeadsHold, select-in, getD-in, procs-some, in-select}
 use Rattle.exact.specs.Flow.{own-in, keeps-shape, flow-keeps, flow-rest}
 use Rattle.scan.specs.Rest.{restOf, rest-end, rest-inv, whole-inside, records-first}

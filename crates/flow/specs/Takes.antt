@@ -1,6 +1,6 @@
 -- Taking an instruction on the part of the map (`takeIn`) does what the model does on the states that the part shows (`take-alike`):
 -- a place's three numbers are its state where one is known, and 65,534 or more where none is.
-use Prim.Native.Nat.{ℕ, _+_, _-_, _<_}
+use Prim.Native.Nat.{ℕ, _+_, _<_}
 use mathlib.Core.Bool.{Bool, true, false, _&&_}
 use mathlib.Core.List.{List, [], _∷_}
 use mathlib.Core.Logic.{_⊎_, inl, inr}
@@ -11,7 +11,7 @@ use lib.ListN.{length}
 use borrow.Author.Tests.{lt-ltb, eq-eqb, ne-eqb, eqb-false}
 use Rattle.model.specs.Choice.{if_then_else_, all, all-true, Mem, member}
 use Rattle.model.specs.File.{Ins, insAt, instructions, headOf, procAt, mostMain, mostPtr, recordsOf, starts}
-use Rattle.model.specs.Checker.{none, State, state, unset, isSet, sameState, Known, stateAt, outer, passes, targetTests, nextTests, depthTests, leaveTests, Step, bad, next, need, meet, andThen, passOne, passAll, takeWith, take}
+use Rattle.model.specs.Checker.{none, State, state, isSet, sameState, Known, stateAt, outer, passes, targetTests, nextTests, depthTests, leaveTests, Step, bad, next, need, meet, andThen, passAll, takeWith, take}
 use Rattle.model.specs.Claim.{Bytes}
 use Rattle.exact.specs.Walk.{in-member, member-in, instruction-below}
 use Rattle.exact.specs.Flow.{Depths, Inner, Moves, moves}

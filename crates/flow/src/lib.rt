@@ -1,15 +1,12 @@
 // Refusals 5 to 9: the flow of depths and open handlers through the instructions of a file, in the part of the map that is its.
 ghost use mathlib.Core.Path.{_≡_};
-ghost use mathlib.Core.Logic.{_⊎_};
 ghost use Prim.Native.Nat.{_+_, _*_, _<_, _≤_};
 ghost use mathlib.Core.List.{_∷_, []};
 ghost use lib.ListN.{length};
 ghost use Rattle.model.specs.Choice.{if_then_else_};
 ghost use Rattle.model.specs.File as model;
-ghost use Rattle.model.specs.Checker.{state, outer, passes};
 ghost use Rattle.code.specs.Table.{lengths};
 ghost use Rattle.transfer.specs.Tests.{asState};
-ghost use Rattle.scan.specs.Marks.{stateIn};
 ghost use Rattle.flow.specs.Own.{ownIn};
 ghost use Rattle.flow.specs.Takes.{passOneIn, passAllIn, takeIn};
 ghost use Rattle.flow.specs.Faults.{passAns, takeAns, StateIs, OuterIs, Held, Target, Room, shapePasses, earlyOf, lateOf, Here, endIn};

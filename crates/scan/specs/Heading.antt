@@ -6,20 +6,19 @@ use mathlib.Core.List.{List, [], _∷_}
 use mathlib.Core.Path.{_≡_, refl, ap, sym, _∙_}
 use native.Mathlib.Decide.{ℕ-discrete, decLt}
 use native.Mathlib.Omega.{arith}
-use lib.Dec.{ltb, leb, eqb}
+use lib.Dec.{ltb, eqb}
 use lib.ListN.{length, getD, set, replicate, drop, length-set, length-replicate, length-drop}
 use lib.Seq.{getD-set-same, getD-set-other, getD-drop, drop-drop}
 use borrow.Author.Tests.{eq-eqb, ne-eqb, eqb-true, lt-ltb, le-ltb, le-leb, lt-leb}
 use Rattle.model.specs.Choice.{if_then_else_, Test, same, most, yes?, all, All, all-true, member}
-use Rattle.model.specs.File.{byteAt, bodyOf, bodies, after, whole?, Records, broken, starts, more, recordsOf, startsIn, isHead, select, instructions, heads, procs, headOf, entry, headKind, headTests, Heads, wrong, right, headsFrom, headsOf, paramsMain, paramsPtr}
-use Rattle.model.specs.Checker.{none, state, first, firsts}
+use Rattle.model.specs.File.{byteAt, bodyOf, bodies, after, whole?, Records, broken, starts, recordsOf, startsIn, isHead, select, instructions, heads, procs, headOf, entry, headKind, headTests, wrong, right, headsFrom, headsOf, paramsMain, paramsPtr}
+use Rattle.model.specs.Checker.{none, state, firsts}
 use Rattle.exact.specs.Walk.{instruction-below, member-in}
 use Rattle.code.specs.Heads.{procHead, HeadIs, head-of}
 use Rattle.code.specs.declared.Head.{Head}
 use Rattle.scan.specs.Rest.{restOf, rest-end, rest-inv, whole-inside, records-first}
 use Rattle.scan.specs.Marks.{putIn, Shows, starts-here, put-shows}
 use Rattle.scan.specs.Scanning.{foundOf}
-use Rattle.scan.specs.declared.Found.{Found}
 use Rattle.scan.specs.declared.Found.the-variants.{Broken, Whole}
 use Rattle.scan.specs.declared.Heads.{Heads as HeadsFound}
 use Rattle.scan.specs.declared.Heads.the-variants.{Wrong, Right}

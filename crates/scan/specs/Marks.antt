@@ -1,6 +1,6 @@
 -- The part of the map while the check goes on. A place has three numbers: those of its state where one is known, 65,534 and twice
 -- 65,535 where an instruction starts that no state has reached, 65,535 three times elsewhere (`Shows`).
-use Prim.Native.Nat.{ℕ, zero, suc, _+_, _-_, _*_, _<_}
+use Prim.Native.Nat.{ℕ, zero, suc, _+_, _*_, _<_}
 use mathlib.Core.Bool.{Bool, true, false, true≢false, not}
 use mathlib.Core.List.{List, [], _∷_}
 use mathlib.Core.Logic.{inl, inr}

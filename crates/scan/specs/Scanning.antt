@@ -1,6 +1,6 @@
 -- The scan of the records: what is still to be scanned decides what all the records come to (`Going`), and at the end the marks are
 -- those of all the instructions (`Scanned.marks`; `marked-shows` in Marks.antt says what they show).
-use Prim.Native.Nat.{ℕ, _+_, _-_, _*_, _<_, _≤_}
+use Prim.Native.Nat.{ℕ, _+_, _*_, _<_, _≤_}
 use mathlib.Core.Bool.{true, false}
 use mathlib.Core.List.{List, [], _∷_}
 use mathlib.Core.Path.{_≡_, refl, ap, sym, _∙_}

@@ -1,6 +1,5 @@
 -- `flow::pass_on` meets its contract: the next instruction comes first, then the target.
 use mathlib.Core.Path.{sym, _∙_}
-use Rattle.model.specs.Checker.{State}
 use Rattle.transfer.specs.Tests.{asState}
 use Rattle.flow.specs.Faults.{on-bad, on-both, on-target, fit-as, fit-long}
 use borrow.Author.Needs.{needs}
