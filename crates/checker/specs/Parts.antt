@@ -20,6 +20,8 @@ use Rattle.flow.specs.Takes.{Fit}
 use Rattle.flow.specs.Flowing.{Begun, Flowed}
 use Rattle.scan.specs.declared.Found.{Found}
 use Rattle.scan.specs.declared.Found.the-variants.{Broken, Whole}
+use Rattle.checker.specs.declared.Verdict.{Verdict}
+use Rattle.checker.specs.declared.Verdict.the-variants.{Pass, Refuse}
 use Rattle.model.specs.declared.Answer.{Answer}
 use Rattle.model.specs.declared.Answer.the-variants.{Passed, Ready, Finished, Spent, Uncaught, Refused}
 
@@ -32,28 +34,29 @@ pub record Lengths (f m table : List ℕ) : Type 0 where
   pub empty : table ≡ replicate 64 0
 
 -- what refusals 3 to 9 come to, whatever the map was
-abbrev pub Looked : List ℕ → List ℕ → List ℕ → Answer → Type 0
-Looked f m table Passed =
+abbrev pub Looked : List ℕ → List ℕ → List ℕ → Verdict → Type 0
+Looked f m table (Pass n) =
     (k : Known) × ((map : List ℕ) → scanned f map (recordsOf f) ≡ pass (overMap f map (mapFrom k (length f) 0))) × (m ≡ mapFrom k (length f) 0)
-    × Placed f table (procs f)
-Looked f m table Ready = ⊥
-Looked f m table (Finished n) = ⊥
-Looked f m table (Spent n) = ⊥
-Looked f m table (Uncaught w p n) = ⊥
-Looked f m table (Refused n p) = (map : List ℕ) → scanned f map (recordsOf f) ≡ refuse n p (wiped f map)
+    × Placed f table n
+Looked f m table (Refuse n p) = (map : List ℕ) → scanned f map (recordsOf f) ≡ refuse n p (wiped f map)
+
+-- the answer that a verdict is
+abbrev pub answerOf : Verdict → Answer
+answerOf (Pass n) = Passed
+answerOf (Refuse n p) = Refused n p
 
 -- the same, with the part filled where the file is refused
-pub record Filled (f m table : List ℕ) (r : Answer) : Type 0 where
-  pub is : (map : List ℕ) → answered (scanned f map (recordsOf f)) ≡ checked r (overMap f map m)
-  pub placed : r ≡ Passed → Placed f table (procs f)
+pub record Filled (f m table : List ℕ) (v : Verdict) : Type 0 where
+  pub is : (map : List ℕ) → answered (scanned f map (recordsOf f)) ≡ checked (answerOf v) (overMap f map m)
+  pub placed : (n : ℕ) → v ≡ Pass n → Placed f table n
 
-pub record Checks (f map map′ table : List ℕ) (r : Answer) : Type 0 where
-  pub is : checked r map′ ≡ checkOf f map
-  pub placed : r ≡ Passed → Placed f table (procs f)
+pub record Checks (f map map′ table : List ℕ) (v : Verdict) : Type 0 where
+  pub is : checked (answerOf v) map′ ≡ checkOf f map
+  pub placed : (n : ℕ) → v ≡ Pass n → Placed f table n
 
 -- refusal 3, and what the marked part shows
 module _ (f m m₁ m₂ table : List ℕ) (L : Lengths f m table) (one : m₁ ≡ replicate (length m) 65535) where
-  pub look-broken : (p : ℕ) (r : Found) → Scanned f m₁ m₂ r → r ≡ Broken p → Looked f m₂ table (Refused 3 p)
+  pub look-broken : (p : ℕ) (r : Found) → Scanned f m₁ m₂ r → r ≡ Broken p → Looked f m₂ table (Refuse 3 p)
   look-broken p r S e map = go (recordsOf f) (sym (S .found) ∙ e)
     where
       go : (s : Records) → foundOf s ≡ Broken p → scanned f map s ≡ refuse 3 p (wiped f map)
@@ -79,7 +82,7 @@ module _ (f m table : List ℕ) (M : Marked f m table) where
       go (broken q) w z = let x : Broken q ≡ Whole = z in let v : _≡_ {A = ℕ} 0 1 = cc in absurd (omega arith)
       go (starts ps) w z = (ps, w)
 
-  pub look-wrong : (m₁ table₁ : List ℕ) (p : ℕ) → headsOf f ≡ wrong p → Looked f m₁ table₁ (Refused 4 p)
+  pub look-wrong : (m₁ table₁ : List ℕ) (p : ℕ) → headsOf f ≡ wrong p → Looked f m₁ table₁ (Refuse 4 p)
   look-wrong m₁ table₁ p e map = rw (whole-starts .1, e)
 
   -- the first states fit the map
@@ -113,54 +116,54 @@ module _ (f m table : List ℕ) (M : Marked f m table) where
         good = record { shows = H .2; fits = firsts-fit k };
       }
 
-  pub look-flow : (m₁ m₂ table₁ : List ℕ) (k : ℕ) (r : Answer) → (headsOf f ≡ right) × Placed f table₁ k × Shows f (firsts f k) m₁ → Flowed f m₂ r → Looked f m₂ table₁ r
-  look-flow m₁ m₂ table₁ k Passed H F =
-      (F .0, (λ map. rw (whole-starts .1, H .0, F .1)), F .2, (let e = H .1 .count in rw e at (H .1)))
-  look-flow m₁ m₂ table₁ k Ready H F = F
-  look-flow m₁ m₂ table₁ k (Finished n) H F = F
-  look-flow m₁ m₂ table₁ k (Spent n) H F = F
-  look-flow m₁ m₂ table₁ k (Uncaught w p n) H F = F
-  look-flow m₁ m₂ table₁ k (Refused n p) H F = λ map. rw (whole-starts .1, H .0, F)
+  -- the heads are right, and what the flow comes to decides
+  module _ (m₁ m₂ table₁ : List ℕ) (k : ℕ) (r : Answer) (H : (headsOf f ≡ right) × Placed f table₁ k × Shows f (firsts f k) m₁) (F : Flowed f m₂ r) where
+    pub look-passed : ((n p : ℕ) → r ≡ Refused n p → ⊥) → Looked f m₂ table₁ (Pass k)
+    look-passed never = go r F never
+      where
+        go : (s : Answer) → Flowed f m₂ s → ((n p : ℕ) → s ≡ Refused n p → ⊥) → Looked f m₂ table₁ (Pass k)
+        go Passed G never = (G .0, (λ map. rw (whole-starts .1, H .0, G .1)), G .2, H .1)
+        go Ready G never = absurd G
+        go (Finished n) G never = absurd G
+        go (Spent n) G never = absurd G
+        go (Uncaught w p n) G never = absurd G
+        go (Refused n p) G never = absurd (never n p refl)
+
+    pub look-refused : (n p : ℕ) → r ≡ Refused n p → Looked f m₂ table₁ (Refuse n p)
+    look-refused n p e map = let G : Flowed f m₂ (Refused n p) = rw e at F in rw (whole-starts .1, H .0, G)
 
 -- a passed file keeps its part, a refused one has it filled
-pub fill-kept : (f m table : List ℕ) (r : Answer) → ((n p : ℕ) → r ≡ Refused n p → ⊥) → Looked f m table r → Filled f m table r
-fill-kept f m table Passed h L =
-    record { is = λ map. rw (L .1 map, ← L .2); placed = λ e. L .3 }
-fill-kept f m table Ready h L = absurd L
-fill-kept f m table (Finished n) h L = absurd L
-fill-kept f m table (Spent n) h L = absurd L
-fill-kept f m table (Uncaught w p n) h L = absurd L
-fill-kept f m table (Refused n p) h L = absurd (h n p refl)
+pub fill-kept : (f m table : List ℕ) (v : Verdict) → ((n p : ℕ) → v ≡ Refuse n p → ⊥) → Looked f m table v → Filled f m table v
+fill-kept f m table (Pass n) h L =
+    record { is = λ map. rw (L .1 map, ← L .2); placed = λ k e. let w : n ≡ k = cc in rw w at (L .3) }
+fill-kept f m table (Refuse n p) h L = absurd (h n p refl)
 
-pub fill-refused : (f m m′ table : List ℕ) (r : Answer) (n p : ℕ) → r ≡ Refused n p → Looked f m table r → m′ ≡ replicate (length m) 65535 →
-    length m ≡ 3 * length f → Filled f m′ table (Refused n p)
-fill-refused f m m′ table r n p e L w l =
-    let R : Looked f m table (Refused n p) = rw e at L in
-    record {
-      is = λ map. rw (R map, w, l) (unfold wiped in refl);
-      placed = λ (z : Refused n p ≡ Passed). let v : _≡_ {A = ℕ} 0 1 = cc in absurd (omega arith);
-    }
+refuse-pass : {A : Type 0} (n p k : ℕ) → Refuse n p ≡ Pass k → A
+refuse-pass n p k z = let v : _≡_ {A = ℕ} 0 1 = cc in absurd (omega arith)
+
+pub fill-refused : (f m m′ table : List ℕ) (v : Verdict) (n p : ℕ) → v ≡ Refuse n p → Looked f m table v → m′ ≡ replicate (length m) 65535 →
+    length m ≡ 3 * length f → Filled f m′ table (Refuse n p)
+fill-refused f m m′ table v n p e L w l =
+    let R : Looked f m table (Refuse n p) = rw e at L in
+    record { is = λ map. rw (R map, w, l) (unfold wiped in refl); placed = λ k z. refuse-pass n p k z }
 
 -- refusals 1 and 2 write nothing; the rest is the passes'
 module _ (f map table : List ℕ) where
-  not-passed : (n p : ℕ) → Refused n p ≡ Passed → Placed f table (procs f)
-  not-passed n p z = let v : _≡_ {A = ℕ} 0 1 = cc in absurd (omega arith)
-
-  pub check-none : length f < 1 → Checks f map map table (Refused 1 0)
+  pub check-none : length f < 1 → Checks f map map table (Refuse 1 0)
   unfolding checkOf verdictOf
-  check-none l = record { is = rw (lt-leb 1 (length f) l); placed = not-passed 1 0 }
+  check-none l = record { is = rw (lt-leb 1 (length f) l); placed = λ k z. refuse-pass 1 0 k z }
 
-  pub check-long : 1 ≤ length f → 4096 < length f → Checks f map map table (Refused 1 0)
+  pub check-long : 1 ≤ length f → 4096 < length f → Checks f map map table (Refuse 1 0)
   unfolding checkOf verdictOf
-  check-long a l = record { is = rw (le-leb 1 (length f) a, lt-leb (length f) 4096 l); placed = not-passed 1 0 }
+  check-long a l = record { is = rw (le-leb 1 (length f) a, lt-leb (length f) 4096 l); placed = λ k z. refuse-pass 1 0 k z }
 
   module _ (a : 1 ≤ length f) (b : length f ≤ 4096) where
-    pub check-map : length map < 3 * length f → Checks f map map table (Refused 2 0)
+    pub check-map : length map < 3 * length f → Checks f map map table (Refuse 2 0)
     unfolding checkOf verdictOf
     check-map l =
-        record { is = rw (le-leb 1 (length f) a, le-leb (length f) 4096 b, lt-leb (3 * length f) (length map) l); placed = not-passed 2 0 }
+        record { is = rw (le-leb 1 (length f) a, le-leb (length f) 4096 b, lt-leb (3 * length f) (length map) l); placed = λ k z. refuse-pass 2 0 k z }
 
-    pub check-rest : (m map′ : List ℕ) (r : Answer) → 3 * length f ≤ length map → Filled f m table r → map′ ≡ m ++ drop (3 * length f) map → Checks f map map′ table r
+    pub check-rest : (m map′ : List ℕ) (r : Verdict) → 3 * length f ≤ length map → Filled f m table r → map′ ≡ m ++ drop (3 * length f) map → Checks f map map′ table r
     unfolding checkOf verdictOf
     check-rest m map′ r l F e =
         record {

@@ -9,59 +9,71 @@ use model::Answer;
 use scan::Found;
 use scan::Heads;
 
+// What the tests find: the file passes and has so many procedures, or it is refused with a number and a place.
+pub enum Verdict {
+    Pass(usize),
+    Refuse(u32, usize),
+}
+
 // Refusals 4 to 9, of a file whose records are marked in its part of the map.
-fn look(file: &[u8], m: &mut [u16], table: &mut [usize; 64]) -> Answer
+fn look(file: &[u8], m: &mut [u16], table: &mut [usize; 64]) -> Verdict
     requires { ⌜ Marked (now file) (now m) (now table) ⌝ }
     ensures { λ r. ⌜ Looked (now (file .entry)) (now (m .exit)) (now (table .exit)) r ⌝ }
 {
     let heads = scan::heads_of(file, m, table);
     match heads {
-        Heads::Wrong(p) => Answer::Refused(4, p),
-        Heads::Right(k) => flow::flow(file, m, table, k),
+        Heads::Wrong(p) => Verdict::Refuse(4, p),
+        Heads::Right(k) => {
+            let a = flow::flow(file, m, table, k);
+            let Answer::Refused(n, p) = a else {
+                return Verdict::Pass(k);
+            };
+            Verdict::Refuse(n, p)
+        }
     }
 }
 
 // Refusals 3 to 9.
-fn passes(file: &[u8], m: &mut [u16], table: &mut [usize; 64]) -> Answer
+fn passes(file: &[u8], m: &mut [u16], table: &mut [usize; 64]) -> Verdict
     requires { ⌜ Lengths (now file) (now m) (now table) ⌝ }
     ensures { λ r. ⌜ Looked (now (file .entry)) (now (m .exit)) (now (table .exit)) r ⌝ }
 {
     scan::fill(m);
     let found = scan::scan(file, m);
     match found {
-        Found::Broken(p) => Answer::Refused(3, p),
+        Found::Broken(p) => Verdict::Refuse(3, p),
         Found::Whole => look(file, m, table),
     }
 }
 
 // Refusals 3 to 9 fill the part with 65,535.
-fn check_part(file: &[u8], m: &mut [u16], table: &mut [usize; 64]) -> Answer
+fn check_part(file: &[u8], m: &mut [u16], table: &mut [usize; 64]) -> Verdict
     requires { ⌜ Lengths (now file) (now m) (now table) ⌝ }
     ensures { λ r. ⌜ Filled (now (file .entry)) (now (m .exit)) (now (table .exit)) r ⌝ }
 {
-    let a = passes(file, m, table);
-    let Answer::Refused(n, p) = a else {
-        return a;
+    let v = passes(file, m, table);
+    let Verdict::Refuse(n, p) = v else {
+        return v;
     };
     scan::fill(m);
-    Answer::Refused(n, p)
+    Verdict::Refuse(n, p)
 }
 
-// Tests 1 to 9, for any file and any map. Where the file passes, the table has the heads of its procedures.
-pub fn check_with(file: &[u8], map: &mut [u16], table: &mut [usize; 64]) -> Answer
+// Tests 1 to 9, for any file and any map. Where the file passes, the table has the heads of its procedures, and their number is told.
+pub fn check_with(file: &[u8], map: &mut [u16], table: &mut [usize; 64]) -> Verdict
     requires { ⌜ now table ≡ replicate 64 0 ⌝ }
     ensures { λ r. ⌜ Checks (now (file .entry)) (now (map .entry)) (now (map .exit)) (now (table .exit)) r ⌝ }
 {
     let n = file.len();
     if n < 1 {
-        return Answer::Refused(1, 0);
+        return Verdict::Refuse(1, 0);
     }
     if 4096 < n {
-        return Answer::Refused(1, 0);
+        return Verdict::Refuse(1, 0);
     }
     let size = 3 * n;
     if map.len() < size {
-        return Answer::Refused(2, 0);
+        return Verdict::Refuse(2, 0);
     }
     check_part(file, &mut map[..size], table)
 }
@@ -71,5 +83,9 @@ pub fn check(file: &[u8], map: &mut [u16]) -> Answer
     ensures { λ r. ⌜ checked r (now (map .exit)) ≡ checkOf (now (file .entry)) (now (map .entry)) ⌝ }
 {
     let mut table = [0usize; 64];
-    check_with(file, map, &mut table)
+    let v = check_with(file, map, &mut table);
+    match v {
+        Verdict::Pass(_) => Answer::Passed,
+        Verdict::Refuse(n, p) => Answer::Refused(n, p),
+    }
 }

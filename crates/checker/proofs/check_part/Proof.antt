@@ -1,5 +1,4 @@
 -- `checker::check_part` meets its contract: a refused file has its part filled.
-use mathlib.Core.Logic.{⊎-elim}
 use mathlib.Core.Path.{_∙_}
 use native.Mathlib.Omega.{arith}
 use Rattle.checker.specs.Parts.{fill-kept, fill-refused}
@@ -10,14 +9,20 @@ use Rattle.checker.proofs.check_part.Tie as tie
 passes-requires : tie.Need-passes-requires
 passes-requires c κs = search needs
 
-enum-known-a : tie.Need-enum-known-a
-enum-known-a c = search needs
+enum-known-v : tie.Need-enum-known-v
+enum-known-v c = search needs
+
+enum-told : tie.Need-enum-told
+enum-told c = search needs
 
 same-length : tie.Need-same-length
 same-length c = search needs
 
 returns : tie.Need-returns
-returns c = fill-kept (c .before .before .before .before .before .before .before .before .args .file .now) (c .before .before .before .passes .last .1 .0) (c .before .before .before .passes .last .1 .1 .0) (c .before .before .before .passes .result) (λ n p e. ⊎-elim (λ z. omega arith) (⊎-elim (λ z. omega arith) (⊎-elim (λ z. omega arith) (⊎-elim (λ z. omega arith) (λ z. omega arith)))) (rw e at (c .match .keys2))) (c .before .before .before .passes .ensures)
+returns c =
+    let at-passes = c .before .before .before .before in
+    let entry = at-passes .before .before .before .before .before in
+    fill-kept (entry .args .file .now) (at-passes .passes .last .1 .0) (at-passes .passes .last .1 .1 .0) (at-passes .passes .result) (λ n p e. omega (arith, rw e at (c .before .match .keys2))) (at-passes .passes .ensures)
 
 fill-requires : tie.Need-fill-requires
 fill-requires c κs = search needs
@@ -26,14 +31,19 @@ same-length-2 : tie.Need-same-length-2
 same-length-2 c = search needs
 
 returns-2 : tie.Need-returns-2
-returns-2 c = fill-refused (c .before .before .before .before .before .before .before .before .before .before .before .before .before .before .args .file .now) (c .before .before .before .before .before .before .before .before .before .passes .last .1 .0) (c .before .before .fill .last .0) (c .before .before .before .before .before .before .before .before .before .passes .last .1 .1 .0) (c .before .before .before .before .before .before .before .before .before .passes .result) _ _ (c .before .before .before .before .before .a .given .1) (c .before .before .before .before .before .before .before .before .before .passes .ensures) (c .before .before .fill .ensures) (c .before .before .before .before .before .before .before .before .before .passes .kept .1 .0 ∙ c .before .before .before .before .before .before .before .before .before .before .before .before .before .before .pre .part)
+returns-2 c =
+    let at-v = c .before .before .before .before .before in
+    let at-passes = at-v .before .before .before .before in
+    let entry = at-passes .before .before .before .before .before in
+    fill-refused (entry .args .file .now) (at-passes .passes .last .1 .0) (c .before .before .fill .last .0) (at-passes .passes .last .1 .1 .0) (at-passes .passes .result) _ _ (at-v .v .given .1) (at-passes .passes .ensures) (c .before .before .fill .ensures) (at-passes .passes .kept .1 .0 ∙ entry .pre .part)
 
 pub check-part-spec : {M : Type 1} → statement M
 check-part-spec =
     tie.close
     (tie.spec
     passes-requires
-    enum-known-a
+    enum-known-v
+    enum-told
     same-length
     returns
     fill-requires

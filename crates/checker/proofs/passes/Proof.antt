@@ -9,7 +9,9 @@ fill-requires : tie.Need-fill-requires
 fill-requires c κs = search needs
 
 scan-requires : tie.Need-scan-requires
-scan-requires c κs = (c .before .before .before .before .before .before .before .pre .some, c .before .before .before .before .before .before .before .pre .few, c .before .before .before .fill .kept .0 ∙ c .before .before .before .before .before .before .before .pre .part)
+scan-requires c κs =
+    let entry = c .before .before .before .before .before .before .before in
+    (entry .pre .some, entry .pre .few, c .before .before .before .fill .kept .0 ∙ entry .pre .part)
 
 enum-known-found : tie.Need-enum-known-found
 enum-known-found c = search needs
@@ -18,13 +20,21 @@ enum-told : tie.Need-enum-told
 enum-told c = search needs
 
 look-requires : tie.Need-look-requires
-look-requires c κs = look-whole (c .before .before .before .before .before .before .before .before .before .before .before .before .before .before .args .file .now) (c .before .before .before .before .before .before .before .before .before .before .before .before .before .before .args .m .now) (c .before .before .before .before .before .before .before .before .before .before .fill .last .0) (c .before .before .before .before .before .before .scan .last .1 .0) (c .before .before .before .before .before .before .before .before .before .before .before .before .before .before .args .table .now) (c .before .before .before .before .before .before .before .before .before .before .before .before .before .before .pre) (c .before .before .before .before .before .before .before .before .before .before .fill .ensures) (c .before .before .before .before .before .before .scan .result) (c .before .before .before .before .before .before .scan .ensures) (c .before .before .enum-told .given .1)
+look-requires c κs =
+    let at-scan = c .before .before .before .before .before .before in
+    let at-fill = at-scan .before .before .before .before in
+    let entry = at-fill .before .before .before .before in
+    look-whole (entry .args .file .now) (entry .args .m .now) (at-fill .fill .last .0) (at-scan .scan .last .1 .0) (entry .args .table .now) (entry .pre) (at-fill .fill .ensures) (at-scan .scan .result) (at-scan .scan .ensures) (c .before .before .enum-told .given .1)
 
 same-length : tie.Need-same-length
 same-length c = search needs
 
 returns : tie.Need-returns
-returns c = look-broken (c .before .before .before .before .before .before .before .before .before .before .before .before .before .args .file .now) (c .before .before .before .before .before .before .before .before .before .before .before .before .before .args .m .now) (c .before .before .before .before .before .before .before .before .before .fill .last .0) (c .before .before .before .before .before .scan .last .1 .0) (c .before .before .before .before .before .before .before .before .before .before .before .before .before .args .table .now) (c .before .before .before .before .before .before .before .before .before .before .before .before .before .pre) (c .before .before .before .before .before .before .before .before .before .fill .ensures) _ (c .before .before .before .before .before .scan .result) (c .before .before .before .before .before .scan .ensures) (c .before .found .given .1)
+returns c =
+    let at-scan = c .before .before .before .before .before in
+    let at-fill = at-scan .before .before .before .before in
+    let entry = at-fill .before .before .before .before in
+    look-broken (entry .args .file .now) (entry .args .m .now) (at-fill .fill .last .0) (at-scan .scan .last .1 .0) (entry .args .table .now) (entry .pre) (at-fill .fill .ensures) _ (at-scan .scan .result) (at-scan .scan .ensures) (c .before .found .given .1)
 
 same-length-2 : tie.Need-same-length-2
 same-length-2 c = search needs
