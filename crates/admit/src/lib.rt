@@ -1,11 +1,12 @@
-// What start and run test first: refusals 1 to 11, and 12 for the length of the register list.
+// What start and run test: refusals 1 to 11 and 12 for the length of the register list; then, for run, the state.
 ghost use mathlib.Core.Path.{_≡_};
 ghost use Rattle.model.specs.Choice.{all};
-ghost use Rattle.model.specs.Calls.{lent};
 ghost use Rattle.admit.specs.Admit.{lengthList, Tables, Admitted};
+ghost use Rattle.admit.specs.Tested.{TestedAs};
+use checker::Verdict;
 use code::Head;
 use heap::HeapAudit;
-use model::Answer;
+use model::Regs;
 
 // Refusal 10: the lent lengths, with the head of procedure 0.
 fn lengths_right(head: Head, main: usize, ptr: usize, ctl: usize, heap: usize) -> bool
@@ -41,7 +42,8 @@ fn lengths_right(head: Head, main: usize, ptr: usize, ctl: usize, heap: usize) -
     head.y <= ptr
 }
 
-// Refusals 1 to 11, and 12 for the length of the register list; passed where there is none.
+// Refusals 1 to 11, and 12 for the length of the register list. Where there is none, the table has the heads of so many procedures, and the
+// heap's objects are marked.
 pub fn admit(
     file: &[u8],
     map: &mut [u16],
@@ -52,28 +54,62 @@ pub fn admit(
     ctl: &[u32],
     heap: &[u32],
     bytes: &[u8],
-) -> Answer
+) -> Verdict
     requires { ⌜ Tables (now table) (now marks) ⌝ }
-    ensures { λ r. ⌜ Admitted (lent (now (file .entry)) (now (map .entry)) (now (main .entry)) (now (ptr .entry)) (now (ctl .entry)) (now (heap .entry)) (now (bytes .entry))) (now (map .exit)) (now (table .exit)) (now (marks .exit)) r ⌝ }
+    ensures { λ r. ⌜ Admitted (record { file = now (file .entry); map = now (map .entry); main = now (main .entry); ptr = now (ptr .entry); ctl = now (ctl .entry); heap = now (heap .entry); bytes = now (bytes .entry) }) (now (map .exit)) (now (table .exit)) (now (marks .exit)) r ⌝ }
 {
-    let a = checker::check_with(file, map, table);
-    let Answer::Passed = a else {
-        return a;
+    let v = checker::check_with(file, map, table);
+    let Verdict::Pass(k) = v else {
+        return v;
     };
     let head = code::head_at(file, 0);
     if lengths_right(head, main.len(), ptr.len(), ctl.len(), heap.len()) {
         let audit = heap::audit_heap(heap, marks);
         match audit {
-            HeapAudit::Fault(q) => Answer::Refused(11, q),
+            HeapAudit::Fault(q) => Verdict::Refuse(11, q),
             HeapAudit::Clean => {
                 if bytes.len() == 28 {
-                    Answer::Passed
+                    Verdict::Pass(k)
                 } else {
-                    Answer::Refused(12, 0)
+                    Verdict::Refuse(12, 0)
                 }
             }
         }
     } else {
-        Answer::Refused(10, 0)
+        Verdict::Refuse(10, 0)
+    }
+}
+
+// What the tests of a run find: a sound state of a file with so many procedures, and its registers; or a refusal, its number and its place.
+pub enum Tested {
+    Sound(usize, Regs),
+    Unfit(u32, usize),
+}
+
+// All that run tests, 1 to 12.
+pub fn test_for_run(
+    file: &[u8],
+    map: &mut [u16],
+    table: &mut [usize; 64],
+    marks: &mut [bool; 16384],
+    main: &[u32],
+    ptr: &[u32],
+    ctl: &[u32],
+    heap: &[u32],
+    bytes: &[u8],
+) -> Tested
+    requires { ⌜ Tables (now table) (now marks) ⌝ }
+    ensures { λ r. ⌜ TestedAs (record { file = now (file .entry); map = now (map .entry); main = now (main .entry); ptr = now (ptr .entry); ctl = now (ctl .entry); heap = now (heap .entry); bytes = now (bytes .entry) }) (now (map .exit)) (now (table .exit)) (now (marks .exit)) r ⌝ }
+{
+    let v = admit(file, map, table, marks, main, ptr, ctl, heap, bytes);
+    match v {
+        Verdict::Refuse(n, p) => Tested::Unfit(n, p),
+        Verdict::Pass(k) => {
+            let regs = registers::regs_from(bytes);
+            if frames::sound_state(file, map, table, k, main, ptr, ctl, marks, regs) {
+                return Tested::Sound(k, regs);
+            }
+            Tested::Unfit(12, 0)
+        }
     }
 }
