@@ -1,6 +1,6 @@
 -- The caller's bases are the frame's with what the call popped, less the depths at the call.
 use Prim.Native.Nat.{_+_, _-_}
-use mathlib.Core.Path.{_≡_, ap, sym, _∙_}
+use mathlib.Core.Path.{sym, _∙_}
 use native.Mathlib.Omega.{arith}
 use borrow.Author.Needs.{needs}
 use Rattle.records.proofs.caller_of.Statement.{statement}
