@@ -17,7 +17,11 @@ same-length : tie.Need-same-length
 same-length c = search needs
 
 returns : tie.Need-returns
-returns c = fill-kept (c .before .before .before .before .before .before .before .before .args .file .now) (c .before .before .before .passes .last .1 .0) (c .before .before .before .passes .last .1 .1 .0) (c .before .before .before .passes .result) (λ n p e. ⊎-elim (λ z. omega arith) (⊎-elim (λ z. omega arith) (⊎-elim (λ z. omega arith) (⊎-elim (λ z. omega arith) (λ z. omega arith)))) (rw e at (c .match .keys2))) (c .before .before .before .passes .ensures)
+returns c =
+    let b3 = c .before .before .before in let b8 = b3 .before .before .before .before .before in
+    fill-kept (b8 .args .file .now) (b3 .passes .last .1 .0) (b3 .passes .last .1 .1 .0) (b3 .passes .result)
+    (λ n p e. ⊎-elim (λ z. omega arith) (⊎-elim (λ z. omega arith) (⊎-elim (λ z. omega arith) (⊎-elim (λ z. omega arith) (λ z. omega arith)))) (rw e at (c .match .keys2)))
+    (b3 .passes .ensures)
 
 fill-requires : tie.Need-fill-requires
 fill-requires c κs = search needs
@@ -26,7 +30,11 @@ same-length-2 : tie.Need-same-length-2
 same-length-2 c = search needs
 
 returns-2 : tie.Need-returns-2
-returns-2 c = fill-refused (c .before .before .before .before .before .before .before .before .before .before .before .before .before .before .args .file .now) (c .before .before .before .before .before .before .before .before .before .passes .last .1 .0) (c .before .before .fill .last .0) (c .before .before .before .before .before .before .before .before .before .passes .last .1 .1 .0) (c .before .before .before .before .before .before .before .before .before .passes .result) _ _ (c .before .before .before .before .before .a .given .1) (c .before .before .before .before .before .before .before .before .before .passes .ensures) (c .before .before .fill .ensures) (c .before .before .before .before .before .before .before .before .before .passes .kept .1 .0 ∙ c .before .before .before .before .before .before .before .before .before .before .before .before .before .before .pre .part)
+returns-2 c =
+    let b2 = c .before .before in let b5 = b2 .before .before .before in
+    let b9 = b5 .before .before .before .before in let b14 = b9 .before .before .before .before .before in
+    fill-refused (b14 .args .file .now) (b9 .passes .last .1 .0) (b2 .fill .last .0) (b9 .passes .last .1 .1 .0) (b9 .passes .result) _ _
+    (b5 .a .given .1) (b9 .passes .ensures) (b2 .fill .ensures) (b9 .passes .kept .1 .0 ∙ b14 .pre .part)
 
 pub check-part-spec : {M : Type 1} → statement M
 check-part-spec =

@@ -11,13 +11,17 @@ returns : tie.Need-returns
 returns c = check-none (c .before .before .before .args .file .now) (c .before .before .before .args .map .now) (c .before .before .before .args .table .now) (c .if1 .taken)
 
 returns-2 : tie.Need-returns-2
-returns-2 c = check-long (c .before .before .before .before .args .file .now) (c .before .before .before .before .args .map .now) (c .before .before .before .before .args .table .now) (omega arith) (c .if2 .taken)
+returns-2 c =
+    let b4 = c .before .before .before .before in let a = b4 .args in
+    check-long (a .file .now) (a .map .now) (a .table .now) (omega arith) (c .if2 .taken)
 
 mul-size : tie.Need-mul-size
 mul-size c = search needs
 
 returns-3 : tie.Need-returns-3
-returns-3 c = check-map (c .before .before .before .before .before .args .file .now) (c .before .before .before .before .before .args .map .now) (c .before .before .before .before .before .args .table .now) (omega arith) (omega arith) (c .if3 .taken)
+returns-3 c =
+    let b5 = c .before .before .before .before .before in let a = b5 .args in
+    check-map (a .file .now) (a .map .now) (a .table .now) (omega arith) (omega arith) (c .if3 .taken)
 
 slice-relend-prefix-check-part : tie.Need-slice-relend-prefix-check-part
 slice-relend-prefix-check-part c = search needs
@@ -26,13 +30,19 @@ slice-aggregate-check-part : tie.Need-slice-aggregate-check-part
 slice-aggregate-check-part c = sym (length-take-le _ _ (omega arith))
 
 check-part-requires : tie.Need-check-part-requires
-check-part-requires c κs = record { some = omega arith; few = omega arith; bytes = λ i. omega (arith, c .before .before .before .before .before .before .shared-slice-known .given i); part = length-take-le _ _ (omega arith); empty = c .before .before .before .before .before .before .before .pre }
+check-part-requires c κs =
+    let b6 = c .before .before .before .before .before .before in let b7 = b6 .before in
+    record { some = omega arith; few = omega arith; bytes = λ i. omega (arith, b6 .shared-slice-known .given i); part = length-take-le _ _ (omega arith); empty = b7 .pre }
 
 same-length : tie.Need-same-length
 same-length c = search needs
 
 returns-4 : tie.Need-returns-4
-returns-4 c = check-rest (c .before .before .before .before .before .before .before .before .before .before .args .file .now) (c .before .before .before .before .before .before .before .before .before .before .args .map .now) (c .before .before .check-part .last .1 .1 .0) (omega arith) (omega arith) (c .before .before .check-part .last .1 .0) _ (c .before .before .check-part .result) (omega arith) (c .before .before .check-part .ensures) refl
+returns-4 c =
+    let b2 = c .before .before in
+    let b10 = b2 .before .before .before .before .before .before .before .before in
+    check-rest (b10 .args .file .now) (b10 .args .map .now) (b2 .check-part .last .1 .1 .0) (omega arith) (omega arith) (b2 .check-part .last .1 .0) _
+    (b2 .check-part .result) (omega arith) (b2 .check-part .ensures) refl
 
 pub check-with-spec : {M : Type 1} → statement M
 check-with-spec =

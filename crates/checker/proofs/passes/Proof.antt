@@ -9,7 +9,9 @@ fill-requires : tie.Need-fill-requires
 fill-requires c κs = search needs
 
 scan-requires : tie.Need-scan-requires
-scan-requires c κs = (c .before .before .before .before .before .before .before .pre .some, c .before .before .before .before .before .before .before .pre .few, c .before .before .before .fill .kept .0 ∙ c .before .before .before .before .before .before .before .pre .part)
+scan-requires c κs =
+    let b3 = c .before .before .before in let b7 = b3 .before .before .before .before in
+    (b7 .pre .some, b7 .pre .few, b3 .fill .kept .0 ∙ b7 .pre .part)
 
 enum-known-found : tie.Need-enum-known-found
 enum-known-found c = search needs
@@ -18,13 +20,21 @@ enum-told : tie.Need-enum-told
 enum-told c = search needs
 
 look-requires : tie.Need-look-requires
-look-requires c κs = look-whole (c .before .before .before .before .before .before .before .before .before .before .before .before .before .before .args .file .now) (c .before .before .before .before .before .before .before .before .before .before .before .before .before .before .args .m .now) (c .before .before .before .before .before .before .before .before .before .before .fill .last .0) (c .before .before .before .before .before .before .scan .last .1 .0) (c .before .before .before .before .before .before .before .before .before .before .before .before .before .before .args .table .now) (c .before .before .before .before .before .before .before .before .before .before .before .before .before .before .pre) (c .before .before .before .before .before .before .before .before .before .before .fill .ensures) (c .before .before .before .before .before .before .scan .result) (c .before .before .before .before .before .before .scan .ensures) (c .before .before .enum-told .given .1)
+look-requires c κs =
+    let b2 = c .before .before in let b6 = b2 .before .before .before .before in
+    let b10 = b6 .before .before .before .before in let b14 = b10 .before .before .before .before in
+    let a = b14 .args in
+    look-whole (a .file .now) (a .m .now) (b10 .fill .last .0) (b6 .scan .last .1 .0) (a .table .now) (b14 .pre) (b10 .fill .ensures) (b6 .scan .result) (b6 .scan .ensures) (b2 .enum-told .given .1)
 
 same-length : tie.Need-same-length
 same-length c = search needs
 
 returns : tie.Need-returns
-returns c = look-broken (c .before .before .before .before .before .before .before .before .before .before .before .before .before .args .file .now) (c .before .before .before .before .before .before .before .before .before .before .before .before .before .args .m .now) (c .before .before .before .before .before .before .before .before .before .fill .last .0) (c .before .before .before .before .before .scan .last .1 .0) (c .before .before .before .before .before .before .before .before .before .before .before .before .before .args .table .now) (c .before .before .before .before .before .before .before .before .before .before .before .before .before .pre) (c .before .before .before .before .before .before .before .before .before .fill .ensures) _ (c .before .before .before .before .before .scan .result) (c .before .before .before .before .before .scan .ensures) (c .before .found .given .1)
+returns c =
+    let b5 = c .before .before .before .before .before in let b9 = b5 .before .before .before .before in
+    let b13 = b9 .before .before .before .before in let a = b13 .args in
+    look-broken (a .file .now) (a .m .now) (b9 .fill .last .0) (b5 .scan .last .1 .0) (a .table .now) (b13 .pre) (b9 .fill .ensures) _
+    (b5 .scan .result) (b5 .scan .ensures) (c .before .found .given .1)
 
 same-length-2 : tie.Need-same-length-2
 same-length-2 c = search needs
