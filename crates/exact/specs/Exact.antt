@@ -1,5 +1,5 @@
--- The checker passes a file exactly when document 01's rules hold of it, and the finished map is the one assignment that keeps
--- them: the pass finds the assignment if there is one, and its states are what the map has at every place of the file.
+-- A file that passes is in order, and the finished map is the one assignment that keeps document 01's rules: the pass finds the
+-- assignment if there is one, and its states are what the map has at every place of the file.
 use Prim.Native.Nat.{ℕ, zero, suc, _+_, _*_, _<_, _≤_}
 use mathlib.Core.Bool.{Bool, true, false, _&&_}
 use mathlib.Core.List.{List, [], _∷_, _++_}

@@ -1,5 +1,6 @@
--- The records of a file lie end to end, so their starts rise, and so do the heads and the instructions among them. A place's
--- procedure counts the heads up to it: behind head n, at the first instruction of procedure n, those are the heads 0 to n.
+-- The records of a file lie end to end, so their starts rise, and so do the heads and the instructions among them; the instructions
+-- are all but the heads, since the table of codes has every other known kind. A place's procedure counts the heads up to it: behind
+-- head n, at the first instruction of procedure n, those are the heads 0 to n.
 use Prim.Native.Nat.{ℕ, zero, suc, _+_, _-_, _<_, _≤_}
 use mathlib.Core.Bool.{Bool, true, false, true≢false, not}
 use mathlib.Core.List.{List, [], _∷_}

@@ -123,7 +123,9 @@ returns-11 c = rw (c .effect8 .ensures, c .before .match .keys11)
 
 returns-12 : tie.Need-returns-12
 unfolding insAt insOf shapeOf basicEffect
-returns-12 c = rw (c .effect9 .ensures) (⊎-elim (λ e. rw e) (⊎-elim (λ e. rw e) (⊎-elim (λ e. rw e) (⊎-elim (λ e. rw e) (⊎-elim (λ e. rw e) (⊎-elim (λ e. rw e) (⊎-elim (λ e. rw e) (λ e. rw e))))))) (c .before .match .keys12))
+returns-12 c =
+    rw (c .effect9 .ensures)
+    (⊎-elim (λ e. rw e) (⊎-elim (λ e. rw e) (⊎-elim (λ e. rw e) (⊎-elim (λ e. rw e) (⊎-elim (λ e. rw e) (⊎-elim (λ e. rw e) (⊎-elim (λ e. rw e) (λ e. rw e))))))) (c .before .match .keys12))
 
 returns-13 : tie.Need-returns-13
 unfolding insAt insOf shapeOf basicEffect

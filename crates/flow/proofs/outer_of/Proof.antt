@@ -14,7 +14,9 @@ state-in-requires : tie.Need-state-in-requires
 state-in-requires c κs = ⊎-elim (λ z. absurd (c .if1 .left z)) (λ z. z) (c .before .before .pre)
 
 returns-2 : tie.Need-returns-2
-returns-2 c = record { is = outer-some (c .before .before .before .args .m .now) (asState (c .before .before .before .args .s)) _ (c .before .if1 .left) (c .state-in .ensures .is); inner-small = c .state-in .ensures .inner-small }
+returns-2 c =
+    let b3 = c .before .before .before in
+    record { is = outer-some (b3 .args .m .now) (asState (b3 .args .s)) _ (c .before .if1 .left) (c .state-in .ensures .is); inner-small = c .state-in .ensures .inner-small }
 
 pub outer-of-spec : {M : Type 1} → statement M
 outer-of-spec = tie.close (tie.spec returns state-in-requires returns-2)

@@ -19,31 +19,56 @@ goes-requires : tie.Need-goes-requires
 goes-requires c κs = search needs
 
 pass-one-requires : tie.Need-pass-one-requires
-pass-one-requires c κs = let w = fit-as _ _ _ _ (c .before .before .before .before .before .next-state .ensures) (c .before .before .before .before .before .before .before .pre .next-in (sym (c .before .before .goes .ensures) ∙ c .before .if1 .taken)) in (w .inside, w .low, w .main-small, w .ptr-small, w .inner-small)
+pass-one-requires c κs =
+    let b2 = c .before .before in let b5 = b2 .before .before .before in let b7 = b5 .before .before in
+    let w = fit-as _ _ _ _ (b5 .next-state .ensures) (b7 .pre .next-in (sym (b2 .goes .ensures) ∙ c .before .if1 .taken)) in (w .inside, w .low, w .main-small, w .ptr-small, w .inner-small)
 
 pass-target-requires : tie.Need-pass-target-requires
-pass-target-requires c κs = λ z. fit-long _ _ _ _ (c .before .before .before .before .pass-one .kept .0) (fit-as _ _ _ _ (c .before .before .before .before .before .before .before .before .before .target-state .ensures) (c .before .before .before .before .before .before .before .before .before .before .before .before .pre .target-in (sym (c .before .before .before .before .before .before .before .before .jumps-to .ensures) ∙ z)))
+pass-target-requires c κs =
+    let b4 = c .before .before .before .before in let b8 = b4 .before .before .before .before in
+    let b9 = b8 .before in let b12 = b9 .before .before .before in
+    λ z. fit-long _ _ _ _ (b4 .pass-one .kept .0) (fit-as _ _ _ _ (b9 .target-state .ensures) (b12 .pre .target-in (sym (b8 .jumps-to .ensures) ∙ z)))
 
 same-length : tie.Need-same-length
 same-length c = search needs
 
 returns : tie.Need-returns
-returns c = on-both (c .before .before .before .before .before .before .before .before .before .before .before .before .before .before .before .args .m .now) (c .before .before .before .before .before .before .before .before .before .before .before .before .before .before .before .args .sh) (c .before .before .before .before .before .before .before .before .before .before .before .before .before .before .before .args .p) (c .before .before .before .before .before .before .before .before .before .before .before .before .before .before .before .args .next) (asState (c .before .before .before .before .before .before .before .before .before .before .before .before .before .before .before .args .s)) (asState (c .before .before .before .before .before .before .before .before .before .before .before .before .before .before .before .args .o)) (asState (c .before .before .before .before .before .before .before .before .before .before .before .before .before .next-state .result)) (asState (c .before .before .before .before .before .before .before .before .before .before .before .before .target-state .result)) (c .before .before .before .before .before .before .before .before .before .before .goes .result) (c .before .before .before .before .before .before .before .before .before .before .before .jumps-to .result) (c .before .before .before .before .before .before .before .before .before .before .before .before .before .next-state .ensures) (c .before .before .before .before .before .before .before .before .before .before .before .before .target-state .ensures) (c .before .before .before .before .before .before .before .before .before .before .goes .ensures) (c .before .before .before .before .before .before .before .before .before .before .before .jumps-to .ensures) (c .before .before .before .before .before .before .before .pass-one .last .0) (c .before .before .pass-target .last .0) (c .before .before .pass-target .result) (c .before .before .before .before .before .before .before .before .before .if1 .taken) (rw (c .before .before .before .before .if2 .taken) at (c .before .before .before .before .before .before .before .pass-one .ensures)) (c .before .before .pass-target .ensures)
+returns c =
+    let b2 = c .before .before in let b4 = b2 .before .before in let b7 = b4 .before .before .before in
+    let b9 = b7 .before .before in let b10 = b9 .before in let b11 = b10 .before in let b12 = b11 .before in
+    let b13 = b12 .before in let b15 = b13 .before .before in let a = b15 .args in
+    on-both (a .m .now) (a .sh) (a .p) (a .next) (asState (a .s)) (asState (a .o)) (asState (b13 .next-state .result))
+    (asState (b12 .target-state .result)) (b10 .goes .result) (b11 .jumps-to .result) (b13 .next-state .ensures) (b12 .target-state .ensures)
+    (b10 .goes .ensures) (b11 .jumps-to .ensures) (b7 .pass-one .last .0) (b2 .pass-target .last .0) (b2 .pass-target .result) (b9 .if1 .taken)
+    (rw (b4 .if2 .taken) at (b7 .pass-one .ensures)) (b2 .pass-target .ensures)
 
 same-length-2 : tie.Need-same-length-2
 same-length-2 c = search needs
 
 returns-2 : tie.Need-returns-2
-returns-2 c = on-bad (c .before .before .before .before .before .before .before .before .before .before .before .args .m .now) (c .before .before .before .before .before .before .before .before .before .before .before .args .sh) (c .before .before .before .before .before .before .before .before .before .before .before .args .p) (c .before .before .before .before .before .before .before .before .before .before .before .args .next) (asState (c .before .before .before .before .before .before .before .before .before .before .before .args .s)) (asState (c .before .before .before .before .before .before .before .before .before .before .before .args .o)) (asState (c .before .before .before .before .before .before .before .before .before .next-state .result)) (asState (c .before .before .before .before .before .before .before .before .target-state .result)) (c .before .before .before .before .before .before .goes .result) (c .before .before .before .before .before .before .before .jumps-to .result) (c .before .before .before .before .before .before .before .before .before .next-state .ensures) (c .before .before .before .before .before .before .before .before .target-state .ensures) (c .before .before .before .before .before .before .goes .ensures) (c .before .before .before .before .before .before .before .jumps-to .ensures) (c .before .before .before .pass-one .last .0) (c .before .before .before .before .before .if1 .taken) (rw (c .if2 .left) at (c .before .before .before .pass-one .ensures))
+returns-2 c =
+    let b3 = c .before .before .before in let b5 = b3 .before .before in let b6 = b5 .before in
+    let b7 = b6 .before in let b8 = b7 .before in let b9 = b8 .before in let b11 = b9 .before .before in
+    let a = b11 .args in
+    on-bad (a .m .now) (a .sh) (a .p) (a .next) (asState (a .s)) (asState (a .o)) (asState (b9 .next-state .result))
+    (asState (b8 .target-state .result)) (b6 .goes .result) (b7 .jumps-to .result) (b9 .next-state .ensures) (b8 .target-state .ensures)
+    (b6 .goes .ensures) (b7 .jumps-to .ensures) (b3 .pass-one .last .0) (b5 .if1 .taken) (rw (c .if2 .left) at (b3 .pass-one .ensures))
 
 pass-target-requires-2 : tie.Need-pass-target-requires-2
-pass-target-requires-2 c κs = λ z. fit-as _ _ _ _ (c .before .before .before .before .target-state .ensures) (c .before .before .before .before .before .before .before .pre .target-in (sym (c .before .before .before .jumps-to .ensures) ∙ z))
+pass-target-requires-2 c κs =
+    let b3 = c .before .before .before in let b4 = b3 .before in let b7 = b4 .before .before .before in
+    λ z. fit-as _ _ _ _ (b4 .target-state .ensures) (b7 .pre .target-in (sym (b3 .jumps-to .ensures) ∙ z))
 
 same-length-3 : tie.Need-same-length-3
 same-length-3 c = search needs
 
 returns-3 : tie.Need-returns-3
-returns-3 c = on-target (c .before .before .before .before .before .before .before .before .before .before .args .m .now) (c .before .before .before .before .before .before .before .before .before .before .args .sh) (c .before .before .before .before .before .before .before .before .before .before .args .p) (c .before .before .before .before .before .before .before .before .before .before .args .next) (asState (c .before .before .before .before .before .before .before .before .before .before .args .s)) (asState (c .before .before .before .before .before .before .before .before .before .before .args .o)) (asState (c .before .before .before .before .before .before .before .before .next-state .result)) (asState (c .before .before .before .before .before .before .before .target-state .result)) (c .before .before .before .before .before .goes .result) (c .before .before .before .before .before .before .jumps-to .result) (c .before .before .before .before .before .before .before .before .next-state .ensures) (c .before .before .before .before .before .before .before .target-state .ensures) (c .before .before .before .before .before .goes .ensures) (c .before .before .before .before .before .before .jumps-to .ensures) (c .before .before .pass-target2 .last .0) (c .before .before .pass-target2 .result) (c .before .before .before .before .if1 .left) (c .before .before .pass-target2 .ensures)
+returns-3 c =
+    let b2 = c .before .before in let b4 = b2 .before .before in let b5 = b4 .before in let b6 = b5 .before in
+    let b7 = b6 .before in let b8 = b7 .before in let b10 = b8 .before .before in let a = b10 .args in
+    on-target (a .m .now) (a .sh) (a .p) (a .next) (asState (a .s)) (asState (a .o)) (asState (b8 .next-state .result))
+    (asState (b7 .target-state .result)) (b5 .goes .result) (b6 .jumps-to .result) (b8 .next-state .ensures) (b7 .target-state .ensures)
+    (b5 .goes .ensures) (b6 .jumps-to .ensures) (b2 .pass-target2 .last .0) (b2 .pass-target2 .result) (b4 .if1 .left) (b2 .pass-target2 .ensures)
 
 pub pass-on-spec : {M : Type 1} → statement M
 pass-on-spec =

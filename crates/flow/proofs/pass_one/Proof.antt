@@ -24,25 +24,38 @@ same-length : tie.Need-same-length
 same-length c = search needs
 
 returns : tie.Need-returns
-returns c = pass-new (c .before .before .before .before .before .before .before .before .before .before .before .before .args .m .now) (c .before .before .before .before .before .before .before .before .before .before .before .before .args .q) (asState (c .before .before .before .before .before .before .before .before .before .state-in .result)) (asState (c .before .before .before .before .before .before .before .before .before .before .before .before .args .s)) (c .before .before .before .before .before .before .before .before .before .state-in .ensures .is) _ (c .before .before .before .before .before .before .before .if1 .taken) (c .before .before .put .ensures)
+returns c =
+    let b2 = c .before .before in let b7 = b2 .before .before .before .before .before in
+    let b9 = b7 .before .before in let b12 = b9 .before .before .before in let a = b12 .args in
+    pass-new (a .m .now) (a .q) (asState (b9 .state-in .result)) (asState (a .s)) (b9 .state-in .ensures .is) _ (b7 .if1 .taken) (b2 .put .ensures)
 
 same-length-2 : tie.Need-same-length-2
 same-length-2 c = search needs
 
 returns-2 : tie.Need-returns-2
-returns-2 c = pass-main (c .before .before .before .before .before .before .before .before .args .m .now) (c .before .before .before .before .before .before .before .before .args .q) (asState (c .before .before .before .before .before .state-in .result)) (asState (c .before .before .before .before .before .before .before .before .args .s)) (c .before .before .before .before .before .state-in .ensures .is) (c .before .before .before .if1 .left) (c .if2 .taken)
+returns-2 c =
+    let b3 = c .before .before .before in let b5 = b3 .before .before in
+    let b8 = b5 .before .before .before in let a = b8 .args in
+    pass-main (a .m .now) (a .q) (asState (b5 .state-in .result)) (asState (a .s)) (b5 .state-in .ensures .is) (b3 .if1 .left) (c .if2 .taken)
 
 same-length-3 : tie.Need-same-length-3
 same-length-3 c = search needs
 
 returns-3 : tie.Need-returns-3
-returns-3 c = pass-ptr (c .before .before .before .before .before .before .before .before .before .before .before .args .m .now) (c .before .before .before .before .before .before .before .before .before .before .before .args .q) (asState (c .before .before .before .before .before .before .before .before .state-in .result)) (asState (c .before .before .before .before .before .before .before .before .before .before .before .args .s)) (c .before .before .before .before .before .before .before .before .state-in .ensures .is) (c .before .before .before .before .before .before .if1 .left) (c .before .before .before .if2 .left) (c .if3 .taken)
+returns-3 c =
+    let b3 = c .before .before .before in let b6 = b3 .before .before .before in
+    let b8 = b6 .before .before in let b11 = b8 .before .before .before in let a = b11 .args in
+    pass-ptr (a .m .now) (a .q) (asState (b8 .state-in .result)) (asState (a .s)) (b8 .state-in .ensures .is) (b6 .if1 .left) (b3 .if2 .left) (c .if3 .taken)
 
 same-length-4 : tie.Need-same-length-4
 same-length-4 c = search needs
 
 returns-4 : tie.Need-returns-4
-returns-4 c = pass-inner (c .before .before .before .before .before .before .before .before .before .before .before .before .before .args .m .now) (c .before .before .before .before .before .before .before .before .before .before .before .before .before .args .q) (asState (c .before .before .before .before .before .before .before .before .before .before .state-in .result)) (asState (c .before .before .before .before .before .before .before .before .before .before .before .before .before .args .s)) (c .before .before .before .before .before .before .before .before .before .before .state-in .ensures .is) (c .before .before .before .before .before .before .before .before .if1 .left) (c .before .before .before .before .before .if2 .left) (c .before .before .if3 .left)
+returns-4 c =
+    let b2 = c .before .before in let b5 = b2 .before .before .before in
+    let b8 = b5 .before .before .before in let b10 = b8 .before .before in
+    let b13 = b10 .before .before .before in let a = b13 .args in
+    pass-inner (a .m .now) (a .q) (asState (b10 .state-in .result)) (asState (a .s)) (b10 .state-in .ensures .is) (b8 .if1 .left) (b5 .if2 .left) (b2 .if3 .left)
 
 pub pass-one-spec : {M : Type 1} → statement M
 pass-one-spec =

@@ -12,7 +12,10 @@ same-length : tie.Need-same-length
 same-length c = search needs
 
 returns : tie.Need-returns
-returns c = pass-last (c .before .before .before .before .before .before .args .m .now) (c .before .before .pass-one .last .0) (c .before .before .before .before .before .before .args .q) (asState (c .before .before .before .before .before .before .args .s)) (c .before .before .pass-one .result) _ (c .before .before .before .before .if1 .taken) (c .before .before .pass-one .ensures)
+returns c =
+    let b2 = c .before .before in let b4 = b2 .before .before in let b6 = b4 .before .before in
+    let a = b6 .args in
+    pass-last (a .m .now) (b2 .pass-one .last .0) (a .q) (asState (a .s)) (b2 .pass-one .result) _ (b4 .if1 .taken) (b2 .pass-one .ensures)
 
 returns-2 : tie.Need-returns-2
 returns-2 c = pass-none (c .before .before .args .m .now) (c .before .before .args .q) (asState (c .before .before .args .s)) _ (c .if1 .left)

@@ -41,7 +41,14 @@ wide-requires-3 : tie.Need-wide-requires-3
 wide-requires-3 c κs = search needs
 
 returns : tie.Need-returns
-returns c = record { is = state-is _ _ _ _ _ (c .before .before .before .before .before .before .before .pre .0) (c .before .before .before .before .wide .ensures .0) (c .before .before .wide2 .ensures .0) (c .wide3 .ensures .0); main-small = c .before .before .before .before .wide .ensures .1; ptr-small = c .before .before .wide2 .ensures .1; inner-small = c .wide3 .ensures .1 }
+returns c =
+    let b2 = c .before .before in let b4 = b2 .before .before in let b7 = b4 .before .before .before in
+    record {
+      is = state-is _ _ _ _ _ (b7 .pre .0) (b4 .wide .ensures .0) (b2 .wide2 .ensures .0) (c .wide3 .ensures .0);
+      main-small = b4 .wide .ensures .1;
+      ptr-small = b2 .wide2 .ensures .1;
+      inner-small = c .wide3 .ensures .1;
+    }
 
 pub state-in-spec : {M : Type 1} → statement M
 state-in-spec =

@@ -25,11 +25,21 @@ opens-requires c κs = search needs
 
 returns-3 : tie.Need-returns-3
 unfolding depthOk
-returns-3 c = rw (sym (c .before .before .before .before .before .before .stack-ok .ensures) ∙ not-false _ (c .before .before .before .before .before .if1 .left), sym (c .before .before .before .before .stack-ok2 .ensures) ∙ not-false _ (c .before .before .before .if2 .left), sym (c .before .before .opens .ensures) ∙ c .before .if3 .taken)
+returns-3 c =
+    rw (
+      sym (c .before .before .before .before .before .before .stack-ok .ensures) ∙ not-false _ (c .before .before .before .before .before .if1 .left),
+      sym (c .before .before .before .before .stack-ok2 .ensures) ∙ not-false _ (c .before .before .before .if2 .left),
+      sym (c .before .before .opens .ensures) ∙ c .before .if3 .taken,
+    )
 
 returns-4 : tie.Need-returns-4
 unfolding depthOk
-returns-4 c = rw (sym (c .before .before .before .before .before .stack-ok .ensures) ∙ not-false _ (c .before .before .before .before .if1 .left), sym (c .before .before .before .stack-ok2 .ensures) ∙ not-false _ (c .before .before .if2 .left), sym (c .before .opens .ensures) ∙ c .if3 .left)
+returns-4 c =
+    rw (
+      sym (c .before .before .before .before .before .stack-ok .ensures) ∙ not-false _ (c .before .before .before .before .if1 .left),
+      sym (c .before .before .before .stack-ok2 .ensures) ∙ not-false _ (c .before .before .if2 .left),
+      sym (c .before .opens .ensures) ∙ c .if3 .left,
+    )
 
 pub depth-ok-spec : {M : Type 1} → statement M
 depth-ok-spec =

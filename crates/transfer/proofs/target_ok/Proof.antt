@@ -22,11 +22,15 @@ opens-requires c κs = search needs
 
 returns-3 : tie.Need-returns-3
 unfolding targetOk
-returns-3 c = rw (sym (c .before .before .before .before .jumps-to .ensures) ∙ not-false _ (c .before .before .before .if1 .left), not-false (c .before .before .before .before .before .args .own) (c .before .before .if2 .left), sym (c .before .opens .ensures) ∙ c .if3 .taken)
+returns-3 c =
+    let b2 = c .before .before in let b3 = b2 .before in let b4 = b3 .before in let b5 = b4 .before in
+    rw (sym (b4 .jumps-to .ensures) ∙ not-false _ (b3 .if1 .left), not-false (b5 .args .own) (b2 .if2 .left), sym (c .before .opens .ensures) ∙ c .if3 .taken)
 
 returns-4 : tie.Need-returns-4
 unfolding targetOk
-returns-4 c = rw (sym (c .before .before .before .before .jumps-to .ensures) ∙ not-false _ (c .before .before .before .if1 .left), not-false (c .before .before .before .before .before .args .own) (c .before .before .if2 .left), sym (c .before .opens .ensures) ∙ c .if3 .left)
+returns-4 c =
+    let b2 = c .before .before in let b3 = b2 .before in let b4 = b3 .before in let b5 = b4 .before in
+    rw (sym (b4 .jumps-to .ensures) ∙ not-false _ (b3 .if1 .left), not-false (b5 .args .own) (b2 .if2 .left), sym (c .before .opens .ensures) ∙ c .if3 .left)
 
 pub target-ok-spec : {M : Type 1} → statement M
 target-ok-spec =
