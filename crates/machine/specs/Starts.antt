@@ -7,11 +7,13 @@ use lib.ListN.{length, getD, set, replicate}
 use lib.Seq.{set-getD}
 use Rattle.model.specs.Words.{cut}
 use Rattle.model.specs.File.{entry}
-use Rattle.model.specs.Control.{rec, putRec, regs, regBytes}
-use Rattle.model.specs.Calls.{Lent, lent, withMap, answers, started, startOf, leaving}
+use Rattle.model.specs.Control.{frameRec, putRec, regBytes}
+use Rattle.model.specs.Calls.{Lent, withMap, answers, firstFrame, started, startOf, leaving}
 use Rattle.admit.specs.Admit.{Admitted, tested-refused, tested-on, first-whole}
-use Rattle.model.specs.declared.Answer.{Answer}
-use Rattle.model.specs.declared.Answer.the-variants.{Passed, Ready}
+use Rattle.checker.specs.declared.Verdict.{Verdict}
+use Rattle.checker.specs.declared.Verdict.the-variants.{Pass, Refuse}
+use Rattle.model.specs.declared.Regs.{Regs}
+use Rattle.model.specs.declared.Answer.the-variants.{Ready, Refused}
 
 -- zeroed stacks, and the first frame's record, which is five zeros
 pub cut-all : (l : List ℕ) → cut 0 l ≡ replicate (length l) 0
@@ -27,20 +29,32 @@ zero-at (suc n) (suc i) = zero-at n i
 set-zero : (n i : ℕ) → _≡_ {A = List ℕ} (set (replicate n 0) i 0) (replicate n 0)
 set-zero n i = ap (λ (w : ℕ). set (replicate n 0) i w) (sym (zero-at n i)) ∙ set-getD (replicate n 0) i 0
 
-pub first-record : (n : ℕ) → putRec (replicate n 0) 0 (rec 0 0 0 0 0) ≡ replicate n 0
+pub first-record : (n : ℕ) → putRec (replicate n 0) 0 (frameRec firstFrame) ≡ replicate n 0
 unfolding putRec
 first-record n = rw (set-zero n 0, set-zero n 1, set-zero n 2, set-zero n 3, set-zero n 4)
 
-module _ (l : Lent) (map table : List ℕ) (marks : List Bool) (r : Answer) (A : Admitted l map table marks r) where
-  pub start-refused : (r ≡ Passed → ⊥) → answers r (withMap l map) ≡ startOf l
-  unfolding startOf
-  start-refused n = tested-refused l map table marks r A _ n
+-- the first registers, in numbers
+abbrev pub firstRegs : Regs
+firstRegs = record { place = 7; frame = 1; handler = 0; mtop = 0; ptop = 0; ctop = 5; state = 0 }
 
-  pub start-ready : r ≡ Passed → (main ptr ctl bytes : List ℕ) → main ≡ replicate (length (l .main)) 0 → ptr ≡ replicate (length (l .ptr)) 0 →
-      ctl ≡ replicate (length (l .ctl)) 0 → bytes ≡ regBytes (regs 7 1 0 0 0 5 0) →
-      answers Ready (lent (l .file) map main ptr ctl (l .heap) bytes) ≡ startOf l
+module _ (l : Lent) (map table : List ℕ) (marks : List Bool) (v : Verdict) (A : Admitted l map table marks v) where
+  pub start-refused : (n p : ℕ) → v ≡ Refuse n p → answers (Refused n p) (withMap map l) ≡ startOf l
+  unfolding startOf
+  start-refused n p e = tested-refused l map table marks v A _ n p e
+
+  pub start-ready : (k : ℕ) → v ≡ Pass k → (main ptr ctl bytes : List ℕ) → main ≡ replicate (length (l .main)) 0 →
+      ptr ≡ replicate (length (l .ptr)) 0 → ctl ≡ replicate (length (l .ctl)) 0 → bytes ≡ regBytes firstRegs →
+      answers Ready
+      (record { file = l .file; map = map; main = main; ptr = ptr; ctl = ctl; heap = l .heap; bytes = bytes }) ≡ startOf l
   unfolding startOf started entry
-  start-ready e main ptr ctl bytes em ep ec eb =
-      let z = first-whole (l .file) (l .map) map (A .shown e .passes) .0 in
+  start-ready k e main ptr ctl bytes em ep ec eb =
+      let z = first-whole (l .file) (l .map) map (A .shown k e .passes) .0 in
       rw (em, ep, ec, eb)
-      (rw (← tested-on l map table marks r A (λ k. answers Ready (leaving k (started k))) e, z, cut-all (l .main), cut-all (l .ptr), cut-all (l .ctl), first-record (length (l .ctl))))
+      (rw (
+        ← tested-on l map table marks v A (λ l′. answers Ready (leaving l′ (started l′))) k e,
+        z,
+        cut-all (l .main),
+        cut-all (l .ptr),
+        cut-all (l .ctl),
+        first-record (length (l .ctl)),
+      ))

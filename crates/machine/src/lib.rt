@@ -1,9 +1,10 @@
 // start and run over lent lists.
 ghost use mathlib.Core.Path.{_≡_};
 ghost use lib.ListN.{length, replicate};
-ghost use Rattle.model.specs.Control.{regs};
-ghost use Rattle.model.specs.Calls.{lent, answers, startOf, runOf};
-ghost use Rattle.machine.specs.Runs.{CountIs};
+ghost use Rattle.model.specs.Calls.{answers, startOf, runOf};
+ghost use Rattle.machine.specs.Starts.{firstRegs};
+use admit::Tested;
+use checker::Verdict;
 use model::Answer;
 use model::RECORD;
 use model::Regs;
@@ -21,7 +22,7 @@ fn clear(l: &mut [u32])
 
 // At the first instruction of procedure 0, in its frame, with empty stacks.
 fn first() -> Regs
-    ensures { λ r. ⌜ r ≡ regs 7 1 0 0 0 5 0 ⌝ }
+    ensures { λ r. ⌜ r ≡ firstRegs ⌝ }
 {
     Regs {
         place: 7,
@@ -44,11 +45,11 @@ pub fn start(
     heap: &[u32],
     bytes: &mut [u8],
 ) -> Answer
-    ensures { λ r. ⌜ answers r (lent (now (file .entry)) (now (map .exit)) (now (main .exit)) (now (ptr .exit)) (now (ctl .exit)) (now (heap .entry)) (now (bytes .exit))) ≡ startOf (lent (now (file .entry)) (now (map .entry)) (now (main .entry)) (now (ptr .entry)) (now (ctl .entry)) (now (heap .entry)) (now (bytes .entry))) ⌝ }
+    ensures { λ r. ⌜ answers r (record { file = now (file .entry); map = now (map .exit); main = now (main .exit); ptr = now (ptr .exit); ctl = now (ctl .exit); heap = now (heap .entry); bytes = now (bytes .exit) }) ≡ startOf (record { file = now (file .entry); map = now (map .entry); main = now (main .entry); ptr = now (ptr .entry); ctl = now (ctl .entry); heap = now (heap .entry); bytes = now (bytes .entry) }) ⌝ }
 {
     let mut table = [0usize; 64];
     let mut marks = [false; 16384];
-    let a = admit::admit(
+    let v = admit::admit(
         file,
         map,
         &mut table,
@@ -59,28 +60,16 @@ pub fn start(
         heap,
         bytes,
     );
-    let Answer::Passed = a else {
-        return a;
-    };
-    clear(main);
-    clear(ptr);
-    clear(ctl);
-    registers::put_regs(bytes, first());
-    Answer::Ready
-}
-
-// The number of procedures: behind the last head the table has 0, and only the first head stands at place 0.
-fn count(table: &[usize; 64]) -> usize
-    ensures { λ r. ⌜ CountIs (now (table .entry)) r ⌝ }
-{
-    let mut k = 1;
-    while k < 64 {
-        if table[k] == 0 {
-            return k;
+    match v {
+        Verdict::Refuse(n, p) => Answer::Refused(n, p),
+        Verdict::Pass(_) => {
+            clear(main);
+            clear(ptr);
+            clear(ctl);
+            registers::put_regs(bytes, first());
+            Answer::Ready
         }
-        k += 1;
     }
-    64
 }
 
 // Tests 1 to 12, then the run.
@@ -94,11 +83,11 @@ pub fn run(
     bytes: &mut [u8],
     budget: u32,
 ) -> Answer
-    ensures { λ r. ⌜ answers r (lent (now (file .entry)) (now (map .exit)) (now (main .exit)) (now (ptr .exit)) (now (ctl .exit)) (now (heap .exit)) (now (bytes .exit))) ≡ runOf budget (lent (now (file .entry)) (now (map .entry)) (now (main .entry)) (now (ptr .entry)) (now (ctl .entry)) (now (heap .entry)) (now (bytes .entry))) ⌝ }
+    ensures { λ r. ⌜ answers r (record { file = now (file .entry); map = now (map .exit); main = now (main .exit); ptr = now (ptr .exit); ctl = now (ctl .exit); heap = now (heap .exit); bytes = now (bytes .exit) }) ≡ runOf budget (record { file = now (file .entry); map = now (map .entry); main = now (main .entry); ptr = now (ptr .entry); ctl = now (ctl .entry); heap = now (heap .entry); bytes = now (bytes .entry) }) ⌝ }
 {
     let mut table = [0usize; 64];
     let mut marks = [false; 16384];
-    let a = admit::admit(
+    let t = admit::test_for_run(
         file,
         map,
         &mut table,
@@ -109,16 +98,13 @@ pub fn run(
         heap,
         bytes,
     );
-    let Answer::Passed = a else {
-        return a;
-    };
-    let k = count(&table);
-    let regs = registers::regs_from(bytes);
-    if frames::sound_state(file, map, &table, k, main, ptr, ctl, &marks, regs) {
-        let out = run::run_on(file, &table, main, ptr, ctl, heap, regs, budget);
-        let left = out.regs;
-        registers::put_regs(bytes, left);
-        return out.answer;
+    match t {
+        Tested::Unfit(n, p) => Answer::Refused(n, p),
+        Tested::Sound(_, regs) => {
+            let out = run::run_on(file, &table, main, ptr, ctl, heap, regs, budget);
+            let left = out.regs;
+            registers::put_regs(bytes, left);
+            out.answer
+        }
     }
-    Answer::Refused(12, 0)
 }

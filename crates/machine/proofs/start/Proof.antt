@@ -1,9 +1,4 @@
--- `machine::start` meets its contract: a refusal writes the map alone; else the stacks are zeros, and so is the first frame's record.
-use mathlib.Core.Path.{_∙_, ap}
-use mathlib.Core.Logic.{⊎-elim}
-use native.Mathlib.Omega.{arith}
-use Rattle.model.specs.Control.{regBytes}
-use Rattle.model.specs.Calls.{lent}
+-- `machine::start` meets its contract: refusals write the map alone; zeroed stacks and the first registers are the state that it begins with.
 use Rattle.machine.specs.Starts.{start-refused, start-ready}
 use borrow.Author.Needs.{needs}
 use Rattle.machine.proofs.start.Statement.{statement}
@@ -12,8 +7,29 @@ use Rattle.machine.proofs.start.Tie as tie
 admit-requires : tie.Need-admit-requires
 admit-requires c κs = search needs
 
+enum-known-v : tie.Need-enum-known-v
+enum-known-v c = search needs
+
 enum-told : tie.Need-enum-told
 enum-told c = search needs
+
+clear-requires : tie.Need-clear-requires
+clear-requires c κs = search needs
+
+clear-requires-2 : tie.Need-clear-requires-2
+clear-requires-2 c κs = search needs
+
+clear-requires-3 : tie.Need-clear-requires-3
+clear-requires-3 c κs = search needs
+
+first-requires : tie.Need-first-requires
+first-requires c κs = search needs
+
+put-regs-requires : tie.Need-put-regs-requires
+put-regs-requires c κs =
+    let at-enum-told = c .before .before .before .before .before .before .before .before .before .before .before .before .before .before in
+    let at-admit = at-enum-told .before .before .before .before in
+    at-admit .admit .ensures .shown _ (at-enum-told .enum-told .given .1) .registers
 
 same-length : tie.Need-same-length
 same-length c = search needs
@@ -31,22 +47,10 @@ same-length-5 : tie.Need-same-length-5
 same-length-5 c = search needs
 
 returns : tie.Need-returns
-returns c = start-refused (lent (c .before .before .before .before .before .before .before .before .before .before .before .before .before .before .before .before .before .before .args .file .now) (c .before .before .before .before .before .before .before .before .before .before .before .before .before .before .before .before .before .before .args .map .now) (c .before .before .before .before .before .before .before .before .before .before .before .before .before .before .before .before .before .before .args .main .now) (c .before .before .before .before .before .before .before .before .before .before .before .before .before .before .before .before .before .before .args .ptr .now) (c .before .before .before .before .before .before .before .before .before .before .before .before .before .before .before .before .before .before .args .ctl .now) (c .before .before .before .before .before .before .before .before .before .before .before .before .before .before .before .before .before .before .args .heap .now) (c .before .before .before .before .before .before .before .before .before .before .before .before .before .before .before .before .before .before .args .bytes .now)) (c .before .before .before .admit .last .1 .0) (c .before .before .before .admit .last .1 .1 .0) (c .before .before .before .admit .last .1 .1 .1 .0) (c .before .before .before .admit .result) (c .before .before .before .admit .ensures) (λ e. ⊎-elim (λ z. omega arith) (⊎-elim (λ z. omega arith) (⊎-elim (λ z. omega arith) (⊎-elim (λ z. omega arith) (λ z. omega arith)))) (rw e at (c .match .keys2)))
-
-clear-requires : tie.Need-clear-requires
-clear-requires c κs = search needs
-
-clear-requires-2 : tie.Need-clear-requires-2
-clear-requires-2 c κs = search needs
-
-clear-requires-3 : tie.Need-clear-requires-3
-clear-requires-3 c κs = search needs
-
-first-requires : tie.Need-first-requires
-first-requires c κs = search needs
-
-put-regs-requires : tie.Need-put-regs-requires
-put-regs-requires c κs = c .before .before .before .before .before .before .before .before .before .before .before .before .before .before .before .before .before .before .admit .ensures .shown (c .before .before .before .before .before .before .before .before .before .before .before .before .before .before .enum-told .given .1) .registers
+returns c =
+    let at-admit = c .before .before .before .before .before in
+    let entry = at-admit .before .before .before .before .before .before .before .before .before .before .before .before .before .before .before in
+    start-refused (record { file = entry .args .file .now; map = entry .args .map .now; main = entry .args .main .now; ptr = entry .args .ptr .now; ctl = entry .args .ctl .now; heap = entry .args .heap .now; bytes = entry .args .bytes .now }) (at-admit .admit .last .1 .0) (at-admit .admit .last .1 .1 .0) (at-admit .admit .last .1 .1 .1 .0) (at-admit .admit .result) (at-admit .admit .ensures) _ _ (c .before .v .given .1)
 
 same-length-6 : tie.Need-same-length-6
 same-length-6 c = search needs
@@ -64,25 +68,33 @@ same-length-10 : tie.Need-same-length-10
 same-length-10 c = search needs
 
 returns-2 : tie.Need-returns-2
-returns-2 c = start-ready (lent (c .before .before .before .before .before .before .before .before .before .before .before .before .before .before .before .before .before .before .before .before .before .before .before .before .before .before .before .before .before .before .before .before .before .before .before .before .args .file .now) (c .before .before .before .before .before .before .before .before .before .before .before .before .before .before .before .before .before .before .before .before .before .before .before .before .before .before .before .before .before .before .before .before .before .before .before .before .args .map .now) (c .before .before .before .before .before .before .before .before .before .before .before .before .before .before .before .before .before .before .before .before .before .before .before .before .before .before .before .before .before .before .before .before .before .before .before .before .args .main .now) (c .before .before .before .before .before .before .before .before .before .before .before .before .before .before .before .before .before .before .before .before .before .before .before .before .before .before .before .before .before .before .before .before .before .before .before .before .args .ptr .now) (c .before .before .before .before .before .before .before .before .before .before .before .before .before .before .before .before .before .before .before .before .before .before .before .before .before .before .before .before .before .before .before .before .before .before .before .before .args .ctl .now) (c .before .before .before .before .before .before .before .before .before .before .before .before .before .before .before .before .before .before .before .before .before .before .before .before .before .before .before .before .before .before .before .before .before .before .before .before .args .heap .now) (c .before .before .before .before .before .before .before .before .before .before .before .before .before .before .before .before .before .before .before .before .before .before .before .before .before .before .before .before .before .before .before .before .before .before .before .before .args .bytes .now)) (c .before .before .before .before .before .before .before .before .before .before .before .before .before .before .before .before .before .before .before .before .before .admit .last .1 .0) (c .before .before .before .before .before .before .before .before .before .before .before .before .before .before .before .before .before .before .before .before .before .admit .last .1 .1 .0) (c .before .before .before .before .before .before .before .before .before .before .before .before .before .before .before .before .before .before .before .before .before .admit .last .1 .1 .1 .0) (c .before .before .before .before .before .before .before .before .before .before .before .before .before .before .before .before .before .before .before .before .before .admit .result) (c .before .before .before .before .before .before .before .before .before .before .before .before .before .before .before .before .before .before .before .before .before .admit .ensures) (c .before .before .before .before .before .before .before .before .before .before .before .before .before .before .before .before .before .enum-told .given .1) _ _ _ _ (c .before .before .before .before .before .before .before .before .before .before .before .before .before .before .before .clear .ensures) (c .before .before .before .before .before .before .before .before .before .before .before .clear2 .ensures) (c .before .before .before .before .before .before .before .clear3 .ensures) (c .before .before .put-regs .ensures ∙ ap regBytes (c .before .before .before .first .ensures))
+returns-2 c =
+    let at-clear3 = c .before .before .before .before .before .before .before in
+    let at-clear2 = at-clear3 .before .before .before .before in
+    let at-clear = at-clear2 .before .before .before .before in
+    let at-enum-told = at-clear .before .before in
+    let at-admit = at-enum-told .before .before .before .before in
+    let entry = at-admit .before .before .before .before .before .before .before .before .before .before .before .before .before .before .before in
+    start-ready (record { file = entry .args .file .now; map = entry .args .map .now; main = entry .args .main .now; ptr = entry .args .ptr .now; ctl = entry .args .ctl .now; heap = entry .args .heap .now; bytes = entry .args .bytes .now }) (at-admit .admit .last .1 .0) (at-admit .admit .last .1 .1 .0) (at-admit .admit .last .1 .1 .1 .0) (at-admit .admit .result) (at-admit .admit .ensures) _ (at-enum-told .enum-told .given .1) _ _ _ _ (at-clear .clear .ensures) (at-clear2 .clear2 .ensures) (at-clear3 .clear3 .ensures) (rw (c .before .before .before .first .ensures) at (c .before .before .put-regs .ensures))
 
 pub start-spec : {M : Type 1} → statement M
 start-spec =
     tie.close
     (tie.spec
     admit-requires
+    enum-known-v
     enum-told
+    clear-requires
+    clear-requires-2
+    clear-requires-3
+    first-requires
+    put-regs-requires
     same-length
     same-length-2
     same-length-3
     same-length-4
     same-length-5
     returns
-    clear-requires
-    clear-requires-2
-    clear-requires-3
-    first-requires
-    put-regs-requires
     same-length-6
     same-length-7
     same-length-8
