@@ -1,6 +1,6 @@
 // The calls that firmware reaches: check, start and run on numbers and lists. An answer travels as four numbers.
 ghost use mathlib.Core.Path.{_≡_};
-ghost use Rattle.model.specs.Calls.{told, toldOf, checkOf, lent, startOf, runOf};
+ghost use Rattle.model.specs.Calls.{told, toldOf, checkOf, startOf, runOf};
 ghost use Rattle.exports.specs.Replies.{asTold, replies, repliesTo, checks, checksTo};
 use model::Answer;
 
@@ -54,7 +54,7 @@ pub extern "C" fn yalgovim_start(
     heap: &[u32],
     registers: &mut [u8],
 ) -> Reply
-    ensures { λ r. ⌜ replies r (lent (now (file .entry)) (now (map .exit)) (now (main .exit)) (now (ptr .exit)) (now (ctl .exit)) (now (heap .entry)) (now (registers .exit))) ≡ repliesTo (startOf (lent (now (file .entry)) (now (map .entry)) (now (main .entry)) (now (ptr .entry)) (now (ctl .entry)) (now (heap .entry)) (now (registers .entry)))) ⌝ }
+    ensures { λ r. ⌜ replies r (record { file = now (file .entry); map = now (map .exit); main = now (main .exit); ptr = now (ptr .exit); ctl = now (ctl .exit); heap = now (heap .entry); bytes = now (registers .exit) }) ≡ repliesTo (startOf (record { file = now (file .entry); map = now (map .entry); main = now (main .entry); ptr = now (ptr .entry); ctl = now (ctl .entry); heap = now (heap .entry); bytes = now (registers .entry) })) ⌝ }
 {
     told(machine::start(file, map, main, ptr, ctl, heap, registers))
 }
@@ -70,7 +70,7 @@ pub extern "C" fn yalgovim_run(
     registers: &mut [u8],
     budget: u32,
 ) -> Reply
-    ensures { λ r. ⌜ replies r (lent (now (file .entry)) (now (map .exit)) (now (main .exit)) (now (ptr .exit)) (now (ctl .exit)) (now (heap .exit)) (now (registers .exit))) ≡ repliesTo (runOf budget (lent (now (file .entry)) (now (map .entry)) (now (main .entry)) (now (ptr .entry)) (now (ctl .entry)) (now (heap .entry)) (now (registers .entry)))) ⌝ }
+    ensures { λ r. ⌜ replies r (record { file = now (file .entry); map = now (map .exit); main = now (main .exit); ptr = now (ptr .exit); ctl = now (ctl .exit); heap = now (heap .exit); bytes = now (registers .exit) }) ≡ repliesTo (runOf budget (record { file = now (file .entry); map = now (map .entry); main = now (main .entry); ptr = now (ptr .entry); ctl = now (ctl .entry); heap = now (heap .entry); bytes = now (registers .entry) })) ⌝ }
 {
     told(machine::run(file, map, main, ptr, ctl, heap, registers, budget))
 }

@@ -14,7 +14,9 @@ same-length : tie.Need-same-length
 same-length c = search needs
 
 returns : tie.Need-returns
-returns c = check-replies (c .told .result) (c .before .before .before .check .result) (c .before .before .before .check .last .1 .0) _ (c .told .ensures) (c .before .before .before .check .ensures)
+returns c =
+    let at-check = c .before .before .before in
+    check-replies (c .told .result) (at-check .check .result) (at-check .check .last .1 .0) _ (c .told .ensures) (at-check .check .ensures)
 
 pub yalgovim-check-spec : {M : Type 1} → statement M
 yalgovim-check-spec = tie.close (tie.spec check-requires told-requires same-length returns)

@@ -1,5 +1,5 @@
 -- `exports::yalgovim_run` meets its contract: run's, told in numbers.
-use Rattle.model.specs.Calls.{lent}
+
 use Rattle.exports.specs.Replies.{call-replies}
 use borrow.Author.Needs.{needs}
 use Rattle.exports.proofs.yalgovim_run.Statement.{statement}
@@ -30,7 +30,10 @@ same-length-6 : tie.Need-same-length-6
 same-length-6 c = search needs
 
 returns : tie.Need-returns
-returns c = call-replies (c .told .result) (c .before .before .before .before .before .before .before .before .before .before .before .before .before .run .result) (lent (c .before .before .before .before .before .before .before .before .before .before .before .before .before .before .before .before .before .before .before .before .before .before .before .before .before .before .before .args .file .now) (c .before .before .before .before .before .before .before .before .before .before .before .before .before .run .last .1 .0) (c .before .before .before .before .before .before .before .before .before .before .before .before .before .run .last .1 .1 .0) (c .before .before .before .before .before .before .before .before .before .before .before .before .before .run .last .1 .1 .1 .0) (c .before .before .before .before .before .before .before .before .before .before .before .before .before .run .last .1 .1 .1 .1 .0) (c .before .before .before .before .before .before .before .before .before .before .before .before .before .run .last .1 .1 .1 .1 .1 .0) (c .before .before .before .before .before .before .before .before .before .before .before .before .before .run .last .1 .1 .1 .1 .1 .1 .0)) _ (c .told .ensures) (c .before .before .before .before .before .before .before .before .before .before .before .before .before .run .ensures)
+returns c =
+    let at-run = c .before .before .before .before .before .before .before .before .before .before .before .before .before in
+    let entry = at-run .before .before .before .before .before .before .before .before .before .before .before .before .before .before in
+    call-replies (c .told .result) (at-run .run .result) (record { file = entry .args .file .now; map = at-run .run .last .1 .0; main = at-run .run .last .1 .1 .0; ptr = at-run .run .last .1 .1 .1 .0; ctl = at-run .run .last .1 .1 .1 .1 .0; heap = at-run .run .last .1 .1 .1 .1 .1 .0; bytes = at-run .run .last .1 .1 .1 .1 .1 .1 .0 }) _ (c .told .ensures) (at-run .run .ensures)
 
 pub yalgovim-run-spec : {M : Type 1} → statement M
 yalgovim-run-spec =

@@ -1,5 +1,5 @@
 -- `exports::yalgovim_start` meets its contract: start's, told in numbers.
-use Rattle.model.specs.Calls.{lent}
+
 use Rattle.exports.specs.Replies.{call-replies}
 use borrow.Author.Needs.{needs}
 use Rattle.exports.proofs.yalgovim_start.Statement.{statement}
@@ -27,7 +27,10 @@ same-length-5 : tie.Need-same-length-5
 same-length-5 c = search needs
 
 returns : tie.Need-returns
-returns c = call-replies (c .told .result) (c .before .before .before .before .before .before .before .before .before .before .before .start .result) (lent (c .before .before .before .before .before .before .before .before .before .before .before .before .before .before .before .before .before .before .before .before .before .before .before .before .args .file .now) (c .before .before .before .before .before .before .before .before .before .before .before .start .last .1 .0) (c .before .before .before .before .before .before .before .before .before .before .before .start .last .1 .1 .0) (c .before .before .before .before .before .before .before .before .before .before .before .start .last .1 .1 .1 .0) (c .before .before .before .before .before .before .before .before .before .before .before .start .last .1 .1 .1 .1 .0) (c .before .before .before .before .before .before .before .before .before .before .before .before .before .before .before .before .before .before .before .before .before .before .before .before .args .heap .now) (c .before .before .before .before .before .before .before .before .before .before .before .start .last .1 .1 .1 .1 .1 .1 .0)) _ (c .told .ensures) (c .before .before .before .before .before .before .before .before .before .before .before .start .ensures)
+returns c =
+    let at-start = c .before .before .before .before .before .before .before .before .before .before .before in
+    let entry = at-start .before .before .before .before .before .before .before .before .before .before .before .before .before in
+    call-replies (c .told .result) (at-start .start .result) (record { file = entry .args .file .now; map = at-start .start .last .1 .0; main = at-start .start .last .1 .1 .0; ptr = at-start .start .last .1 .1 .1 .0; ctl = at-start .start .last .1 .1 .1 .1 .0; heap = entry .args .heap .now; bytes = at-start .start .last .1 .1 .1 .1 .1 .1 .0 }) _ (c .told .ensures) (at-start .start .ensures)
 
 pub yalgovim-start-spec : {M : Type 1} → statement M
 yalgovim-start-spec =
