@@ -9,6 +9,7 @@ use native.Mathlib.Decide.{decLe}
 use native.Mathlib.Nat.{add-zero, sub-zero}
 use native.Mathlib.Numerals.{add-one}
 use native.Mathlib.Omega.{arith}
+use Rattle.model.specs.Laws.{taken-most}
 use Rattle.model.specs.Choice.{if_then_else_, yes?, holds, all, if-both}
 use Rattle.model.specs.File.{onMain, onPtr, Basic, local, assign, field, setField, make, literal, nil, root, setRoot, retract, binary, samePtr, unary, Ins, basic, jump, branch, branchKeep, call, return, enter, exit, raise, after, procAt, resultsMain, resultsPtr, mostMain, mostPtr}
 use Rattle.model.specs.Checker.{none, State, state, Effect, effect, basicEffect, effectOf, moved, goesOn, passes, own, targetTests, nextTests, wordTests, moreTests, floorTest, depthTests, leaveTests}
@@ -80,6 +81,9 @@ unfoldable pub targetOk : Way → Bool → Bool → ℕ → ℕ → Bool
 targetOk w known own q p = (if jumpsBy w then and own (if opensBy w then leb (suc p) q else true) else known)
 
 -- refusal 7 on one stack: the floor, the frame word and the greatest depth
+abbrev pub leastOf : ℕ → ℕ → ℕ
+leastOf floor pop = (if eqb pop 0 then 0 else floor)
+
 unfoldable pub floorOk : ℕ → ℕ → ℕ → Bool
 floorOk have floor pop = holds (floorTest pop floor have)
 
@@ -304,11 +308,7 @@ pub record Fits (sh : Shape) (s : State) : Type 0 where
 -- what is popped is there
 pub floor-there : (have floor pop : ℕ) → floorOk have floor pop ≡ true → pop ≤ have
 unfolding floorOk
-floor-there have floor pop e = go (eqb pop 0) refl (leb-true (if eqb pop 0 then 0 else floor + pop) have e)
-  where
-    go : (t : Bool) → eqb pop 0 ≡ t → (if t then 0 else floor + pop) ≤ have → pop ≤ have
-    go true z h = let w = eqb-true pop 0 z in omega arith
-    go false z h = omega arith
+floor-there have floor pop e = taken-most pop floor have (leb-true (if eqb pop 0 then 0 else floor + pop) have e)
 
 stack-fits : (have floor pop push word x : ℕ) → stackOk have floor pop push word x ≡ true → (pop ≤ have) × (have - pop + push ≤ x)
 unfolding stackOk

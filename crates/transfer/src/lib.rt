@@ -1,7 +1,7 @@
 // What an instruction makes of the state before it: the tests of 5, 7 and 8, and what passes to the next instruction and to the target.
 ghost use mathlib.Core.Path.{_≡_};
 ghost use Rattle.model.specs.Checker as checker;
-ghost use Rattle.transfer.specs.Tests.{goesBy, jumpsBy, opensBy, closesBy, leavesBy, targetOk, floorOk, stackOk, depthOk, leaveOk, effectIn, innerBy, nextState, targetMain, targetState, Fits, asState};
+ghost use Rattle.transfer.specs.Tests.{goesBy, jumpsBy, opensBy, closesBy, leavesBy, targetOk, leastOf, floorOk, stackOk, depthOk, leaveOk, effectIn, innerBy, nextState, targetMain, targetState, Fits, asState};
 use effects::Shape;
 use effects::Way;
 
@@ -100,17 +100,22 @@ pub fn target_ok(way: Way, known: bool, own: bool, target: usize, p: usize) -> b
     if opens(way) { p < target } else { true }
 }
 
-// "No pop goes below it": where nothing is popped, nothing is asked.
+// What must stay on the stack: the floor, or nothing where nothing is popped. A choice, not a test in the way: nearly all instructions pass.
+fn least(floor: usize, pop: usize) -> usize
+    ensures { λ r. ⌜ r ≡ leastOf floor pop ⌝ }
+{
+    if pop == 0 { 0 } else { floor }
+}
+
+// "No pop goes below it."
 fn floor_ok(have: usize, floor: usize, pop: usize) -> bool
     ensures { λ r. ⌜ r ≡ floorOk have floor pop ⌝ }
 {
-    if pop == 0 {
-        return true;
-    }
-    if have < floor {
+    let low = least(floor, pop);
+    if have < low {
         return false;
     }
-    pop <= have - floor
+    pop <= have - low
 }
 
 // Refusal 7 on one stack, with no sum that could overflow.
