@@ -3,7 +3,7 @@ use Prim.Native.Nat.{ℕ, suc, _+_, _-_, _<_, _≤_}
 use mathlib.Core.Bool.{Bool, true, false, not}
 use mathlib.Core.List.{List, [], _∷_, _++_}
 use mathlib.Core.Path.{_≡_, refl, sym}
-use lib.Dec.{leb, eqb, leb·zero}
+use lib.Dec.{leb, eqb, leb·zero, ltb}
 use borrow.Author.Tests.{le-leb, lt-leb, leb-true, eqb-true}
 use native.Mathlib.Decide.{decLe}
 use native.Mathlib.Nat.{add-zero, sub-zero}
@@ -81,8 +81,8 @@ unfoldable pub targetOk : Way → Bool → Bool → ℕ → ℕ → Bool
 targetOk w known own q p = (if jumpsBy w then and own (if opensBy w then leb (suc p) q else true) else known)
 
 -- refusal 7 on one stack: the floor, the frame word and the greatest depth
-abbrev pub leastOf : ℕ → ℕ → ℕ
-leastOf floor pop = (if eqb pop 0 then 0 else floor)
+abbrev pub lowOf : ℕ → ℕ → ℕ → ℕ
+lowOf floor pop word = (if eqb pop 0 then word else if ltb word floor then floor else word)
 
 unfoldable pub floorOk : ℕ → ℕ → ℕ → Bool
 floorOk have floor pop = holds (floorTest pop floor have)

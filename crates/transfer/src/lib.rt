@@ -1,7 +1,7 @@
 // What an instruction makes of the state before it: the tests of 5, 7 and 8, and what passes to the next instruction and to the target.
 ghost use mathlib.Core.Path.{_≡_};
 ghost use Rattle.model.specs.Checker as checker;
-ghost use Rattle.transfer.specs.Tests.{goesBy, jumpsBy, opensBy, closesBy, leavesBy, targetOk, leastOf, floorOk, stackOk, depthOk, leaveOk, effectIn, innerBy, nextState, targetMain, targetState, Fits, asState};
+ghost use Rattle.transfer.specs.Tests.{goesBy, jumpsBy, opensBy, closesBy, leavesBy, targetOk, lowOf, stackOk, depthOk, leaveOk, effectIn, innerBy, nextState, targetMain, targetState, Fits, asState};
 use effects::Shape;
 use effects::Way;
 
@@ -100,33 +100,26 @@ pub fn target_ok(way: Way, known: bool, own: bool, target: usize, p: usize) -> b
     if opens(way) { p < target } else { true }
 }
 
-// What must stay on the stack: the floor, or nothing where nothing is popped. A choice, not a test in the way: nearly all instructions pass.
-fn least(floor: usize, pop: usize) -> usize
-    ensures { λ r. ⌜ r ≡ leastOf floor pop ⌝ }
+// What must stay on a stack: its words up to the frame word that is named, and, "no pop goes below it", those up to the floor where
+// something is popped. A choice, not a test more: nearly all instructions pass.
+fn low(floor: usize, pop: usize, word: usize) -> usize
+    ensures { λ r. ⌜ r ≡ lowOf floor pop word ⌝ }
 {
-    if pop == 0 { 0 } else { floor }
-}
-
-// "No pop goes below it."
-fn floor_ok(have: usize, floor: usize, pop: usize) -> bool
-    ensures { λ r. ⌜ r ≡ floorOk have floor pop ⌝ }
-{
-    let low = least(floor, pop);
-    if have < low {
-        return false;
+    if pop == 0 {
+        return word;
     }
-    pop <= have - low
+    if word < floor { floor } else { word }
 }
 
 // Refusal 7 on one stack, with no sum that could overflow.
 fn stack_ok(have: usize, floor: usize, pop: usize, push: usize, word: usize, most: usize) -> bool
     ensures { λ r. ⌜ r ≡ stackOk have floor pop push word most ⌝ }
 {
-    if !floor_ok(have, floor, pop) {
+    if have < pop {
         return false;
     }
     let rest = have - pop;
-    if rest < word {
+    if rest < low(floor, pop, word) {
         return false;
     }
     if most < rest {
