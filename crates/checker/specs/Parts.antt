@@ -7,7 +7,7 @@ use mathlib.Core.Path.{_≡_, refl, sym, _∙_}
 use native.Mathlib.Omega.{arith}
 use lib.Dec.{eqb}
 use lib.ListN.{length, drop, replicate}
-use borrow.Author.Tests.{le-leb, lt-leb}
+use borrow.Author.Tests.{eq-eqb, le-leb, lt-leb}
 use Rattle.model.specs.Choice.{if_then_else_}
 use Rattle.model.specs.File.{byteAt, Records, broken, starts, recordsOf, wrong, right, headsOf, headOf, entry, procs, paramsMain, paramsPtr}
 use Rattle.model.specs.Checker.{none, Known, stateAt, isSet, firsts, first, mapFrom}
@@ -101,7 +101,10 @@ module _ (f m table : List ℕ) (M : Marked f m table) where
       go false z r = r z
 
   firsts-fit : (n q : ℕ) → isSet (stateAt (firsts f n) q) ≡ true → Fit (firsts f n) (stateAt (firsts f n) q)
-  firsts-fit n q h = let w = firsts-small n q h in record { main-byte = w .0; ptr-byte = w .1; held = inl (w .2) }
+  firsts-fit n q h =
+      let w = firsts-small n q h in
+      let z = eq-eqb (stateAt (firsts f n) q .inner) none (w .2) in
+      record { main-byte = w .0; ptr-byte = w .1; held = inl (w .2); main-above = rw z (omega arith); ptr-above = rw z (omega arith) }
 
   pub look-begun : (m₁ table₁ : List ℕ) (k : ℕ) → (headsOf f ≡ right) × Placed f table₁ k × Shows f (firsts f k) m₁ → Begun f m₁ table₁ k
   look-begun m₁ table₁ k H =

@@ -1,7 +1,7 @@
 -- The checker's pass over a file keeps the laws of a forward pass, so that its states are those of the one assignment that keeps
 -- document 01's rules; and an assignment that keeps them has depths within its procedure's and open handlers below their places,
 -- because each state comes from an earlier instruction of the same procedure.
-use Prim.Native.Nat.{ℕ, zero, suc, _+_, _<_, _≤_}
+use Prim.Native.Nat.{ℕ, zero, suc, _+_, _-_, _<_, _≤_}
 use mathlib.Core.Bool.{Bool, true, false, true≢false, _&&_}
 use mathlib.Core.List.{List, _∷_}
 use mathlib.Core.Logic.{_⊎_, inl, inr}
@@ -12,7 +12,7 @@ use lib.Dec.{eqb}
 use borrow.Author.Tests.{eqb-true, eqb-false, ne-eqb}
 use Rattle.model.specs.Choice.{if_then_else_, all, All, all-true, true-all, Mem, member}
 use Rattle.model.specs.File.{byteAt, Ins, basic, jump, branch, branchKeep, call, return, enter, exit, raise, insOf, insAt, starts, recordsOf, procs, headOf, entry, procAt, instructions, paramsMain, mostMain, mostPtr, headTests}
-use Rattle.model.specs.Checker.{none, State, unset, isSet, Known, stateAt, first, firsts, effectOf, goesOn, passes, own, targetTests, nextTests, depthTests, leaveTests, Step, next, passed, need, passAll, takeWith, take, takeAll, flow}
+use Rattle.model.specs.Checker.{none, State, state, unset, isSet, Known, stateAt, first, firsts, Effect, effect, basicEffect, effectOf, moved, floorTests, goesOn, passes, own, targetTests, nextTests, depthTests, leaveTests, Step, next, passed, need, passAll, takeWith, take, takeAll, flow}
 use Rattle.model.specs.Rules.{Assignment, Opens, Fine, First, Got, Keeps}
 use Rattle.model.specs.Claim.{Bytes}
 use Rattle.exact.specs.Pass as Pass
@@ -70,12 +70,38 @@ Depths f p s u = Within f p u ⊎ ((u .main ≡ s .main) × (u .ptr ≡ s .ptr))
 abbrev pub Inner : List ℕ → ℕ → State → State → State → Type 0
 Inner f p s o u = (u .inner ≡ s .inner) ⊎ (((u .inner ≡ p) × (byteAt f p ≡ 160)) ⊎ (u .inner ≡ o .inner))
 
+-- it lies above the floor o if the state that it comes from does, and where its innermost open handler is another its depths are not
+pub record High (s o u : State) : Type 0 where
+  pub main : o .main ≤ s .main → o .main ≤ u .main
+  pub ptr : o .ptr ≤ s .ptr → o .ptr ≤ u .ptr
+  pub alike : (u .inner ≡ s .inner) ⊎ ((u .main ≡ s .main) × (u .ptr ≡ s .ptr))
+
 -- what is so of a state u that the instruction at p then passes to q
 pub record Moves (f : List ℕ) (p : ℕ) (s o : State) (q : ℕ) (u : State) : Type 0 where
   pub there : Mem q (instructions f)
   pub same-proc : procAt f q ≡ procAt f p
   pub depths : Depths f p s u
   pub inner : Inner f p s o u
+  pub high : High s o u
+
+-- n words popped of a stack of depth d, which is not below the floor a, and m pushed
+floor-kept : (n m a d : ℕ) → (if eqb n 0 then 0 else a + n) ≤ d → a ≤ d → a ≤ d - n + m
+floor-kept n m a d h l = go (eqb n 0) refl h
+  where
+    go : (t : Bool) → eqb n 0 ≡ t → (if t then 0 else a + n) ≤ d → a ≤ d - n + m
+    go true z k = let w = eqb-true n 0 z in omega arith
+    go false z k = omega arith
+
+moved-high : (e : Effect) (s o : State) → All (floorTests e s o) → High s o (moved e s)
+moved-high e s o T =
+    record {
+      main = floor-kept (e .popMain) (e .pushMain) (o .main) (s .main) (T .0);
+      ptr = floor-kept (e .popPtr) (e .pushPtr) (o .ptr) (s .ptr) (T .1 .0);
+      alike = inl refl;
+    }
+
+same-high : (s o : State) (i : ℕ) → High s o (state (s .main) (s .ptr) i)
+same-high s o i = record { main = λ h. h; ptr = λ h. h; alike = inr (refl, refl) }
 
 pub own-in : (f : List ℕ) (p q : ℕ) → own f p q ≡ true → Mem q (instructions f) × (procAt f q ≡ procAt f p)
 unfolding own
@@ -84,27 +110,34 @@ own-in f p q e =
     (member-in q (instructions f) (a .0), eqb-true (procAt f q) (procAt f p) (a .1))
 
 module _ (f : List ℕ) (p : ℕ) (s o : State) where
-  moves-to : (q r : ℕ) (u t : State) → own f p r ≡ true → Depths f p s t → Inner f p s o t → _≡_ {A = ℕ × State} (q, u) (r, t) → Moves f p s o q u
-  moves-to q r u t w d i e =
+  moves-to : (q r : ℕ) (u t : State) → own f p r ≡ true → Depths f p s t → Inner f p s o t → High s o t → _≡_ {A = ℕ × State} (q, u) (r, t) → Moves f p s o q u
+  moves-to q r u t w d i h e =
       let a = own-in f p r w in
-      subst (λ (x : ℕ × State). Moves f p s o (x .0) (x .1)) (sym e) (record { there = a .0; same-proc = a .1; depths = d; inner = i })
+      subst (λ (x : ℕ × State). Moves f p s o (x .0) (x .1)) (sym e) (record { there = a .0; same-proc = a .1; depths = d; inner = i; high = h })
 
   moves-by : (i : Ins) → insAt f p ≡ i → All (targetTests f p i) → All (nextTests f p i) → All (depthTests f p i s o) →
       (q : ℕ) (u : State) → Sent q u (passes f p i s o) → Moves f p s o q u
   unfolding targetTests nextTests depthTests goesOn effectOf passes
-  moves-by (basic b) e t n d q u (inl h) = moves-to q _ u _ (n .0) (inl (d .1 .1 .0, d .1 .1 .1 .0)) (inl refl) h
-  moves-by (jump r) e t n d q u (inl h) = moves-to q _ u _ (t .0) (inr (refl, refl)) (inl refl) h
-  moves-by (branch b r) e t n d q u (inl h) = moves-to q _ u _ (n .0) (inl (d .1 .1 .0, d .1 .1 .1 .0)) (inl refl) h
-  moves-by (branch b r) e t n d q u (inr (inl h)) = moves-to q _ u _ (t .0) (inl (d .1 .1 .0, d .1 .1 .1 .0)) (inl refl) h
-  moves-by (branchKeep b r) e t n d q u (inl h) = moves-to q _ u _ (n .0) (inl (d .1 .1 .0, d .1 .1 .1 .0)) (inl refl) h
-  moves-by (branchKeep b r) e t n d q u (inr (inl h)) = moves-to q _ u _ (t .0) (inr (refl, refl)) (inl refl) h
-  moves-by (call m) e t n d q u (inl h) = moves-to q _ u _ (n .0) (inl (d .1 .1 .0, d .1 .1 .1 .0)) (inl refl) h
+  moves-by (basic b) e t n d q u (inl h) =
+      moves-to q _ u _ (n .0) (inl (d .1 .1 .0, d .1 .1 .1 .0)) (inl refl) (moved-high (basicEffect b) s o (d .0, (d .1 .0, tt))) h
+  moves-by (jump r) e t n d q u (inl h) = moves-to q _ u _ (t .0) (inr (refl, refl)) (inl refl) (same-high s o (s .inner)) h
+  moves-by (branch b r) e t n d q u (inl h) =
+      moves-to q _ u _ (n .0) (inl (d .1 .1 .0, d .1 .1 .1 .0)) (inl refl) (moved-high (effect 1 0 0 0) s o (d .0, (d .1 .0, tt))) h
+  moves-by (branch b r) e t n d q u (inr (inl h)) =
+      moves-to q _ u _ (t .0) (inl (d .1 .1 .0, d .1 .1 .1 .0)) (inl refl) (moved-high (effect 1 0 0 0) s o (d .0, (d .1 .0, tt))) h
+  moves-by (branchKeep b r) e t n d q u (inl h) =
+      moves-to q _ u _ (n .0) (inl (d .1 .1 .0, d .1 .1 .1 .0)) (inl refl) (moved-high (effect 1 0 0 0) s o (d .0, (d .1 .0, tt))) h
+  moves-by (branchKeep b r) e t n d q u (inr (inl h)) = moves-to q _ u _ (t .0) (inr (refl, refl)) (inl refl) (same-high s o (s .inner)) h
+  moves-by (call m) e t n d q u (inl h) =
+      moves-to q _ u _ (n .0) (inl (d .1 .1 .0, d .1 .1 .1 .0)) (inl refl) (moved-high (effectOf f (call m)) s o (d .0, (d .1 .0, tt))) h
   moves-by return e t n d q u h = absurd h
-  moves-by (enter m) e t n d q u (inl h) = moves-to q _ u _ (n .0) (inr (refl, refl)) (inr (inl (refl, enter-code f p m e))) h
+  moves-by (enter m) e t n d q u (inl h) =
+      moves-to q _ u _ (n .0) (inr (refl, refl)) (inr (inl (refl, enter-code f p m e))) (same-high s o p) h
   moves-by (enter m) e t n d q u (inr (inl h)) =
       let y = d .1 .1 .1 .0 in
-      moves-to q _ u _ (t .0) (inl (d .1 .1 .1 .1 .0, omega arith)) (inl refl) h
-  moves-by exit e t n d q u (inl h) = moves-to q _ u _ (n .0) (inr (refl, refl)) (inr (inr refl)) h
+      moves-to q _ u _ (t .0) (inl (d .1 .1 .1 .1 .0, omega arith)) (inl refl)
+      (record { main = λ l. omega arith; ptr = λ l. l; alike = inl refl }) h
+  moves-by exit e t n d q u (inl h) = moves-to q _ u _ (n .0) (inr (refl, refl)) (inr (inr refl)) (same-high s o (o .inner)) h
   moves-by raise e t n d q u h = absurd h
 
   pub moves : Fits f p s o → (q : ℕ) (u : State) → Sent q u (passes f p (insAt f p) s o) → Moves f p s o q u

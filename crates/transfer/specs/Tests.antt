@@ -2,17 +2,16 @@
 use Prim.Native.Nat.{ℕ, suc, _+_, _-_, _<_, _≤_}
 use mathlib.Core.Bool.{Bool, true, false, not}
 use mathlib.Core.List.{List, [], _∷_, _++_}
-use mathlib.Core.Path.{_≡_, refl, sym}
-use lib.Dec.{leb, eqb, leb·zero, ltb}
+use mathlib.Core.Path.{_≡_, refl, sym, _∙_}
+use lib.Dec.{leb, eqb, leb·zero}
 use borrow.Author.Tests.{le-leb, lt-leb, leb-true, eqb-true}
 use native.Mathlib.Decide.{decLe}
 use native.Mathlib.Nat.{add-zero, sub-zero}
 use native.Mathlib.Numerals.{add-one}
 use native.Mathlib.Omega.{arith}
-use Rattle.model.specs.Laws.{taken-most}
-use Rattle.model.specs.Choice.{if_then_else_, yes?, holds, all, if-both}
+use Rattle.model.specs.Choice.{if_then_else_, Test, most, yes?, holds, all, if-both}
 use Rattle.model.specs.File.{onMain, onPtr, Basic, local, assign, field, setField, make, literal, nil, root, setRoot, retract, binary, samePtr, unary, Ins, basic, jump, branch, branchKeep, call, return, enter, exit, raise, after, procAt, resultsMain, resultsPtr, mostMain, mostPtr}
-use Rattle.model.specs.Checker.{none, State, state, Effect, effect, basicEffect, effectOf, moved, goesOn, passes, own, targetTests, nextTests, wordTests, moreTests, floorTest, depthTests, leaveTests}
+use Rattle.model.specs.Checker.{none, State, state, Effect, effect, basicEffect, effectOf, moved, goesOn, passes, own, targetTests, nextTests, wordTests, moreTests, floorTest, depthsMost, depthTests, leaveTests}
 use Rattle.effects.specs.declared.Way.{Way}
 use Rattle.effects.specs.declared.Way.the-variants.{Next, Jump, Branch, Keep, Open, Close, Return, Raise}
 use Rattle.effects.specs.declared.Shape.{Shape}
@@ -80,15 +79,30 @@ and a b = (if a then b else false)
 unfoldable pub targetOk : Way → Bool → Bool → ℕ → ℕ → Bool
 targetOk w known own q p = (if jumpsBy w then and own (if opensBy w then leb (suc p) q else true) else known)
 
+-- refusal 7 with the floor asked where nothing is popped too, as the code asks it
+unfoldable pub firmTests : List ℕ → ℕ → Ins → State → State → List Test
+firmTests f p i s o =
+    most (o .main + effectOf f i .popMain) (s .main)
+    ∷ most (o .ptr + effectOf f i .popPtr) (s .ptr)
+    ∷ (depthsMost (mostMain f (procAt f p)) (mostPtr f (procAt f p)) (moved (effectOf f i) s) ++ moreTests (mostMain f (procAt f p)) i s)
+
+-- where the depths lie above the floor, both come to the same
+floor-same : (n floor depth : ℕ) → floor ≤ depth → holds (floorTest n floor depth) ≡ leb (floor + n) depth
+floor-same n floor depth h = go (eqb n 0) refl
+  where
+    go : (t : Bool) → eqb n 0 ≡ t → leb (if t then 0 else floor + n) depth ≡ leb (floor + n) depth
+    go true z = let w = eqb-true n 0 z in le-leb 0 depth (omega arith) ∙ sym (le-leb (floor + n) depth (omega arith))
+    go false z = refl
+
+pub firm-same : (f : List ℕ) (p : ℕ) (i : Ins) (s o : State) → o .main ≤ s .main → o .ptr ≤ s .ptr →
+    all (depthTests f p i s o) ≡ all (firmTests f p i s o)
+unfolding depthTests firmTests
+firm-same f p i s o a b =
+    rw (floor-same (effectOf f i .popMain) (o .main) (s .main) a, floor-same (effectOf f i .popPtr) (o .ptr) (s .ptr) b)
+
 -- refusal 7 on one stack: the floor, the frame word and the greatest depth
-abbrev pub lowOf : ℕ → ℕ → ℕ → ℕ
-lowOf floor pop word = (if eqb pop 0 then word else if ltb word floor then floor else word)
-
-unfoldable pub floorOk : ℕ → ℕ → ℕ → Bool
-floorOk have floor pop = holds (floorTest pop floor have)
-
 unfoldable pub stackOk : ℕ → ℕ → ℕ → ℕ → ℕ → ℕ → Bool
-stackOk have floor pop push word x = and (floorOk have floor pop) (and (leb word (have - pop)) (leb (have - pop + push) x))
+stackOk have floor pop push word x = and (leb (floor + pop) have) (and (leb word (have - pop)) (leb (have - pop + push) x))
 
 -- a handler has the depth before its 160 and the raised word
 abbrev openOk : Way → ℕ → ℕ → Bool
@@ -247,15 +261,15 @@ module _ (f : List ℕ) (p : ℕ) where
   more-tests raise s x = simp leb·zero
 
   pub depth-tests : (i : Ins) (s o : State) →
-      all (depthTests f p i s o) ≡ depthOk (at i) s o (mostMain f (procAt f p)) (mostPtr f (procAt f p))
-  unfolding depthTests depthOk floorOk stackOk
+      all (firmTests f p i s o) ≡ depthOk (at i) s o (mostMain f (procAt f p)) (mostPtr f (procAt f p))
+  unfolding firmTests depthOk stackOk
   depth-tests i s o =
       let x = mostMain f (procAt f p) in
       let y = mostPtr f (procAt f p) in
       rw (effect-is i, more-tests i s x)
       (by-stack
-      (floorOk (s .main) (o .main) (at i .popm))
-      (floorOk (s .ptr) (o .ptr) (at i .popp))
+      (leb (o .main + at i .popm) (s .main))
+      (leb (o .ptr + at i .popp) (s .ptr))
       (leb (s .main - at i .popm + at i .pushm) x)
       (leb (s .ptr - at i .popp + at i .pushp) y)
       (leb (at i .wordm) (s .main - at i .popm))
@@ -305,17 +319,12 @@ pub record Fits (sh : Shape) (s : State) : Type 0 where
   pub ptr-small : s .ptr - sh .popp + sh .pushp < 65536
   pub small : s .main < 65536
 
--- what is popped is there
-pub floor-there : (have floor pop : ℕ) → floorOk have floor pop ≡ true → pop ≤ have
-unfolding floorOk
-floor-there have floor pop e = taken-most pop floor have (leb-true (if eqb pop 0 then 0 else floor + pop) have e)
-
 stack-fits : (have floor pop push word x : ℕ) → stackOk have floor pop push word x ≡ true → (pop ≤ have) × (have - pop + push ≤ x)
 unfolding stackOk
 stack-fits have floor pop push word x e =
-    let g = if-both (floorOk have floor pop) (and (leb word (have - pop)) (leb (have - pop + push) x)) e in
+    let g = if-both (leb (floor + pop) have) (and (leb word (have - pop)) (leb (have - pop + push) x)) e in
     let h = if-both (leb word (have - pop)) (leb (have - pop + push) x) (g .1) in
-    (floor-there have floor pop (g .0), leb-true (have - pop + push) x (h .1))
+    (omega (arith, leb-true (floor + pop) have (g .0)), leb-true (have - pop + push) x (h .1))
 
 pub depth-fits : (sh : Shape) (s o : State) (x y : ℕ) → x < 256 → y < 256 → s .main < 65536 → depthOk sh s o x y ≡ true → Fits sh s
 unfolding depthOk

@@ -1,7 +1,7 @@
 // What an instruction makes of the state before it: the tests of 5, 7 and 8, and what passes to the next instruction and to the target.
 ghost use mathlib.Core.Path.{_≡_};
 ghost use Rattle.model.specs.Checker as checker;
-ghost use Rattle.transfer.specs.Tests.{goesBy, jumpsBy, opensBy, closesBy, leavesBy, targetOk, lowOf, stackOk, depthOk, leaveOk, effectIn, innerBy, nextState, targetMain, targetState, Fits, asState};
+ghost use Rattle.transfer.specs.Tests.{goesBy, jumpsBy, opensBy, closesBy, leavesBy, targetOk, stackOk, depthOk, leaveOk, effectIn, innerBy, nextState, targetMain, targetState, Fits, asState};
 use effects::Shape;
 use effects::Way;
 
@@ -100,26 +100,19 @@ pub fn target_ok(way: Way, known: bool, own: bool, target: usize, p: usize) -> b
     if opens(way) { p < target } else { true }
 }
 
-// What must stay on a stack: its words up to the frame word that is named, and, "no pop goes below it", those up to the floor where
-// something is popped. A choice, not a test more: nearly all instructions pass.
-fn low(floor: usize, pop: usize, word: usize) -> usize
-    ensures { λ r. ⌜ r ≡ lowOf floor pop word ⌝ }
-{
-    if pop == 0 {
-        return word;
-    }
-    if word < floor { floor } else { word }
-}
-
-// Refusal 7 on one stack, with no sum that could overflow.
+// Refusal 7 on one stack, with no sum that could overflow. The floor is asked at every instruction: where nothing is popped the depths lie
+// above it anyhow, so that no choice is needed.
 fn stack_ok(have: usize, floor: usize, pop: usize, push: usize, word: usize, most: usize) -> bool
     ensures { λ r. ⌜ r ≡ stackOk have floor pop push word most ⌝ }
 {
-    if have < pop {
+    if have < floor {
+        return false;
+    }
+    if have - floor < pop {
         return false;
     }
     let rest = have - pop;
-    if rest < low(floor, pop, word) {
+    if rest < word {
         return false;
     }
     if most < rest {
