@@ -15,16 +15,17 @@ use Rattle.model.specs.Heap.{Heap, Pointer, Audit, fault, clean, heapOf, object
 use Rattle.model.specs.Control.{Machine, setRegs, registerBytes}
 use Rattle.model.specs.Step.{next, uncaught, step}
 use Rattle.model.specs.Sound.{sound?}
-use Rattle.model.specs.Calls.{toldOf, Verdict, pass, refuse, verdictOf, checkOf, Lent, machineOf, leaving, withMap, lengthTests, longTests, soundTests, After, answers, demand, audited, afterMap, afterCheck, tested, started, startOf, ranFrom, runOf}
+use Rattle.model.specs.Calls.{toldOf, Verdict, pass, refuse, verdictOf, checkOf, Lent, machineOf, leaving, withMap, lengthTests, registerTests, soundTests, After, answers, demand, audited, afterMap, afterCheck, tested, started, startOf, ranFrom, runOf}
 use Rattle.model.specs.Claim.{Call, check, start, run, callOf, NotRefused, Depths, Pointers, Before, Claim, Bytes, Calls}
 use Rattle.model.specs.declared.Answer.the-variants as answer
 use Rattle.exact.specs.Exact.{passed-again}
+use Rattle.exact.specs.Leaves.{uncaught-stays}
 use Rattle.sound.specs.Tests.{true-pointer}
 use Rattle.sound.specs.Lists.{length-cut, length-put}
 use Rattle.sound.specs.Laws.{CodeLaws, code-laws}
 use Rattle.sound.specs.Sound.{Sound, Audited, sound-with, true-sound?, running-depths}
 use Rattle.sound.specs.Keep.{start-sound}
-use Rattle.sound.specs.Rules.{HeapLaws, Kept, kept-here, kept-on, step-keeps, step-stays}
+use Rattle.sound.specs.Rules.{HeapLaws, Kept, kept-here, kept-on, step-keeps}
 use Rattle.sound.specs.Runs.{after-keeps, run-keeps}
 use Rattle.sound.specs.Registers.{registers-length, registers-back, sound-small}
 
@@ -81,7 +82,7 @@ module _ (H : HeapLaws) where
 
     -- an uncaught instruction leaves the state as it was
     pub between-stays : (m m′ : Machine) (code : ℕ) → Between l m → step (l .file) m ≡ uncaught code m′ → Between l m′
-    between-stays m m′ code S e = subst (Between l) (step-stays (l .file) m m′ code e) S
+    between-stays m m′ code S e = subst (Between l) (sym (uncaught-stays (l .file) m m′ code e)) S
 
     -- what a state leaves is held: its registers come back from their bytes
     left-held : (m : Machine) → Between l m → Held (leaving l m)
@@ -189,15 +190,15 @@ module _ (H : HeapLaws) where
     abbrev Readied : After → Type 0
     Readied a = a .answer ≡ answer.Ready → Held (a .lists)
 
-    by-registers : Held (leaving l (started l)) → Readied (demand (longTests l) 12 l (ready l))
-    by-registers h = go (all (longTests l))
+    by-registers : Held (leaving l (started l)) → Readied (demand (registerTests l) 12 l (ready l))
+    by-registers h = go (all (registerTests l))
       where
         go : (t : Bool) → Readied (if t then ready l else answers (answer.Refused 12 0) l)
         go true e = h
         go false e = absurd (true≢false (cc))
 
     by-heap : verdictOf (l .file) (l .map) ≡ pass (l .map) → All (lengthTests l) → (a : Audit) → heapOf (l .heap) ≡ a →
-        Readied (audited a l (demand (longTests l) 12 l (ready l)))
+        Readied (audited a l (demand (registerTests l) 12 l (ready l)))
     by-heap P T (fault q) d e = absurd (true≢false (cc))
     by-heap P T (clean os) d e = by-registers (start-held l B P T os (H .audit-clean (l .heap) os d)) e
 
@@ -205,7 +206,7 @@ module _ (H : HeapLaws) where
     by-lengths P = go (all (lengthTests l)) refl
       where
         go : (t : Bool) → all (lengthTests l) ≡ t →
-            Readied (if t then audited (heapOf (l .heap)) l (demand (longTests l) 12 l (ready l)) else answers (answer.Refused 10 0) l)
+            Readied (if t then audited (heapOf (l .heap)) l (demand (registerTests l) 12 l (ready l)) else answers (answer.Refused 10 0) l)
         go true u e = by-heap P (all-true (lengthTests l) u) (heapOf (l .heap)) refl e
         go false u e = absurd (true≢false (cc))
 

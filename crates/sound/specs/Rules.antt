@@ -455,18 +455,3 @@ module _ (f map : List ℕ) (m : Machine) (os : List ℕ) (i j : ℕ) where
     pub step-keeps : (m′ : Machine) → step f m ≡ next m′ → Kept f map m m′
     unfolding step instruct
     step-keeps m′ e = came (rule f m ahead (insAt f (m .regs .place))) (rule-fine (insAt f (m .regs .place)) refl) m′ e
-
--- with no handler open the state stays
-stayed : (f : List ℕ) (m : Machine) (r : Result) (m′ : Machine) (code : ℕ) → outcome f m r ≡ uncaught code m′ → m ≡ m′
-unfolding raised
-stayed f m (done x) m′ code e = absurd (true≢false (cc))
-stayed f m (throws c) m′ code e = go (eqb (m .regs .handler) 0) e
-  where
-    go : (t : Bool) → (if t then uncaught c m else next (caught f m (m .regs .handler - 1) (handlerOf (m .ctl) (m .regs .handler)) c)) ≡ uncaught code m′ →
-        m ≡ m′
-    go true e = cc
-    go false e = absurd (true≢false (cc))
-
-pub step-stays : (f : List ℕ) (m m′ : Machine) (code : ℕ) → step f m ≡ uncaught code m′ → m ≡ m′
-unfolding step instruct
-step-stays f m m′ code e = stayed f m (rule f m (after f (m .regs .place)) (insAt f (m .regs .place))) m′ code e

@@ -4,7 +4,7 @@ use mathlib.Core.List.{[], _∷_, _++_}
 use native.Mathlib.Omega.{arith}
 use lib.ListN.{length}
 use Rattle.model.specs.Heap.{Heap, markOf}
-use Rattle.model.specs.Claim.{Calls}
+use Rattle.model.specs.Claim.{Calls, HeapExactly}
 use Rattle.heap.specs.Audited.{clean-heap, heap-clean}
 use Rattle.heap.specs.Stores.{store-plain, store-ptr, store-root}
 use Rattle.heap.specs.Made.{pointer-more, pointer-new, made-kept}
@@ -34,3 +34,7 @@ heap-laws =
 -- for every list of check, start and run calls after a start that answered ready
 pub demand : Calls
 demand = calls heap-laws
+
+-- what is sound of a heap is what the audit lets through
+pub heap-exact : HeapExactly
+heap-exact h os = (heap-clean h os, clean-heap h os)
