@@ -71,11 +71,11 @@ static const char *refusal_words(uint32_t number)
 static const char *exception_words(uint32_t code)
 {
     switch (code) {
-    case 1: return "a number out of range, or a division by zero";
-    case 2: return "an object was needed and there was none";
-    case 3: return "the object has no such word";
-    case 4: return "the heap is full";
-    case 5: return "a stack is full";
+    case YALGOVIM_OUT_OF_RANGE: return "a number out of range, or a division by zero";
+    case YALGOVIM_NIL_OBJECT: return "an object was needed and there was none";
+    case YALGOVIM_NO_SUCH_WORD: return "the object has no such word";
+    case YALGOVIM_HEAP_FULL: return "the heap is full";
+    case YALGOVIM_NO_ROOM: return "a stack is full";
     default: return "raised by the routine itself";
     }
 }

@@ -805,12 +805,12 @@ ref_reply ref_run(const uint8_t *file, size_t file_len,
             uint32_t s = operand_at(file, file_len, place + 1);
             uint32_t object = get(ptr_stack, ptr_len, pt - 1u);
             if (object == 0) {
-                exception = 2;
+                exception = REF_NIL_OBJECT;
                 goto raise;
             }
             uint32_t pointers = get(heap, heap_len, object) & 0xffffffu;
             if (s < 2 + pointers || s >= get(heap, heap_len, (size_t)object + 1)) {
-                exception = 3;
+                exception = REF_NO_SUCH_WORD;
                 goto raise;
             }
             pop(ptr_stack, ptr_len, &pt);
@@ -825,12 +825,12 @@ ref_reply ref_run(const uint8_t *file, size_t file_len,
             uint32_t s = operand_at(file, file_len, place + 1);
             uint32_t object = get(ptr_stack, ptr_len, pt - 1u);
             if (object == 0) {
-                exception = 2;
+                exception = REF_NIL_OBJECT;
                 goto raise;
             }
             uint32_t pointers = get(heap, heap_len, object) & 0xffffffu;
             if (s < 2 || s >= 2 + pointers) {
-                exception = 3;
+                exception = REF_NO_SUCH_WORD;
                 goto raise;
             }
             pop(ptr_stack, ptr_len, &pt);
@@ -848,7 +848,7 @@ ref_reply ref_run(const uint8_t *file, size_t file_len,
             uint32_t size = 2 + words + pointers;
             uint32_t object = heap[0];
             if (heap_len - object < size) {
-                exception = 4;
+                exception = REF_HEAP_FULL;
                 goto raise;
             }
             put(heap, heap_len, object, 0x01000000u + pointers);
@@ -929,7 +929,7 @@ ref_reply ref_run(const uint8_t *file, size_t file_len,
             if (callee_main + byte_at(file, file_len, head + 5) > main_len
                 || callee_ptr + byte_at(file, file_len, head + 6) > ptr_len
                 || ct + RECORD > ctl_len) {
-                exception = 5;
+                exception = REF_NO_ROOM;
                 goto raise;
             }
             push(ctl_stack, ctl_len, &ct, callee_main);
@@ -1010,7 +1010,7 @@ ref_reply ref_run(const uint8_t *file, size_t file_len,
             int64_t a = whole(get(main_stack, main_len, mt - 2u));
             int64_t c = file[place] == PLUS ? a + b : file[place] == MINUS ? a - b : a * b;
             if (c < INT32_MIN || c > INT32_MAX) {
-                exception = 1;
+                exception = REF_OUT_OF_RANGE;
                 goto raise;
             }
             pop(main_stack, main_len, &mt);
@@ -1024,7 +1024,7 @@ ref_reply ref_run(const uint8_t *file, size_t file_len,
             int32_t a = whole(get(main_stack, main_len, mt - 2u));
             int32_t c;
             if (b == 0 || (b == -1 && a == INT32_MIN && file[place] == DIV)) {
-                exception = 1;
+                exception = REF_OUT_OF_RANGE;
                 goto raise;
             }
             if (b == -1)
@@ -1039,7 +1039,7 @@ ref_reply ref_run(const uint8_t *file, size_t file_len,
         case NEG: {
             uint32_t a = get(main_stack, main_len, mt - 1u);
             if (a == 0x80000000u) {
-                exception = 1;
+                exception = REF_OUT_OF_RANGE;
                 goto raise;
             }
             put(main_stack, main_len, mt - 1u, 0u - a);
@@ -1055,7 +1055,7 @@ ref_reply ref_run(const uint8_t *file, size_t file_len,
 
         case ENTER:
             if (ct + RECORD > ctl_len) {
-                exception = 5;
+                exception = REF_NO_ROOM;
                 goto raise;
             }
             push(ctl_stack, ctl_len, &ct, place);

@@ -19,6 +19,15 @@ enum {
     REF_REFUSED = 5
 };
 
+/* Machine exceptions. */
+enum {
+    REF_OUT_OF_RANGE = 1,
+    REF_NIL_OBJECT = 2,
+    REF_NO_SUCH_WORD = 3,
+    REF_HEAP_FULL = 4,
+    REF_NO_ROOM = 5
+};
+
 typedef struct {
     uint32_t kind;   /* one of REF_PASSED to REF_REFUSED */
     uint32_t number; /* refusal number, or the uncaught code as a word; else 0 */
