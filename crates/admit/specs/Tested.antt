@@ -7,7 +7,7 @@ use mathlib.Core.Path.{_≡_, ap, sym, _∙_}
 use native.Mathlib.Omega.{arith}
 use lib.ListN.{length}
 use Rattle.model.specs.Heap.{objectsOf}
-use Rattle.model.specs.Control.{setRegs, regsFrom}
+use Rattle.model.specs.Control.{regsFrom}
 use Rattle.model.specs.Sound.{sound?}
 use Rattle.model.specs.Claim.{Bytes}
 use Rattle.model.specs.Calls.{Lent, withMap, machineOf, After, answers, lengthTests, soundTests, demand, testedForRun}

@@ -95,23 +95,7 @@ planOf f m q raise = Thrown
 unfoldable pub planAt : List ℕ → Machine → Plan
 planAt f m = planOf f m (after f (m .regs .place)) (insAt f (m .regs .place))
 
--- what a call writes, as `planOf` has it
-abbrev pub framePut : List ℕ → Machine → ℕ → Put
-framePut f m k =
-    record {
-      into = Frame;
-      place = entry f k;
-      mtop = mtop m;
-      ptop = ptop m;
-      at = mtop m - paramsMain f k;
-      word = ptop m - paramsPtr f k;
-    }
-
--- and a return
+-- what a return writes, as `planOf` has it
 abbrev pub returnPut : Machine → Put
 returnPut m =
     record { into = Return; place = running m .returns; mtop = mtop m; ptop = ptop m; at = 0; word = 0 }
-
--- a 160 and a 161
-abbrev pub behindPut : Into → List ℕ → Machine → Put
-behindPut into f m = record { into = into; place = after f (m .regs .place); mtop = mtop m; ptop = ptop m; at = 0; word = 0 }

@@ -9,7 +9,7 @@ use lib.Dec.{eqb}
 use lib.ListN.{length, drop, replicate}
 use borrow.Author.Tests.{eq-eqb, le-leb, lt-leb}
 use Rattle.model.specs.Choice.{if_then_else_}
-use Rattle.model.specs.File.{byteAt, Records, broken, starts, recordsOf, wrong, right, headsOf, headOf, entry, procs, paramsMain, paramsPtr}
+use Rattle.model.specs.File.{byteAt, Records, broken, starts, recordsOf, wrong, right, headsOf, headOf, entry, paramsMain, paramsPtr}
 use Rattle.model.specs.Checker.{none, Known, stateAt, isSet, firsts, first, mapFrom}
 use Rattle.model.specs.Calls.{overMap, wiped, pass, refuse, scanned, verdictOf, checked, answered, checkOf}
 use Rattle.exact.specs.Walk.{heads-right, walk, walk-above, after-above}

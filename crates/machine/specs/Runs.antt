@@ -8,7 +8,6 @@ use Rattle.model.specs.Control.{Machine, setRegs, regBytes}
 use Rattle.model.specs.Step.{ran, runOn}
 use Rattle.model.specs.Claim.{Bytes}
 use Rattle.model.specs.Calls.{Lent, withMap, leaving, answers, machineOf, ranFrom, runOf}
-use Rattle.scan.specs.Heading.{Placed}
 use Rattle.safe.specs.Alive.{alive-run}
 use Rattle.steps.specs.Going.{Runs}
 use Rattle.admit.specs.Tested.{Through, TestedAs, for-run-refused, for-run-on}

@@ -1,14 +1,14 @@
 -- What holds of every state of a run, `Alive`: run's tests let nothing else through, and a step keeps it. Its registers are small. Each
 -- follows from the soundness theory, since a passed check gives the laws of the code.
 use Prim.Native.Nat.{ℕ, _≤_}
-use mathlib.Core.Path.{_≡_, refl}
+use mathlib.Core.Path.{_≡_}
 use mathlib.Core.Bool.{true}
 use mathlib.Core.List.{List}
 use mathlib.Core.Logic.{inl, inr}
 use native.Mathlib.Omega.{arith}
 use lib.ListN.{length}
 use Rattle.model.specs.Choice.{All}
-use Rattle.model.specs.File.{fileMost, insAt, procs, mostMain, mostPtr}
+use Rattle.model.specs.File.{fileMost, procs, mostMain, mostPtr}
 use Rattle.model.specs.Heap.{Heap, Pointer, clean, heapOf, objectsOf}
 use Rattle.model.specs.Control.{Machine, setRegs}
 use Rattle.model.specs.Step.{next, step}
@@ -21,8 +21,7 @@ use Rattle.scan.specs.Heading.{Placed}
 use Rattle.sound.specs.Tests.{pointer-true}
 use Rattle.sound.specs.Laws.{CodeLaws, code-laws}
 use Rattle.sound.specs.Sound.{Running, Sound, Audited, sound-with, sound?-true}
-use Rattle.sound.specs.Keep.{running-fits}
-use Rattle.sound.specs.Rules.{above, step-keeps}
+use Rattle.sound.specs.Rules.{step-keeps}
 use Rattle.heap.specs.Audited.{heap-clean}
 use Rattle.theory.specs.Demand.{heap-laws}
 

@@ -1,22 +1,22 @@
 -- What a passed check says of a file and its map, `CodeLaws`, as the checker's exactness gives it, and from it, for each instruction that
 -- changes the control records, what holds at the places that it leads to, `Is`: the rules' fields, read at that instruction.
 use Prim.Native.Nat.{ℕ, _+_, _-_, _<_, _≤_}
-use mathlib.Core.Path.{_≡_, refl, ap, sym, _∙_}
-use mathlib.Core.Bool.{Bool, true, false, true≢false}
+use mathlib.Core.Path.{_≡_, refl, ap}
+use mathlib.Core.Bool.{true, false}
 use mathlib.Core.List.{List}
 use mathlib.Core.Logic.{inl, inr, _≢_}
 use native.Mathlib.Omega.{arith}
 use lib.Dec.{eqb}
-use borrow.Author.Tests.{eqb-true, eqb-false, not-true}
+use borrow.Author.Tests.{eqb-false, not-true}
 use Rattle.model.specs.Choice.{Mem}
 use Rattle.model.specs.Laws.{taken-most}
-use Rattle.model.specs.File.{Ins, basic, jump, branch, branchKeep, call, return, enter, exit, raise, byteAt, bodyOf, bodies, after, procs, procAt, entry, headTests, instructions, operand, insOf, insAt, paramsMain, paramsPtr, resultsMain, resultsPtr, mostMain, mostPtr}
+use Rattle.model.specs.File.{Ins, call, return, enter, exit, after, procs, procAt, entry, headTests, instructions, operand, insAt, paramsMain, paramsPtr, resultsMain, resultsPtr, mostMain, mostPtr}
 use Rattle.model.specs.Checker.{State, state, none, passes, outer, effectOf, handlerAt, targetTests, depthTests, leaveTests}
 use Rattle.model.specs.Rules.{Passes, Fine, Keeps}
 use Rattle.model.specs.Calls.{pass, verdictOf}
 use Rattle.model.specs.Claim.{Bytes, assigned, InOrder}
 use Rattle.model.specs.Sound.{mainAt, ptrAt, innerAt, isIns}
-use Rattle.code.specs.Codes.{call-byte, byte-call, byte-enter}
+use Rattle.code.specs.Codes.{byte-enter}
 use Rattle.exact.specs.Walk.{member-in, in-member, instruction-below, procs-some, entry-proc}
 use Rattle.exact.specs.Flow.{Open, Shape, moves}
 use Rattle.exact.specs.Exact.{passed-as, passed-keeps, passed-shape}

@@ -7,8 +7,8 @@ use mathlib.Core.List.{List, [], _∷_}
 use mathlib.Core.Logic.{_⊎_, inl, inr}
 use native.Mathlib.Omega.{arith}
 use native.Mathlib.Decide.{ℕ-discrete, decLt}
-use lib.ListN.{length, take, drop, set, length-set}
-use lib.Seq.{sets, length-sets, getD-set-same, getD-set-other, set-out, getD-drop, slice}
+use lib.ListN.{length, take, drop, set}
+use lib.Seq.{length-sets, getD-set-same, getD-set-other, set-out, getD-drop, slice}
 use lib.Dec.{eqb}
 use borrow.Author.Tests.{eqb-true, eq-eqb}
 use Rattle.model.specs.Lists.{sets-other, sets-at}

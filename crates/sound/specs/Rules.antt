@@ -2,13 +2,12 @@
 -- the checker passes the state on, with the tops that the map has there. Each change that a rule is made of keeps the lists in order;
 -- then one case for each instruction.
 use Prim.Native.Nat.{ℕ, _+_, _-_, _*_, _<_, _≤_}
-use mathlib.Core.Path.{_≡_, refl, ap, sym, _∙_, subst}
+use mathlib.Core.Path.{_≡_, refl, ap, _∙_, subst}
 use mathlib.Core.Bool.{Bool, true, false, true≢false}
 use mathlib.Core.List.{List}
 use mathlib.Core.Logic.{inl, inr, _≢_}
 use native.Mathlib.Omega.{arith}
 use lib.ListN.{length, set, length-set}
-use lib.Seq.{length-slice}
 use lib.Dec.{leb, eqb}
 use borrow.Author.Tests.{eqb-false, leb-true, ltb-true}
 use Rattle.model.specs.Choice.{if_then_else_, all, All, all-true, Mem}
@@ -27,9 +26,9 @@ use Rattle.model.specs.Claim.{assigned}
 use Rattle.exact.specs.Pass.{and-true}
 use Rattle.sound.specs.Lists.{Zero, Each, length-cut, cut-zero, cut-each, set-zero, set-each, slice-each, length-put}
 use Rattle.sound.specs.Stack.{stack-frame}
-use Rattle.sound.specs.Laws.{Is, CodeLaws, leads, pops, rules}
+use Rattle.sound.specs.Laws.{CodeLaws, leads, pops, rules}
 use Rattle.sound.specs.Sound.{Running, Sound}
-use Rattle.sound.specs.Keep.{Controlled, running-here, running-fits, keep-plain, keep-call, keep-return, keep-enter, keep-exit, keep-raise}
+use Rattle.sound.specs.Keep.{Controlled, running-here, keep-plain, keep-call, keep-return, keep-enter, keep-exit, keep-raise}
 
 -- an object in the place of free words of the heap h: h′ with its objects, the old pointers, and the new one
 pub record Formed (h os h′ : List ℕ) : Type 0 where

@@ -1,6 +1,6 @@
 -- The control records as a statement, `Stack`, which model's `stack?` computes: `stack?-true` and `true-stack?`, by induction on the
 -- records, since both read the same tests. A record on top is a constructor; the rest says what every such stack has.
-use Prim.Native.Nat.{ℕ, suc, _+_, _-_, _<_, _≤_}
+use Prim.Native.Nat.{ℕ, suc, _-_, _<_, _≤_}
 use mathlib.Core.Path.{_≡_, refl, sym}
 use mathlib.Core.Bool.{true, true≢false}
 use mathlib.Core.List.{List, [], _∷_}

@@ -3,7 +3,7 @@ use Prim.Native.Nat.{_+_, _<_}
 use mathlib.Core.List.{[], _∷_, _++_}
 use native.Mathlib.Omega.{arith}
 use lib.ListN.{length}
-use Rattle.model.specs.Heap.{Heap, markOf}
+use Rattle.model.specs.Heap.{markOf}
 use Rattle.model.specs.Claim.{Calls, HeapExactly}
 use Rattle.heap.specs.Audited.{clean-heap, heap-clean}
 use Rattle.heap.specs.Stores.{store-plain, store-ptr, store-root}
