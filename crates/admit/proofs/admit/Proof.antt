@@ -24,13 +24,33 @@ returns : tie.Need-returns
 returns c =
     let at-check-with = c .before .before .before .before in
     let entry = at-check-with .before .before .before .before .before .before .before .before .before .before in
-    admit-refused (record { file = entry .args .file .now; map = entry .args .map .now; main = entry .args .main .now; ptr = entry .args .ptr .now; ctl = entry .args .ctl .now; heap = entry .args .heap .now; bytes = entry .args .bytes .now }) (at-check-with .check-with .last .1 .0) (at-check-with .check-with .last .1 .1 .0) (entry .args .marks .now) (at-check-with .check-with .result) (at-check-with .check-with .ensures) (λ k e. omega (arith, rw e at (c .before .match .keys2)))
+    admit-refused (record {
+      file = entry .args .file .now;
+      map = entry .args .map .now;
+      main = entry .args .main .now;
+      ptr = entry .args .ptr .now;
+      ctl = entry .args .ctl .now;
+      heap = entry
+          .args .heap .now;
+      bytes = entry .args .bytes .now;
+    }) (at-check-with .check-with .last .1 .0) (at-check-with .check-with .last .1 .1 .0) (entry .args .marks .now)
+    (at-check-with .check-with .result) (at-check-with .check-with .ensures) (λ k e. omega (arith, rw e at (c .before .match .keys2)))
 
 head-at-requires : tie.Need-head-at-requires
 head-at-requires c κs =
     let at-check-with = c .before .before .before .before .before in
     let entry = at-check-with .before .before .before .before .before .before .before .before .before .before in
-    (first-whole _ _ _ (admit-passes (record { file = entry .args .file .now; map = entry .args .map .now; main = entry .args .main .now; ptr = entry .args .ptr .now; ctl = entry .args .ctl .now; heap = entry .args .heap .now; bytes = entry .args .bytes .now }) (at-check-with .check-with .last .1 .0) (at-check-with .check-with .last .1 .1 .0) (entry .args .marks .now) (at-check-with .check-with .result) (at-check-with .check-with .ensures) _ (c .before .v .given .1))) .1
+    (first-whole _ _ _ (admit-passes (record {
+      file = entry .args .file .now;
+      map = entry .args .map .now;
+      main = entry .args .main .now;
+      ptr = entry .args .ptr .now;
+      ctl = entry .args .ctl
+          .now;
+      heap = entry .args .heap .now;
+      bytes = entry .args .bytes .now;
+    }) (at-check-with .check-with .last .1 .0) (at-check-with .check-with .last .1 .1 .0)
+    (entry .args .marks .now) (at-check-with .check-with .result) (at-check-with .check-with .ensures) _ (c .before .v .given .1))) .1
 
 lengths-right-requires : tie.Need-lengths-right-requires
 lengths-right-requires c κs = search needs
@@ -39,7 +59,9 @@ audit-heap-requires : tie.Need-audit-heap-requires
 audit-heap-requires c κs =
     let far18 = c .before .before .before .before .before .before .before .before .before .before .before .before .before .before .before .before .before .before in
     let entry = far18 .before in
-    let T = all-true (lengthList (c .before .before .before .head-at .result) (length (entry .args .main .now)) (length (entry .args .ptr .now)) (length (entry .args .ctl .now)) (length (entry .args .heap .now))) (sym (c .before .before .lengths-right .ensures) ∙ c .before .if1 .taken) in (T .1 .1 .1 .1 .1 .1 .0, T .1 .1 .1 .1 .1 .1 .1 .0, entry .pre .long)
+    let T = all-true (lengthList (c .before .before .before .head-at .result) (length (entry .args .main .now)) (length (entry .args .ptr .now))
+    (length (entry .args .ctl .now)) (length (entry .args .heap .now))) (sym (c .before .before .lengths-right .ensures) ∙ c .before .if1 .taken) in
+    (T .1 .1 .1 .1 .1 .1 .0, T .1 .1 .1 .1 .1 .1 .1 .0, entry .pre .long)
 
 enum-known-audit : tie.Need-enum-known-audit
 enum-known-audit c = search needs
@@ -59,7 +81,19 @@ returns-2 c =
     let at-v = at-head-at .before .before in
     let at-check-with = at-v .before .before .before .before in
     let entry = at-check-with .before .before .before .before .before .before .before .before .before .before in
-    admit-heap (record { file = entry .args .file .now; map = entry .args .map .now; main = entry .args .main .now; ptr = entry .args .ptr .now; ctl = entry .args .ctl .now; heap = entry .args .heap .now; bytes = entry .args .bytes .now }) (at-check-with .check-with .last .1 .0) (at-check-with .check-with .last .1 .1 .0) (at-audit-heap .audit-heap .last .1 .0) (at-check-with .check-with .result) (at-check-with .check-with .ensures) _ (at-v .v .given .1) (at-head-at .head-at .result) (at-head-at .head-at .ensures) (at-lengths-right .lengths-right .result) (at-lengths-right .lengths-right .ensures) (at-if1 .if1 .taken) (at-audit-heap .audit-heap .result) (at-audit-heap .audit-heap .ensures) _ (c .before .audit .given .1)
+    admit-heap (record {
+      file = entry .args .file .now;
+      map = entry .args .map .now;
+      main = entry .args .main .now;
+      ptr = entry .args .ptr .now;
+      ctl = entry .args .ctl .now;
+      heap = entry
+          .args .heap .now;
+      bytes = entry .args .bytes .now;
+    }) (at-check-with .check-with .last .1 .0) (at-check-with .check-with .last .1 .1 .0)
+    (at-audit-heap .audit-heap .last .1 .0) (at-check-with .check-with .result) (at-check-with .check-with .ensures) _ (at-v .v .given .1)
+    (at-head-at .head-at .result) (at-head-at .head-at .ensures) (at-lengths-right .lengths-right .result) (at-lengths-right .lengths-right .ensures)
+    (at-if1 .if1 .taken) (at-audit-heap .audit-heap .result) (at-audit-heap .audit-heap .ensures) _ (c .before .audit .given .1)
 
 same-length-3 : tie.Need-same-length-3
 same-length-3 c = search needs
@@ -73,7 +107,19 @@ returns-3 c =
     let at-v = at-head-at .before .before in
     let at-check-with = at-v .before .before .before .before in
     let entry = at-check-with .before .before .before .before .before .before .before .before .before .before in
-    admit-all (record { file = entry .args .file .now; map = entry .args .map .now; main = entry .args .main .now; ptr = entry .args .ptr .now; ctl = entry .args .ctl .now; heap = entry .args .heap .now; bytes = entry .args .bytes .now }) (at-check-with .check-with .last .1 .0) (at-check-with .check-with .last .1 .1 .0) (at-audit-heap .audit-heap .last .1 .0) (at-check-with .check-with .result) (at-check-with .check-with .ensures) _ (at-v .v .given .1) (at-head-at .head-at .result) (at-head-at .head-at .ensures) (at-lengths-right .lengths-right .result) (at-lengths-right .lengths-right .ensures) (at-if1 .if1 .taken) (at-audit-heap .audit-heap .result) (at-audit-heap .audit-heap .ensures) (c .before .enum-told2 .given .1) (c .if2 .taken)
+    admit-all (record {
+      file = entry .args .file .now;
+      map = entry .args .map .now;
+      main = entry .args .main .now;
+      ptr = entry .args .ptr .now;
+      ctl = entry .args .ctl .now;
+      heap = entry
+          .args .heap .now;
+      bytes = entry .args .bytes .now;
+    }) (at-check-with .check-with .last .1 .0) (at-check-with .check-with .last .1 .1 .0)
+    (at-audit-heap .audit-heap .last .1 .0) (at-check-with .check-with .result) (at-check-with .check-with .ensures) _ (at-v .v .given .1)
+    (at-head-at .head-at .result) (at-head-at .head-at .ensures) (at-lengths-right .lengths-right .result) (at-lengths-right .lengths-right .ensures)
+    (at-if1 .if1 .taken) (at-audit-heap .audit-heap .result) (at-audit-heap .audit-heap .ensures) (c .before .enum-told2 .given .1) (c .if2 .taken)
 
 same-length-4 : tie.Need-same-length-4
 same-length-4 c = search needs
@@ -87,7 +133,19 @@ returns-4 c =
     let at-v = at-head-at .before .before in
     let at-check-with = at-v .before .before .before .before in
     let entry = at-check-with .before .before .before .before .before .before .before .before .before .before in
-    admit-bytes (record { file = entry .args .file .now; map = entry .args .map .now; main = entry .args .main .now; ptr = entry .args .ptr .now; ctl = entry .args .ctl .now; heap = entry .args .heap .now; bytes = entry .args .bytes .now }) (at-check-with .check-with .last .1 .0) (at-check-with .check-with .last .1 .1 .0) (at-audit-heap .audit-heap .last .1 .0) (at-check-with .check-with .result) (at-check-with .check-with .ensures) _ (at-v .v .given .1) (at-head-at .head-at .result) (at-head-at .head-at .ensures) (at-lengths-right .lengths-right .result) (at-lengths-right .lengths-right .ensures) (at-if1 .if1 .taken) (at-audit-heap .audit-heap .result) (at-audit-heap .audit-heap .ensures) (c .before .enum-told2 .given .1) (c .if2 .left)
+    admit-bytes (record {
+      file = entry .args .file .now;
+      map = entry .args .map .now;
+      main = entry .args .main .now;
+      ptr = entry .args .ptr .now;
+      ctl = entry .args .ctl .now;
+      heap = entry
+          .args .heap .now;
+      bytes = entry .args .bytes .now;
+    }) (at-check-with .check-with .last .1 .0) (at-check-with .check-with .last .1 .1 .0)
+    (at-audit-heap .audit-heap .last .1 .0) (at-check-with .check-with .result) (at-check-with .check-with .ensures) _ (at-v .v .given .1)
+    (at-head-at .head-at .result) (at-head-at .head-at .ensures) (at-lengths-right .lengths-right .result) (at-lengths-right .lengths-right .ensures)
+    (at-if1 .if1 .taken) (at-audit-heap .audit-heap .result) (at-audit-heap .audit-heap .ensures) (c .before .enum-told2 .given .1) (c .if2 .left)
 
 same-length-5 : tie.Need-same-length-5
 same-length-5 c = search needs
@@ -96,7 +154,18 @@ returns-5 : tie.Need-returns-5
 returns-5 c =
     let at-check-with = c .before .before .before .before .before .before .before .before in
     let entry = at-check-with .before .before .before .before .before .before .before .before .before .before in
-    admit-lengths (record { file = entry .args .file .now; map = entry .args .map .now; main = entry .args .main .now; ptr = entry .args .ptr .now; ctl = entry .args .ctl .now; heap = entry .args .heap .now; bytes = entry .args .bytes .now }) (at-check-with .check-with .last .1 .0) (at-check-with .check-with .last .1 .1 .0) (entry .args .marks .now) (at-check-with .check-with .result) (at-check-with .check-with .ensures) _ (c .before .before .before .before .v .given .1) (c .before .before .head-at .result) (c .before .before .head-at .ensures) (c .before .lengths-right .result) (c .before .lengths-right .ensures) (c .if1 .left)
+    admit-lengths (record {
+      file = entry .args .file .now;
+      map = entry .args .map .now;
+      main = entry .args .main .now;
+      ptr = entry .args .ptr .now;
+      ctl = entry .args .ctl .now;
+      heap = entry
+          .args .heap .now;
+      bytes = entry .args .bytes .now;
+    }) (at-check-with .check-with .last .1 .0) (at-check-with .check-with .last .1 .1 .0) (entry .args .marks .now)
+    (at-check-with .check-with .result) (at-check-with .check-with .ensures) _ (c .before .before .before .before .v .given .1) (c .before .before .head-at .result)
+    (c .before .before .head-at .ensures) (c .before .lengths-right .result) (c .before .lengths-right .ensures) (c .if1 .left)
 
 pub admit-spec : {M : Type 1} → statement M
 admit-spec =

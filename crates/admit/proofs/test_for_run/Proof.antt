@@ -25,7 +25,33 @@ sound-state-requires c κs =
     let at-admit = at-v2 .before .before .before .before in
     let at-shared-slice-known = at-admit .before .before .before .before .before .before .before .before .before .before in
     let entry = at-shared-slice-known .before in
-    let w = test-lengths (record { file = entry .args .file .now; map = entry .args .map .now; main = entry .args .main .now; ptr = entry .args .ptr .now; ctl = entry .args .ctl .now; heap = entry .args .heap .now; bytes = entry .args .bytes .now }) (at-admit .admit .last .1 .0) (at-admit .admit .last .1 .1 .0) (at-admit .admit .last .1 .1 .1 .0) (at-admit .admit .result) (at-admit .admit .ensures) _ (at-v2 .v2 .given .1) in (test-ready (record { file = entry .args .file .now; map = entry .args .map .now; main = entry .args .main .now; ptr = entry .args .ptr .now; ctl = entry .args .ctl .now; heap = entry .args .heap .now; bytes = entry .args .bytes .now }) (at-admit .admit .last .1 .0) (at-admit .admit .last .1 .1 .0) (at-admit .admit .last .1 .1 .1 .0) (at-admit .admit .result) (at-admit .admit .ensures) _ (at-v2 .v2 .given .1) (λ i. omega (arith, at-shared-slice-known .shared-slice-known .given i)), c .before .before .before .regs-from .ensures .1, w .0, w .1)
+    let w = test-lengths (record {
+      file = entry .args .file .now;
+      map = entry .args .map .now;
+      main = entry .args .main .now;
+      ptr = entry .args .ptr .now;
+      ctl = entry .args .ctl .now;
+      heap =
+          entry .args .heap .now;
+      bytes = entry .args .bytes .now;
+    }) (at-admit .admit .last .1 .0) (at-admit .admit .last .1 .1 .0) (at-admit .admit .last .1 .1 .1 .0)
+    (at-admit .admit .result) (at-admit .admit .ensures) _ (at-v2 .v2 .given .1) in (
+      test-ready (record {
+        file = entry .args .file .now;
+        map = entry .args .map .now;
+        main = entry .args .main
+            .now;
+        ptr = entry .args .ptr .now;
+        ctl = entry .args .ctl .now;
+        heap = entry .args .heap .now;
+        bytes = entry .args .bytes .now;
+      }) (at-admit .admit .last .1 .0)
+          (at-admit .admit .last .1 .1 .0) (at-admit .admit .last .1 .1 .1 .0) (at-admit .admit .result) (at-admit .admit .ensures) _ (at-v2 .v2 .given .1)
+          (λ i. omega (arith, at-shared-slice-known .shared-slice-known .given i)),
+      c .before .before .before .regs-from .ensures .1,
+      w .0,
+      w .1,
+    )
 
 same-length : tie.Need-same-length
 same-length c = search needs
@@ -36,7 +62,18 @@ returns c =
     let at-v2 = at-regs-from .before .before in
     let at-admit = at-v2 .before .before .before .before in
     let entry = at-admit .before .before .before .before .before .before .before .before .before .before .before in
-    test-sound (record { file = entry .args .file .now; map = entry .args .map .now; main = entry .args .main .now; ptr = entry .args .ptr .now; ctl = entry .args .ctl .now; heap = entry .args .heap .now; bytes = entry .args .bytes .now }) (at-admit .admit .last .1 .0) (at-admit .admit .last .1 .1 .0) (at-admit .admit .last .1 .1 .1 .0) (at-admit .admit .result) (at-admit .admit .ensures) _ (at-v2 .v2 .given .1) (at-regs-from .regs-from .result) (at-regs-from .regs-from .ensures .0) (c .before .sound-state .result) (c .before .sound-state .ensures) (c .if1 .taken)
+    test-sound (record {
+      file = entry .args .file .now;
+      map = entry .args .map .now;
+      main = entry .args .main .now;
+      ptr = entry .args .ptr .now;
+      ctl = entry .args .ctl .now;
+      heap = entry
+          .args .heap .now;
+      bytes = entry .args .bytes .now;
+    }) (at-admit .admit .last .1 .0) (at-admit .admit .last .1 .1 .0) (at-admit .admit .last .1 .1 .1 .0)
+    (at-admit .admit .result) (at-admit .admit .ensures) _ (at-v2 .v2 .given .1) (at-regs-from .regs-from .result) (at-regs-from .regs-from .ensures .0)
+    (c .before .sound-state .result) (c .before .sound-state .ensures) (c .if1 .taken)
 
 same-length-2 : tie.Need-same-length-2
 same-length-2 c = search needs
@@ -45,7 +82,17 @@ returns-2 : tie.Need-returns-2
 returns-2 c =
     let at-admit = c .before .before .before .before .before in
     let entry = at-admit .before .before .before .before .before .before .before .before .before .before .before in
-    test-refused (record { file = entry .args .file .now; map = entry .args .map .now; main = entry .args .main .now; ptr = entry .args .ptr .now; ctl = entry .args .ctl .now; heap = entry .args .heap .now; bytes = entry .args .bytes .now }) (at-admit .admit .last .1 .0) (at-admit .admit .last .1 .1 .0) (at-admit .admit .last .1 .1 .1 .0) (at-admit .admit .result) (at-admit .admit .ensures) _ _ (c .before .v .given .1)
+    test-refused (record {
+      file = entry .args .file .now;
+      map = entry .args .map .now;
+      main = entry .args .main .now;
+      ptr = entry .args .ptr .now;
+      ctl = entry .args .ctl .now;
+      heap = entry
+          .args .heap .now;
+      bytes = entry .args .bytes .now;
+    }) (at-admit .admit .last .1 .0) (at-admit .admit .last .1 .1 .0) (at-admit .admit .last .1 .1 .1 .0)
+    (at-admit .admit .result) (at-admit .admit .ensures) _ _ (c .before .v .given .1)
 
 same-length-3 : tie.Need-same-length-3
 same-length-3 c = search needs
@@ -56,7 +103,18 @@ returns-3 c =
     let at-v2 = at-regs-from .before .before in
     let at-admit = at-v2 .before .before .before .before in
     let entry = at-admit .before .before .before .before .before .before .before .before .before .before .before in
-    test-unsound (record { file = entry .args .file .now; map = entry .args .map .now; main = entry .args .main .now; ptr = entry .args .ptr .now; ctl = entry .args .ctl .now; heap = entry .args .heap .now; bytes = entry .args .bytes .now }) (at-admit .admit .last .1 .0) (at-admit .admit .last .1 .1 .0) (at-admit .admit .last .1 .1 .1 .0) (at-admit .admit .result) (at-admit .admit .ensures) _ (at-v2 .v2 .given .1) (at-regs-from .regs-from .result) (at-regs-from .regs-from .ensures .0) (c .before .sound-state .result) (c .before .sound-state .ensures) (c .if1 .left)
+    test-unsound (record {
+      file = entry .args .file .now;
+      map = entry .args .map .now;
+      main = entry .args .main .now;
+      ptr = entry .args .ptr .now;
+      ctl = entry .args .ctl .now;
+      heap = entry
+          .args .heap .now;
+      bytes = entry .args .bytes .now;
+    }) (at-admit .admit .last .1 .0) (at-admit .admit .last .1 .1 .0) (at-admit .admit .last .1 .1 .1 .0)
+    (at-admit .admit .result) (at-admit .admit .ensures) _ (at-v2 .v2 .given .1) (at-regs-from .regs-from .result) (at-regs-from .regs-from .ensures .0)
+    (c .before .sound-state .result) (c .before .sound-state .ensures) (c .if1 .left)
 
 pub test-for-run-spec : {M : Type 1} → statement M
 test-for-run-spec =

@@ -22,7 +22,8 @@ returns : tie.Need-returns
 returns c =
     let at-passes = c .before .before .before .before in
     let entry = at-passes .before .before .before .before .before in
-    fill-kept (entry .args .file .now) (at-passes .passes .last .1 .0) (at-passes .passes .last .1 .1 .0) (at-passes .passes .result) (λ n p e. omega (arith, rw e at (c .before .match .keys2))) (at-passes .passes .ensures)
+    fill-kept (entry .args .file .now) (at-passes .passes .last .1 .0) (at-passes .passes .last .1 .1 .0) (at-passes .passes .result) (λ n p e. omega
+    (arith, rw e at (c .before .match .keys2))) (at-passes .passes .ensures)
 
 fill-requires : tie.Need-fill-requires
 fill-requires c κs = search needs
@@ -35,7 +36,9 @@ returns-2 c =
     let at-v = c .before .before .before .before .before in
     let at-passes = at-v .before .before .before .before in
     let entry = at-passes .before .before .before .before .before in
-    fill-refused (entry .args .file .now) (at-passes .passes .last .1 .0) (c .before .before .fill .last .0) (at-passes .passes .last .1 .1 .0) (at-passes .passes .result) _ _ (at-v .v .given .1) (at-passes .passes .ensures) (c .before .before .fill .ensures) (at-passes .passes .kept .1 .0 ∙ entry .pre .part)
+    fill-refused (entry .args .file .now) (at-passes .passes .last .1 .0) (c .before .before .fill .last .0) (at-passes .passes .last .1 .1 .0)
+    (at-passes .passes .result) _ _ (at-v .v .given .1) (at-passes .passes .ensures) (c .before .before .fill .ensures) (at-passes .passes .kept .1 .0
+    ∙ entry .pre .part)
 
 pub check-part-spec : {M : Type 1} → statement M
 check-part-spec =

@@ -43,7 +43,8 @@ same-length c = search needs
 returns-4 : tie.Need-returns-4
 returns-4 c =
     let entry = c .before .before .before .before .before .before .before .before .before .before in
-    check-rest (entry .args .file .now) (entry .args .map .now) (c .before .before .check-part .last .1 .1 .0) (omega arith) (omega arith) (c .before .before .check-part .last .1 .0) _ (c .before .before .check-part .result) (omega arith) (c .before .before .check-part .ensures) refl
+    check-rest (entry .args .file .now) (entry .args .map .now) (c .before .before .check-part .last .1 .1 .0) (omega arith) (omega arith) (c .before .before .check-part .last .1 .0) _
+    (c .before .before .check-part .result) (omega arith) (c .before .before .check-part .ensures) refl
 
 pub check-with-spec : {M : Type 1} → statement M
 check-with-spec =

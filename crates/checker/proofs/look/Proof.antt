@@ -19,7 +19,8 @@ flow-requires : tie.Need-flow-requires
 flow-requires c κs =
     let at-heads-of = c .before .before .before .before .before .before .before in
     let entry = at-heads-of .before .before .before .before .before in
-    look-begun (entry .args .file .now) (entry .args .m .now) (entry .args .table .now) (entry .pre) (at-heads-of .heads-of .last .1 .0) (at-heads-of .heads-of .last .1 .1 .0) _ (rw (c .before .before .before .heads2 .given .1) at (at-heads-of .heads-of .ensures))
+    look-begun (entry .args .file .now) (entry .args .m .now) (entry .args .table .now) (entry .pre) (at-heads-of .heads-of .last .1 .0) (at-heads-of .heads-of .last .1 .1 .0) _
+    (rw (c .before .before .before .heads2 .given .1) at (at-heads-of .heads-of .ensures))
 
 enum-known-a : tie.Need-enum-known-a
 enum-known-a c = search needs
@@ -33,7 +34,10 @@ returns c =
     let at-heads2 = at-flow .before .before .before .before in
     let at-heads-of = at-heads2 .before .before .before .before in
     let entry = at-heads-of .before .before .before .before .before in
-    look-passed (entry .args .file .now) (entry .args .m .now) (entry .args .table .now) (entry .pre) (at-heads-of .heads-of .last .1 .0) (at-flow .flow .last .1 .0) (at-heads-of .heads-of .last .1 .1 .0) _ (at-flow .flow .result) (rw (at-heads2 .heads2 .given .1) at (at-heads-of .heads-of .ensures)) (at-flow .flow .ensures) (λ n p e. ⊎-elim (λ z. omega arith) (⊎-elim (λ z. omega arith) (⊎-elim (λ z. omega arith) (⊎-elim (λ z. omega arith) (λ z. omega arith)))) (rw e at (c .match2 .keys2)))
+    look-passed (entry .args .file .now) (entry .args .m .now) (entry .args .table .now) (entry .pre) (at-heads-of .heads-of .last .1 .0) (at-flow .flow .last .1 .0)
+    (at-heads-of .heads-of .last .1 .1 .0) _ (at-flow .flow .result) (rw (at-heads2 .heads2 .given .1) at (at-heads-of .heads-of .ensures))
+    (at-flow .flow .ensures) (λ n p e. ⊎-elim (λ z. omega arith) (⊎-elim (λ z. omega arith) (⊎-elim (λ z. omega arith) (⊎-elim (λ z. omega arith)
+    (λ z. omega arith)))) (rw e at (c .match2 .keys2)))
 
 same-length-2 : tie.Need-same-length-2
 same-length-2 c = search needs
@@ -42,7 +46,8 @@ returns-2 : tie.Need-returns-2
 returns-2 c =
     let at-heads-of = c .before .before .before .before .before in
     let entry = at-heads-of .before .before .before .before .before in
-    look-wrong (entry .args .file .now) (entry .args .m .now) (entry .args .table .now) (entry .pre) (at-heads-of .heads-of .last .1 .0) (at-heads-of .heads-of .last .1 .1 .0) _ (rw (c .before .heads .given .1) at (at-heads-of .heads-of .ensures) .0)
+    look-wrong (entry .args .file .now) (entry .args .m .now) (entry .args .table .now) (entry .pre) (at-heads-of .heads-of .last .1 .0) (at-heads-of .heads-of .last .1 .1 .0) _
+    (rw (c .before .heads .given .1) at (at-heads-of .heads-of .ensures) .0)
 
 same-length-3 : tie.Need-same-length-3
 same-length-3 c = search needs
@@ -53,7 +58,9 @@ returns-3 c =
     let at-heads2 = at-flow .before .before .before .before in
     let at-heads-of = at-heads2 .before .before .before .before in
     let entry = at-heads-of .before .before .before .before .before in
-    look-refused (entry .args .file .now) (entry .args .m .now) (entry .args .table .now) (entry .pre) (at-heads-of .heads-of .last .1 .0) (at-flow .flow .last .1 .0) (at-heads-of .heads-of .last .1 .1 .0) _ (at-flow .flow .result) (rw (at-heads2 .heads2 .given .1) at (at-heads-of .heads-of .ensures)) (at-flow .flow .ensures) _ _ (c .before .a .given .1)
+    look-refused (entry .args .file .now) (entry .args .m .now) (entry .args .table .now) (entry .pre) (at-heads-of .heads-of .last .1 .0) (at-flow .flow .last .1 .0)
+    (at-heads-of .heads-of .last .1 .1 .0) _ (at-flow .flow .result) (rw (at-heads2 .heads2 .given .1) at (at-heads-of .heads-of .ensures))
+    (at-flow .flow .ensures) _ _ (c .before .a .given .1)
 
 pub look-spec : {M : Type 1} → statement M
 look-spec =

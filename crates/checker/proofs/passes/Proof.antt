@@ -24,7 +24,8 @@ look-requires c κs =
     let at-scan = c .before .before .before .before .before .before in
     let at-fill = at-scan .before .before .before .before in
     let entry = at-fill .before .before .before .before in
-    look-whole (entry .args .file .now) (entry .args .m .now) (at-fill .fill .last .0) (at-scan .scan .last .1 .0) (entry .args .table .now) (entry .pre) (at-fill .fill .ensures) (at-scan .scan .result) (at-scan .scan .ensures) (c .before .before .enum-told .given .1)
+    look-whole (entry .args .file .now) (entry .args .m .now) (at-fill .fill .last .0) (at-scan .scan .last .1 .0) (entry .args .table .now) (entry .pre)
+    (at-fill .fill .ensures) (at-scan .scan .result) (at-scan .scan .ensures) (c .before .before .enum-told .given .1)
 
 same-length : tie.Need-same-length
 same-length c = search needs
@@ -34,7 +35,8 @@ returns c =
     let at-scan = c .before .before .before .before .before in
     let at-fill = at-scan .before .before .before .before in
     let entry = at-fill .before .before .before .before in
-    look-broken (entry .args .file .now) (entry .args .m .now) (at-fill .fill .last .0) (at-scan .scan .last .1 .0) (entry .args .table .now) (entry .pre) (at-fill .fill .ensures) _ (at-scan .scan .result) (at-scan .scan .ensures) (c .before .found .given .1)
+    look-broken (entry .args .file .now) (entry .args .m .now) (at-fill .fill .last .0) (at-scan .scan .last .1 .0) (entry .args .table .now) (entry .pre)
+    (at-fill .fill .ensures) _ (at-scan .scan .result) (at-scan .scan .ensures) (c .before .found .given .1)
 
 same-length-2 : tie.Need-same-length-2
 same-length-2 c = search needs

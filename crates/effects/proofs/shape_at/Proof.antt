@@ -51,7 +51,9 @@ unfolding bodyOf bodies codes
 operand-requires-2 c κs = room (c .before .before .before .pre .1) 2 (ap bodyOf (c .match .keys10))
 
 add-leads : tie.Need-add-leads
-add-leads c = omega (arith, c .before .before .before .before .pre .1, after-above (c .before .before .before .before .args .file .now) (c .before .before .before .before .args .p))
+add-leads c =
+    let entry = c .before .before .before .before in
+    omega (arith, entry .pre .1, after-above (entry .args .file .now) (entry .args .p))
 
 leads-requires : tie.Need-leads-requires
 leads-requires c κs = search needs
@@ -66,10 +68,14 @@ effect-requires-10 : tie.Need-effect-requires-10
 effect-requires-10 c κs = search needs
 
 jumps-requires : tie.Need-jumps-requires
-jumps-requires c κs = (room (c .before .before .before .before .before .pre .1) 2 (body-jumps _ (omega arith) (omega arith)), omega arith, omega arith)
+jumps-requires c κs =
+    let entry = c .before .before .before .before .before in
+    (room (entry .pre .1) 2 (body-jumps _ (omega arith) (omega arith)), omega arith, omega arith)
 
 locals-requires : tie.Need-locals-requires
-locals-requires c κs = (room (c .before .before .before .before .before .before .before .pre .1) 2 (body-locals _ (omega arith) (omega arith)), omega arith, omega arith)
+locals-requires c κs =
+    let entry = c .before .before .before .before .before .before .before in
+    (room (entry .pre .1) 2 (body-locals _ (omega arith) (omega arith)), omega arith, omega arith)
 
 fields-requires : tie.Need-fields-requires
 fields-requires c κs = search needs
@@ -115,7 +121,9 @@ returns-9 c = rw (c .effect7 .ensures) (⊎-elim (λ e. rw e) (λ e. rw e) (c .b
 
 returns-10 : tie.Need-returns-10
 unfolding insAt insOf shapeOf basicEffect handlerAt
-returns-10 c = rw (c .leads .ensures, c .before .before .match .keys10, c .before .operand2 .ensures .is, c .before .before .before .before .before .pre .1 .head)
+returns-10 c =
+    let entry = c .before .before .before .before .before in
+    rw (c .leads .ensures, c .before .before .match .keys10, c .before .operand2 .ensures .is, entry .pre .1 .head)
 
 returns-11 : tie.Need-returns-11
 unfolding insAt insOf shapeOf basicEffect
@@ -146,8 +154,9 @@ returns-16 c = c .fields .ensures _ _
 returns-17 : tie.Need-returns-17
 unfolding insAt shapeOf
 returns-17 c =
-    let f = c .before .before .before .before .before .args .file .now in
-    let p = c .before .before .before .before .before .args .p in
+    let entry = c .before .before .before .before .before in
+    let f = entry .args .file .now in
+    let p = entry .args .p in
     let between : Between (byteAt f p) =
     ⊎-elim
     (λ t. inl (omega arith))

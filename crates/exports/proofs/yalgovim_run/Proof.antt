@@ -33,7 +33,17 @@ returns : tie.Need-returns
 returns c =
     let at-run = c .before .before .before .before .before .before .before .before .before .before .before .before .before in
     let entry = at-run .before .before .before .before .before .before .before .before .before .before .before .before .before .before in
-    call-replies (c .told .result) (at-run .run .result) (record { file = entry .args .file .now; map = at-run .run .last .1 .0; main = at-run .run .last .1 .1 .0; ptr = at-run .run .last .1 .1 .1 .0; ctl = at-run .run .last .1 .1 .1 .1 .0; heap = at-run .run .last .1 .1 .1 .1 .1 .0; bytes = at-run .run .last .1 .1 .1 .1 .1 .1 .0 }) _ (c .told .ensures) (at-run .run .ensures)
+    call-replies (c .told .result) (at-run .run .result) (record {
+      file = entry .args .file .now;
+      map = at-run .run .last .1 .0;
+      main = at-run .run .last .1 .1 .0;
+      ptr = at-run .run .last .1
+          .1 .1 .0;
+      ctl = at-run .run .last .1 .1 .1 .1 .0;
+      heap = at-run .run .last .1 .1 .1 .1 .1 .0;
+      bytes = at-run .run .last .1 .1 .1 .1 .1 .1 .0;
+    }) _
+    (c .told .ensures) (at-run .run .ensures)
 
 pub yalgovim-run-spec : {M : Type 1} → statement M
 yalgovim-run-spec =

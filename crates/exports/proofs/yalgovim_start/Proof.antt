@@ -30,7 +30,17 @@ returns : tie.Need-returns
 returns c =
     let at-start = c .before .before .before .before .before .before .before .before .before .before .before in
     let entry = at-start .before .before .before .before .before .before .before .before .before .before .before .before .before in
-    call-replies (c .told .result) (at-start .start .result) (record { file = entry .args .file .now; map = at-start .start .last .1 .0; main = at-start .start .last .1 .1 .0; ptr = at-start .start .last .1 .1 .1 .0; ctl = at-start .start .last .1 .1 .1 .1 .0; heap = entry .args .heap .now; bytes = at-start .start .last .1 .1 .1 .1 .1 .1 .0 }) _ (c .told .ensures) (at-start .start .ensures)
+    call-replies (c .told .result) (at-start .start .result) (record {
+      file = entry .args .file .now;
+      map = at-start .start .last .1 .0;
+      main = at-start .start .last .1 .1 .0;
+      ptr = at-start
+          .start .last .1 .1 .1 .0;
+      ctl = at-start .start .last .1 .1 .1 .1 .0;
+      heap = entry .args .heap .now;
+      bytes = at-start .start .last .1 .1 .1 .1 .1 .1 .0;
+    }) _
+    (c .told .ensures) (at-start .start .ensures)
 
 pub yalgovim-start-spec : {M : Type 1} → statement M
 yalgovim-start-spec =

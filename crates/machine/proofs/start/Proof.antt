@@ -50,7 +50,17 @@ returns : tie.Need-returns
 returns c =
     let at-admit = c .before .before .before .before .before in
     let entry = at-admit .before .before .before .before .before .before .before .before .before .before .before .before .before .before .before in
-    start-refused (record { file = entry .args .file .now; map = entry .args .map .now; main = entry .args .main .now; ptr = entry .args .ptr .now; ctl = entry .args .ctl .now; heap = entry .args .heap .now; bytes = entry .args .bytes .now }) (at-admit .admit .last .1 .0) (at-admit .admit .last .1 .1 .0) (at-admit .admit .last .1 .1 .1 .0) (at-admit .admit .result) (at-admit .admit .ensures) _ _ (c .before .v .given .1)
+    start-refused (record {
+      file = entry .args .file .now;
+      map = entry .args .map .now;
+      main = entry .args .main .now;
+      ptr = entry .args .ptr .now;
+      ctl = entry .args .ctl .now;
+      heap = entry
+          .args .heap .now;
+      bytes = entry .args .bytes .now;
+    }) (at-admit .admit .last .1 .0) (at-admit .admit .last .1 .1 .0) (at-admit .admit .last .1 .1 .1 .0)
+    (at-admit .admit .result) (at-admit .admit .ensures) _ _ (c .before .v .given .1)
 
 same-length-6 : tie.Need-same-length-6
 same-length-6 c = search needs
@@ -75,7 +85,18 @@ returns-2 c =
     let at-enum-told = at-clear .before .before in
     let at-admit = at-enum-told .before .before .before .before in
     let entry = at-admit .before .before .before .before .before .before .before .before .before .before .before .before .before .before .before in
-    start-ready (record { file = entry .args .file .now; map = entry .args .map .now; main = entry .args .main .now; ptr = entry .args .ptr .now; ctl = entry .args .ctl .now; heap = entry .args .heap .now; bytes = entry .args .bytes .now }) (at-admit .admit .last .1 .0) (at-admit .admit .last .1 .1 .0) (at-admit .admit .last .1 .1 .1 .0) (at-admit .admit .result) (at-admit .admit .ensures) _ (at-enum-told .enum-told .given .1) _ _ _ _ (at-clear .clear .ensures) (at-clear2 .clear2 .ensures) (at-clear3 .clear3 .ensures) (rw (c .before .before .before .first .ensures) at (c .before .before .put-regs .ensures))
+    start-ready (record {
+      file = entry .args .file .now;
+      map = entry .args .map .now;
+      main = entry .args .main .now;
+      ptr = entry .args .ptr .now;
+      ctl = entry .args .ctl .now;
+      heap = entry
+          .args .heap .now;
+      bytes = entry .args .bytes .now;
+    }) (at-admit .admit .last .1 .0) (at-admit .admit .last .1 .1 .0) (at-admit .admit .last .1 .1 .1 .0)
+    (at-admit .admit .result) (at-admit .admit .ensures) _ (at-enum-told .enum-told .given .1) _ _ _ _ (at-clear .clear .ensures) (at-clear2 .clear2 .ensures)
+    (at-clear3 .clear3 .ensures) (rw (c .before .before .before .first .ensures) at (c .before .before .put-regs .ensures))
 
 pub start-spec : {M : Type 1} → statement M
 start-spec =

@@ -30,15 +30,26 @@ answered-requires c κs = search needs
 
 returns : tie.Need-returns Inv-loop μ-loop
 returns c =
-    let S = c .before .before .before .before .before .before .before .before in rw (c .answered .ensures) (sym (finished-at (S .args .file .now) (S .args .table .now) (S .args .budget) 0 (record { regs = S .args .regs; main = S .args .main .now; ptr = S .args .ptr .now; ctl = S .args .ctl .now; heap = S .args .heap .now }) (c .before .if1 .taken)))
+    let back8 = c .before .before .before .before .before .before .before .before in
+    let S = back8 in rw (c .answered .ensures) (sym (finished-at (S .args .file .now) (S .args .table .now) (S .args .budget) 0 (record {
+      regs = S .args .regs;
+      main = S .args .main .now;
+      ptr
+          = S .args .ptr .now;
+      ctl = S .args .ctl .now;
+      heap = S .args .heap .now;
+    }) (c .before .if1 .taken)))
 
 go-on-requires : tie.Need-go-on-requires Inv-loop μ-loop
-go-on-requires c κs = (c .before .before .before .before .before .before .before .before .before .before .before .pre, c .before .before .before .before .if1 .left)
+go-on-requires c κs =
+    let entry = c .before .before .before .before .before .before .before .before .before .before .before in
+    (entry .pre, c .before .before .before .before .if1 .left)
 
 loop-holds : tie.Need-loop-holds Inv-loop μ-loop
 loop-holds c =
-    let S = c .before .before .before .before .before .before .before .before .before .before .before .before .before .before .before .before .before .before .before .before .before in
-    let P = c .before .before .before .before .before .before .before .before .before .go-on .ensures in
+    let at-go-on = c .before .before .before .before .before .before .before .before .before in
+    let S = at-go-on .before .before .before .before .before .before .before .before .before .before .before .before in
+    let P = at-go-on .go-on .ensures in
     record { going = going-start (S .args .file .now) (S .args .table .now) _ _ (P .going .runs); on? = P .on?; stopped = P .stopped }
 
 sub-after : tie.Need-sub-after Inv-loop μ-loop
@@ -46,83 +57,215 @@ sub-after c = omega arith
 
 step-with-requires : tie.Need-step-with-requires Inv-loop μ-loop
 step-with-requires c κs =
-    let L = c .before .before .before .before .before .loop in
+    let at-loop = c .before .before .before .before .before in
+    let L = at-loop .loop in
     let P = L .inv .stopped (c .before .before .before .before .loop-test .taken) in
     (rw (P .is) (alive-settles (L .inv .going .runs .alive) (L .inv .on?)), P .late)
 
 sub-done : tie.Need-sub-done Inv-loop μ-loop
-sub-done c = omega (arith, c .before .before .before .before .before .before .before .before .before .before .before .before .before .before .before .loop .inv .going .less, c .before .before .before .before .before .before .before .before .before .before .before .before .before .before .before .before .before .before .before .before .before .before .before .before .before .go-on .ensures .going .less)
+sub-done c =
+    let at-loop = c .before .before .before .before .before .before .before .before .before .before .before .before .before .before .before in
+    let at-go-on = at-loop .before .before .before .before .before .before .before .before .before .before in
+    omega (arith, at-loop .loop .inv .going .less, at-go-on .go-on .ensures .going .less)
 
 answered-requires-2 : tie.Need-answered-requires-2 Inv-loop μ-loop
 answered-requires-2 c κs = search needs
 
 same-length : tie.Need-same-length Inv-loop μ-loop
-same-length c = c .before .before .before .before .before .before .before .before .before .before .before .step-with .kept .1 .1 .0 ∙ c .before .before .before .before .before .before .before .before .before .before .before .before .before .before .before .before .before .loop .inv .going .alike .main ∙ c .before .before .before .before .before .before .before .before .before .before .before .before .before .before .before .before .before .before .before .before .before .before .before .before .before .before .before .go-on .ensures .going .alike .main
+same-length c =
+    let at-step-with = c .before .before .before .before .before .before .before .before .before .before .before in
+    let at-loop = at-step-with .before .before .before .before .before .before in
+    let at-go-on = at-loop .before .before .before .before .before .before .before .before .before .before in
+    at-step-with .step-with .kept .1 .1 .0 ∙ at-loop .loop .inv .going .alike .main ∙ at-go-on .go-on .ensures .going .alike .main
 
 same-length-2 : tie.Need-same-length-2 Inv-loop μ-loop
-same-length-2 c = c .before .before .before .before .before .before .before .before .before .before .before .step-with .kept .1 .1 .1 .0 ∙ c .before .before .before .before .before .before .before .before .before .before .before .before .before .before .before .before .before .loop .inv .going .alike .ptr ∙ c .before .before .before .before .before .before .before .before .before .before .before .before .before .before .before .before .before .before .before .before .before .before .before .before .before .before .before .go-on .ensures .going .alike .ptr
+same-length-2 c =
+    let at-step-with = c .before .before .before .before .before .before .before .before .before .before .before in
+    let at-loop = at-step-with .before .before .before .before .before .before in
+    let at-go-on = at-loop .before .before .before .before .before .before .before .before .before .before in
+    at-step-with .step-with .kept .1 .1 .1 .0 ∙ at-loop .loop .inv .going .alike .ptr ∙ at-go-on .go-on .ensures .going .alike .ptr
 
 same-length-3 : tie.Need-same-length-3 Inv-loop μ-loop
-same-length-3 c = c .before .before .before .before .before .before .before .before .before .before .before .step-with .kept .1 .1 .1 .1 .0 ∙ c .before .before .before .before .before .before .before .before .before .before .before .before .before .before .before .before .before .loop .inv .going .alike .ctl ∙ c .before .before .before .before .before .before .before .before .before .before .before .before .before .before .before .before .before .before .before .before .before .before .before .before .before .before .before .go-on .ensures .going .alike .ctl
+same-length-3 c =
+    let at-step-with = c .before .before .before .before .before .before .before .before .before .before .before in
+    let at-loop = at-step-with .before .before .before .before .before .before in
+    let at-go-on = at-loop .before .before .before .before .before .before .before .before .before .before in
+    at-step-with .step-with .kept .1 .1 .1 .1 .0 ∙ at-loop .loop .inv .going .alike .ctl ∙ at-go-on .go-on .ensures .going .alike .ctl
 
 same-length-4 : tie.Need-same-length-4 Inv-loop μ-loop
-same-length-4 c = c .before .before .before .before .before .before .before .before .before .before .before .step-with .kept .1 .1 .1 .1 .1 .0 ∙ c .before .before .before .before .before .before .before .before .before .before .before .before .before .before .before .before .before .loop .inv .going .alike .heap ∙ c .before .before .before .before .before .before .before .before .before .before .before .before .before .before .before .before .before .before .before .before .before .before .before .before .before .before .before .go-on .ensures .going .alike .heap
+same-length-4 c =
+    let at-step-with = c .before .before .before .before .before .before .before .before .before .before .before in
+    let at-loop = at-step-with .before .before .before .before .before .before in
+    let at-go-on = at-loop .before .before .before .before .before .before .before .before .before .before in
+    at-step-with .step-with .kept .1 .1 .1 .1 .1 .0 ∙ at-loop .loop .inv .going .alike .heap ∙ at-go-on .go-on .ensures .going .alike .heap
 
 returns-2 : tie.Need-returns-2 Inv-loop μ-loop
 returns-2 c =
-    let S = c .before .before .before .before .before .before .before .before .before .before .before .before .before .before .before .before .before .before .before .before .before .before .before .before .before .before .before .before .before .before .before .before .before .before .before .before .before .before .before in
-    let L = c .before .before .before .before .before .before .before .before .before .before .before .before .before .before .before .before .before .loop in
+    let at-step-with = c .before .before .before .before .before .before .before .before .before .before .before in
+    let at-loop-test = at-step-with .before .before .before .before .before in
+    let at-loop = at-loop-test .before in
+    let at-go-on = at-loop .before .before .before .before .before .before .before .before .before .before in
+    let S = at-go-on .before .before .before .before .before .before .before .before .before .before .before .before in
+    let L = at-loop .loop in
     rw (c .answered2 .ensures)
-    (going-uncaught (S .args .file .now) (S .args .table .now) (L .left) (record { regs = L .r; main = L .main; ptr = L .ptr; ctl = L .ctl; heap = L .heap }) (L .inv .going .runs) (c .before .before .before .before .before .before .before .before .before .before .before .before .before .before .before .before .loop-test .taken) (L .inv .on?) (L .plan)
-    (L .inv .stopped (c .before .before .before .before .before .before .before .before .before .before .before .before .before .before .before .before .loop-test .taken) .is) (c .before .before .before .before .before .before .before .before .before .before .before .step-with .result) _ (c .before .before .before .before .before .before .before .before .before .before .before .step-with .ensures) (S .args .budget) (record { regs = S .args .regs; main = S .args .main .now; ptr = S .args .ptr .now; ctl = S .args .ctl .now; heap = S .args .heap .now })
-    (going-trans (S .args .file .now) (S .args .table .now) (S .args .budget) (record { regs = S .args .regs; main = S .args .main .now; ptr = S .args .ptr .now; ctl = S .args .ctl .now; heap = S .args .heap .now }) _ _ (L .left) (record { regs = L .r; main = L .main; ptr = L .ptr; ctl = L .ctl; heap = L .heap }) (c .before .before .before .before .before .before .before .before .before .before .before .before .before .before .before .before .before .before .before .before .before .before .before .before .before .before .before .go-on .ensures .going) (L .inv .going)) (went-off? _ (c .before .before .if2 .taken)))
+    (going-uncaught (S .args .file .now) (S .args .table .now) (L .left) (record { regs = L .r; main = L .main; ptr = L .ptr; ctl = L .ctl; heap = L .heap })
+    (L .inv .going .runs) (at-loop-test .loop-test .taken) (L .inv .on?) (L .plan)
+    (L .inv .stopped (at-loop-test .loop-test .taken) .is) (at-step-with .step-with .result) _ (at-step-with .step-with .ensures) (S .args .budget)
+    (record { regs = S .args .regs; main = S .args .main .now; ptr = S .args .ptr .now; ctl = S .args .ctl .now; heap = S .args .heap .now })
+    (going-trans (S .args .file .now) (S .args .table .now) (S .args .budget) (record {
+      regs = S .args .regs;
+      main = S .args .main .now;
+      ptr = S .args .ptr .now;
+      ctl = S .args .ctl .now;
+      heap = S .args .heap .now;
+    }) _ _ (L .left) (record { regs = L .r; main = L .main; ptr = L .ptr; ctl = L .ctl; heap = L .heap }) (at-go-on .go-on .ensures .going)
+    (L .inv .going)) (went-off? _ (c .before .before .if2 .taken)))
 
 sub-done-2 : tie.Need-sub-done-2 Inv-loop μ-loop
-sub-done-2 c = omega (arith, c .before .before .before .before .before .before .before .before .before .before .before .before .before .before .before .before .before .before .loop .inv .going .less, c .before .before .before .before .before .before .before .before .before .before .before .before .before .before .before .before .before .before .before .before .before .before .before .before .before .before .before .before .go-on .ensures .going .less)
+sub-done-2 c =
+    let at-loop = c .before .before .before .before .before .before .before .before .before .before .before .before .before .before .before .before .before .before in
+    let at-go-on = at-loop .before .before .before .before .before .before .before .before .before .before in
+    omega (arith, at-loop .loop .inv .going .less, at-go-on .go-on .ensures .going .less)
 
 answered-requires-3 : tie.Need-answered-requires-3 Inv-loop μ-loop
 answered-requires-3 c κs = search needs
 
 same-length-5 : tie.Need-same-length-5 Inv-loop μ-loop
-same-length-5 c = c .before .before .before .before .before .before .before .before .before .before .before .before .before .step-with .kept .1 .1 .0 ∙ c .before .before .before .before .before .before .before .before .before .before .before .before .before .before .before .before .before .before .before .loop .inv .going .alike .main ∙ c .before .before .before .before .before .before .before .before .before .before .before .before .before .before .before .before .before .before .before .before .before .before .before .before .before .before .before .before .before .go-on .ensures .going .alike .main
+same-length-5 c =
+    let at-step-with = c .before .before .before .before .before .before .before .before .before .before .before .before .before in
+    let at-loop = at-step-with .before .before .before .before .before .before in
+    let at-go-on = at-loop .before .before .before .before .before .before .before .before .before .before in
+    at-step-with .step-with .kept .1 .1 .0 ∙ at-loop .loop .inv .going .alike .main ∙ at-go-on .go-on .ensures .going .alike .main
 
 same-length-6 : tie.Need-same-length-6 Inv-loop μ-loop
-same-length-6 c = c .before .before .before .before .before .before .before .before .before .before .before .before .before .step-with .kept .1 .1 .1 .0 ∙ c .before .before .before .before .before .before .before .before .before .before .before .before .before .before .before .before .before .before .before .loop .inv .going .alike .ptr ∙ c .before .before .before .before .before .before .before .before .before .before .before .before .before .before .before .before .before .before .before .before .before .before .before .before .before .before .before .before .before .go-on .ensures .going .alike .ptr
+same-length-6 c =
+    let at-step-with = c .before .before .before .before .before .before .before .before .before .before .before .before .before in
+    let at-loop = at-step-with .before .before .before .before .before .before in
+    let at-go-on = at-loop .before .before .before .before .before .before .before .before .before .before in
+    at-step-with .step-with .kept .1 .1 .1 .0 ∙ at-loop .loop .inv .going .alike .ptr ∙ at-go-on .go-on .ensures .going .alike .ptr
 
 same-length-7 : tie.Need-same-length-7 Inv-loop μ-loop
-same-length-7 c = c .before .before .before .before .before .before .before .before .before .before .before .before .before .step-with .kept .1 .1 .1 .1 .0 ∙ c .before .before .before .before .before .before .before .before .before .before .before .before .before .before .before .before .before .before .before .loop .inv .going .alike .ctl ∙ c .before .before .before .before .before .before .before .before .before .before .before .before .before .before .before .before .before .before .before .before .before .before .before .before .before .before .before .before .before .go-on .ensures .going .alike .ctl
+same-length-7 c =
+    let at-step-with = c .before .before .before .before .before .before .before .before .before .before .before .before .before in
+    let at-loop = at-step-with .before .before .before .before .before .before in
+    let at-go-on = at-loop .before .before .before .before .before .before .before .before .before .before in
+    at-step-with .step-with .kept .1 .1 .1 .1 .0 ∙ at-loop .loop .inv .going .alike .ctl ∙ at-go-on .go-on .ensures .going .alike .ctl
 
 same-length-8 : tie.Need-same-length-8 Inv-loop μ-loop
-same-length-8 c = c .before .before .before .before .before .before .before .before .before .before .before .before .before .step-with .kept .1 .1 .1 .1 .1 .0 ∙ c .before .before .before .before .before .before .before .before .before .before .before .before .before .before .before .before .before .before .before .loop .inv .going .alike .heap ∙ c .before .before .before .before .before .before .before .before .before .before .before .before .before .before .before .before .before .before .before .before .before .before .before .before .before .before .before .before .before .go-on .ensures .going .alike .heap
+same-length-8 c =
+    let at-step-with = c .before .before .before .before .before .before .before .before .before .before .before .before .before in
+    let at-loop = at-step-with .before .before .before .before .before .before in
+    let at-go-on = at-loop .before .before .before .before .before .before .before .before .before .before in
+    at-step-with .step-with .kept .1 .1 .1 .1 .1 .0 ∙ at-loop .loop .inv .going .alike .heap ∙ at-go-on .go-on .ensures .going .alike .heap
 
 returns-3 : tie.Need-returns-3 Inv-loop μ-loop
 returns-3 c =
-    let S = c .before .before .before .before .before .before .before .before .before .before .before .before .before .before .before .before .before .before .before .before .before .before .before .before .before .before .before .before .before .before .before .before .before .before .before .before .before .before .before .before .before in
-    let L = c .before .before .before .before .before .before .before .before .before .before .before .before .before .before .before .before .before .before .before .loop in
+    let at-step-with = c .before .before .before .before .before .before .before .before .before .before .before .before .before in
+    let at-loop-test = at-step-with .before .before .before .before .before in
+    let at-loop = at-loop-test .before in
+    let at-go-on = at-loop .before .before .before .before .before .before .before .before .before .before in
+    let S = at-go-on .before .before .before .before .before .before .before .before .before .before .before .before in
+    let L = at-loop .loop in
     rw (c .answered3 .ensures)
-    (going-finished (S .args .file .now) (S .args .table .now) (S .args .budget) (record { regs = S .args .regs; main = S .args .main .now; ptr = S .args .ptr .now; ctl = S .args .ctl .now; heap = S .args .heap .now }) (L .left - 1) _
-    (going-on (S .args .file .now) (S .args .table .now) (L .left) (record { regs = L .r; main = L .main; ptr = L .ptr; ctl = L .ctl; heap = L .heap }) (L .inv .going .runs) (c .before .before .before .before .before .before .before .before .before .before .before .before .before .before .before .before .before .before .loop-test .taken) (L .inv .on?) (L .plan) (L .inv .stopped (c .before .before .before .before .before .before .before .before .before .before .before .before .before .before .before .before .before .before .loop-test .taken) .is) (c .before .before .before .before .before .before .before .before .before .before .before .before .before .step-with .result) _ (c .before .before .before .before .before .before .before .before .before .before .before .before .before .step-with .ensures) (S .args .budget) (record { regs = S .args .regs; main = S .args .main .now; ptr = S .args .ptr .now; ctl = S .args .ctl .now; heap = S .args .heap .now }) (going-trans (S .args .file .now) (S .args .table .now) (S .args .budget) (record { regs = S .args .regs; main = S .args .main .now; ptr = S .args .ptr .now; ctl = S .args .ctl .now; heap = S .args .heap .now }) _ _ (L .left) (record { regs = L .r; main = L .main; ptr = L .ptr; ctl = L .ctl; heap = L .heap }) (c .before .before .before .before .before .before .before .before .before .before .before .before .before .before .before .before .before .before .before .before .before .before .before .before .before .before .before .before .before .go-on .ensures .going) (L .inv .going)) (went-on? _ (c .before .before .before .before .if2 .left)) (record { main = c .before .before .before .before .before .before .before .before .before .before .before .before .before .step-with .kept .1 .1 .0; ptr = c .before .before .before .before .before .before .before .before .before .before .before .before .before .step-with .kept .1 .1 .1 .0; ctl = c .before .before .before .before .before .before .before .before .before .before .before .before .before .step-with .kept .1 .1 .1 .1 .0; heap = c .before .before .before .before .before .before .before .before .before .before .before .before .before .step-with .kept .1 .1 .1 .1 .1 .0 })) (c .before .if3 .taken))
+    (going-finished (S .args .file .now) (S .args .table .now) (S .args .budget) (record {
+      regs = S .args .regs;
+      main = S .args .main .now;
+      ptr = S .args .ptr .now;
+      ctl = S .args .ctl .now;
+      heap = S .args .heap .now;
+    }) (L .left - 1) _
+    (going-on (S .args .file .now) (S .args .table .now) (L .left) (record { regs = L .r; main = L .main; ptr = L .ptr; ctl = L .ctl; heap = L .heap })
+    (L .inv .going .runs) (at-loop-test .loop-test .taken) (L .inv .on?) (L .plan) (L .inv .stopped (at-loop-test .loop-test .taken) .is)
+    (at-step-with .step-with .result) _ (at-step-with .step-with .ensures) (S .args .budget) (record {
+      regs = S .args .regs;
+      main = S .args .main .now;
+      ptr = S .args .ptr .now;
+      ctl = S .args
+          .ctl .now;
+      heap = S .args .heap .now;
+    }) (going-trans (S .args .file .now) (S .args .table .now) (S .args .budget) (record {
+      regs = S .args .regs;
+      main = S .args .main .now;
+      ptr = S .args
+          .ptr .now;
+      ctl = S .args .ctl .now;
+      heap = S .args .heap .now;
+    }) _ _ (L .left) (record { regs = L .r; main = L .main; ptr = L .ptr; ctl = L .ctl; heap = L .heap })
+    (at-go-on .go-on .ensures .going) (L .inv .going)) (went-on? _ (c .before .before .before .before .if2 .left)) (record {
+      main = at-step-with .step-with .kept .1 .1 .0;
+      ptr = at-step-with
+          .step-with .kept .1 .1 .1 .0;
+      ctl = at-step-with .step-with .kept .1 .1 .1 .1 .0;
+      heap = at-step-with .step-with .kept .1 .1 .1 .1 .1 .0;
+    })) (c .before .if3 .taken))
 
 go-on-requires-2 : tie.Need-go-on-requires-2 Inv-loop μ-loop
 go-on-requires-2 c κs =
-    let S = c .before .before .before .before .before .before .before .before .before .before .before .before .before .before .before .before .before .before .before .before .before .before .before .before .before .before .before .before .before .before .before .before .before .before .before .before .before .before .before .before .before .before .before .before in
-    let L = c .before .before .before .before .before .before .before .before .before .before .before .before .before .before .before .before .before .before .before .before .before .before .loop in
-    (going-on (S .args .file .now) (S .args .table .now) (L .left) (record { regs = L .r; main = L .main; ptr = L .ptr; ctl = L .ctl; heap = L .heap }) (L .inv .going .runs) (c .before .before .before .before .before .before .before .before .before .before .before .before .before .before .before .before .before .before .before .before .before .loop-test .taken) (L .inv .on?) (L .plan) (L .inv .stopped (c .before .before .before .before .before .before .before .before .before .before .before .before .before .before .before .before .before .before .before .before .before .loop-test .taken) .is) (c .before .before .before .before .before .before .before .before .before .before .before .before .before .before .before .before .step-with .result) _ (c .before .before .before .before .before .before .before .before .before .before .before .before .before .before .before .before .step-with .ensures) (S .args .budget) (record { regs = S .args .regs; main = S .args .main .now; ptr = S .args .ptr .now; ctl = S .args .ctl .now; heap = S .args .heap .now }) (going-trans (S .args .file .now) (S .args .table .now) (S .args .budget) (record { regs = S .args .regs; main = S .args .main .now; ptr = S .args .ptr .now; ctl = S .args .ctl .now; heap = S .args .heap .now }) _ _ (L .left) (record { regs = L .r; main = L .main; ptr = L .ptr; ctl = L .ctl; heap = L .heap }) (c .before .before .before .before .before .before .before .before .before .before .before .before .before .before .before .before .before .before .before .before .before .before .before .before .before .before .before .before .before .before .before .before .go-on .ensures .going) (L .inv .going)) (went-on? _ (c .before .before .before .before .before .before .before .if2 .left)) (record { main = c .before .before .before .before .before .before .before .before .before .before .before .before .before .before .before .before .step-with .kept .1 .1 .0; ptr = c .before .before .before .before .before .before .before .before .before .before .before .before .before .before .before .before .step-with .kept .1 .1 .1 .0; ctl = c .before .before .before .before .before .before .before .before .before .before .before .before .before .before .before .before .step-with .kept .1 .1 .1 .1 .0; heap = c .before .before .before .before .before .before .before .before .before .before .before .before .before .before .before .before .step-with .kept .1 .1 .1 .1 .1 .0 }) .runs, c .before .before .before .before .if3 .left)
+    let at-if2 = c .before .before .before .before .before .before .before in
+    let at-step-with = at-if2 .before .before .before .before .before .before .before .before .before in
+    let at-loop-test = at-step-with .before .before .before .before .before in
+    let at-loop = at-loop-test .before in
+    let at-go-on = at-loop .before .before .before .before .before .before .before .before .before .before in
+    let S = at-go-on .before .before .before .before .before .before .before .before .before .before .before .before in
+    let L = at-loop .loop in (
+      going-on (S .args .file .now) (S .args .table .now) (L .left) (record { regs = L .r; main = L .main; ptr = L .ptr; ctl = L .ctl; heap = L .heap })
+          (L .inv .going .runs) (at-loop-test .loop-test .taken) (L .inv .on?) (L .plan) (L .inv .stopped (at-loop-test .loop-test .taken) .is)
+          (at-step-with .step-with .result) _ (at-step-with .step-with .ensures) (S .args .budget) (record {
+            regs = S .args .regs;
+            main = S .args .main .now;
+            ptr = S .args .ptr .now;
+            ctl = S .args
+                .ctl .now;
+            heap = S .args .heap .now;
+          }) (going-trans (S .args .file .now) (S .args .table .now) (S .args .budget) (record {
+            regs = S .args .regs;
+            main = S .args .main .now;
+            ptr = S .args
+                .ptr .now;
+            ctl = S .args .ctl .now;
+            heap = S .args .heap .now;
+          }) _ _ (L .left) (record { regs = L .r; main = L .main; ptr = L .ptr; ctl = L .ctl; heap = L .heap })
+          (at-go-on .go-on .ensures .going) (L .inv .going)) (went-on? _ (at-if2 .if2 .left)) (record {
+            main = at-step-with .step-with .kept .1 .1 .0;
+            ptr = at-step-with .step-with .kept .1 .1 .1
+                .0;
+            ctl = at-step-with .step-with .kept .1 .1 .1 .1 .0;
+            heap = at-step-with .step-with .kept .1 .1 .1 .1 .1 .0;
+          }) .runs,
+      c .before .before .before .before .if3 .left,
+    )
 
 loop-less : tie.Need-loop-less Inv-loop μ-loop
-loop-less c = omega (arith, c .before .before .before .before .before .before .before .before .before .go-on2 .ensures .going .less, c .before .before .before .before .before .before .before .before .before .before .before .before .before .before .before .before .before .before .before .before .before .before .before .before .before .before .before .before .before .before .before .loop-test .taken)
+loop-less c =
+    let at-go-on2 = c .before .before .before .before .before .before .before .before .before in
+    let far27 = at-go-on2 .before .before .before .before .before .before .before .before .before .before .before .before .before .before .before .before .before .before in
+    let at-loop-test = far27 .before .before .before .before in
+    omega (arith, at-go-on2 .go-on2 .ensures .going .less, at-loop-test .loop-test .taken)
 
 loop-again : tie.Need-loop-again Inv-loop μ-loop
 loop-again c =
-    let S = c .before .before .before .before .before .before .before .before .before .before .before .before .before .before .before .before .before .before .before .before .before .before .before .before .before .before .before .before .before .before .before .before .before .before .before .before .before .before .before .before .before .before .before .before .before .before .before .before .before .before .before .before .before .before in
-    let L = c .before .before .before .before .before .before .before .before .before .before .before .before .before .before .before .before .before .before .before .before .before .before .before .before .before .before .before .before .before .before .before .before .loop in
-    let P = c .before .before .before .before .before .before .before .before .before .go-on2 .ensures in
-    let t = c .before .before .before .before .before .before .before .before .before .before .before .before .before .before .before .before .before .before .before .before .before .before .before .before .before .before .before .before .before .before .before .loop-test .taken in
+    let at-go-on2 = c .before .before .before .before .before .before .before .before .before in
+    let at-if2 = at-go-on2 .before .before .before .before .before .before .before .before in
+    let at-step-with = at-if2 .before .before .before .before .before .before .before .before .before in
+    let at-loop-test = at-step-with .before .before .before .before .before in
+    let at-loop = at-loop-test .before in
+    let far50 = at-loop .before .before .before .before .before .before .before .before .before .before .before .before .before .before .before .before .before .before in
+    let S = far50 .before .before .before .before in
+    let L = at-loop .loop in
+    let P = at-go-on2 .go-on2 .ensures in
+    let t = at-loop-test .loop-test .taken in
     record {
       going =
           going-trans (S .args .file .now) (S .args .table .now) _ _ _ _ _ _
-          (going-on (S .args .file .now) (S .args .table .now) (L .left) (record { regs = L .r; main = L .main; ptr = L .ptr; ctl = L .ctl; heap = L .heap }) (L .inv .going .runs) t (L .inv .on?) (L .plan) (L .inv .stopped t .is) (c .before .before .before .before .before .before .before .before .before .before .before .before .before .before .before .before .before .before .before .before .before .before .before .before .before .before .step-with .result)
-          _ (c .before .before .before .before .before .before .before .before .before .before .before .before .before .before .before .before .before .before .before .before .before .before .before .before .before .before .step-with .ensures) _ _ (L .inv .going) (went-on? _ (c .before .before .before .before .before .before .before .before .before .before .before .before .before .before .before .before .before .if2 .left)) (record { main = c .before .before .before .before .before .before .before .before .before .before .before .before .before .before .before .before .before .before .before .before .before .before .before .before .before .before .step-with .kept .1 .1 .0; ptr = c .before .before .before .before .before .before .before .before .before .before .before .before .before .before .before .before .before .before .before .before .before .before .before .before .before .before .step-with .kept .1 .1 .1 .0; ctl = c .before .before .before .before .before .before .before .before .before .before .before .before .before .before .before .before .before .before .before .before .before .before .before .before .before .before .step-with .kept .1 .1 .1 .1 .0; heap = c .before .before .before .before .before .before .before .before .before .before .before .before .before .before .before .before .before .before .before .before .before .before .before .before .before .before .step-with .kept .1 .1 .1 .1 .1 .0 })) (P .going);
+          (going-on (S .args .file .now) (S .args .table .now) (L .left) (record { regs = L .r; main = L .main; ptr = L .ptr; ctl = L .ctl; heap = L .heap })
+          (L .inv .going .runs) t (L .inv .on?) (L .plan) (L .inv .stopped t .is) (at-step-with .step-with .result)
+          _ (at-step-with .step-with .ensures) _ _ (L .inv .going) (went-on? _ (at-if2 .if2 .left)) (record {
+            main = at-step-with .step-with .kept .1 .1 .0;
+            ptr = at-step-with .step-with
+                .kept .1 .1 .1 .0;
+            ctl = at-step-with .step-with .kept .1 .1 .1 .1 .0;
+            heap = at-step-with .step-with .kept .1 .1 .1 .1 .1 .0;
+          })) (P .going);
       on? = P .on?;
       stopped = P .stopped;
     }
@@ -131,23 +274,41 @@ answered-requires-4 : tie.Need-answered-requires-4 Inv-loop μ-loop
 answered-requires-4 c κs = search needs
 
 same-length-9 : tie.Need-same-length-9 Inv-loop μ-loop
-same-length-9 c = c .before .before .loop .inv .going .alike .main ∙ c .before .before .before .before .before .before .before .before .before .before .before .before .go-on .ensures .going .alike .main
+same-length-9 c =
+    let at-go-on = c .before .before .before .before .before .before .before .before .before .before .before .before in
+    c .before .before .loop .inv .going .alike .main ∙ at-go-on .go-on .ensures .going .alike .main
 
 same-length-10 : tie.Need-same-length-10 Inv-loop μ-loop
-same-length-10 c = c .before .before .loop .inv .going .alike .ptr ∙ c .before .before .before .before .before .before .before .before .before .before .before .before .go-on .ensures .going .alike .ptr
+same-length-10 c =
+    let at-go-on = c .before .before .before .before .before .before .before .before .before .before .before .before in
+    c .before .before .loop .inv .going .alike .ptr ∙ at-go-on .go-on .ensures .going .alike .ptr
 
 same-length-11 : tie.Need-same-length-11 Inv-loop μ-loop
-same-length-11 c = c .before .before .loop .inv .going .alike .ctl ∙ c .before .before .before .before .before .before .before .before .before .before .before .before .go-on .ensures .going .alike .ctl
+same-length-11 c =
+    let at-go-on = c .before .before .before .before .before .before .before .before .before .before .before .before in
+    c .before .before .loop .inv .going .alike .ctl ∙ at-go-on .go-on .ensures .going .alike .ctl
 
 same-length-12 : tie.Need-same-length-12 Inv-loop μ-loop
-same-length-12 c = c .before .before .loop .inv .going .alike .heap ∙ c .before .before .before .before .before .before .before .before .before .before .before .before .go-on .ensures .going .alike .heap
+same-length-12 c =
+    let at-go-on = c .before .before .before .before .before .before .before .before .before .before .before .before in
+    c .before .before .loop .inv .going .alike .heap ∙ at-go-on .go-on .ensures .going .alike .heap
 
 returns-4 : tie.Need-returns-4 Inv-loop μ-loop
 returns-4 c =
-    let S = c .before .before .before .before .before .before .before .before .before .before .before .before .before .before .before .before .before .before .before .before .before .before .before .before in
+    let at-go-on = c .before .before .before .before .before .before .before .before .before .before .before .before in
+    let S = at-go-on .before .before .before .before .before .before .before .before .before .before .before .before in
     let L = c .before .before .loop in
     rw (c .answered4 .ensures)
-    (going-spent (S .args .file .now) (S .args .table .now) (S .args .budget) (record { regs = S .args .regs; main = S .args .main .now; ptr = S .args .ptr .now; ctl = S .args .ctl .now; heap = S .args .heap .now }) (L .left) (record { regs = L .r; main = L .main; ptr = L .ptr; ctl = L .ctl; heap = L .heap }) (going-trans (S .args .file .now) (S .args .table .now) (S .args .budget) (record { regs = S .args .regs; main = S .args .main .now; ptr = S .args .ptr .now; ctl = S .args .ctl .now; heap = S .args .heap .now }) _ _ (L .left) (record { regs = L .r; main = L .main; ptr = L .ptr; ctl = L .ctl; heap = L .heap }) (c .before .before .before .before .before .before .before .before .before .before .before .before .go-on .ensures .going) (L .inv .going)) (omega (arith, c .before .loop-test .left)) (L .inv .on?))
+    (going-spent (S .args .file .now) (S .args .table .now) (S .args .budget) (record {
+      regs = S .args .regs;
+      main = S .args .main .now;
+      ptr = S .args .ptr .now;
+      ctl = S .args .ctl .now;
+      heap = S .args .heap .now;
+    }) (L .left) (record { regs = L .r; main = L .main; ptr = L .ptr; ctl = L .ctl; heap = L .heap }) (going-trans (S .args .file .now)
+    (S .args .table .now) (S .args .budget) (record { regs = S .args .regs; main = S .args .main .now; ptr = S .args .ptr .now; ctl = S .args .ctl .now; heap = S .args .heap .now }) _ _
+    (L .left) (record { regs = L .r; main = L .main; ptr = L .ptr; ctl = L .ctl; heap = L .heap }) (at-go-on .go-on .ensures .going) (L .inv .going))
+    (omega (arith, c .before .loop-test .left)) (L .inv .on?))
 
 pub run-on-spec : {M : Type 1} → statement M
 run-on-spec =

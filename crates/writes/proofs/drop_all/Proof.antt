@@ -13,9 +13,11 @@ cut-to-requires-2 c κs = search needs
 
 put-back-requires : tie.Need-put-back-requires
 put-back-requires c κs =
-    let S = c .before .before .before .before .before .before .before .before .before .before .before .before in (
+    let at-cut-to = c .before .before .before .before .before .before .before .before in
+    let back12 = at-cut-to .before .before .before .before in
+    let S = back12 in (
       S .pre .retract,
-      λ e. rw (c .before .before .before .before .before .before .before .before .cut-to .ensures, length-cut) (S .pre .in-main e),
+      λ e. rw (at-cut-to .cut-to .ensures, length-cut) (S .pre .in-main e),
       λ e. rw (c .before .before .before .before .cut-to2 .ensures, length-cut) (S .pre .in-ptr e),
     )
 
@@ -28,7 +30,9 @@ same-length-2 c = search needs
 returns : tie.Need-returns
 returns c ctl heap =
     let S = c .before .before .before .before .before .before .before .before .before .before .before .before .before .before .before .before .before in
-    c .before .before .before .before .put-back .ensures (record { regs = S .args .regs; main = S .args .main .now; ptr = S .args .ptr .now; ctl = ctl; heap = heap }) (c .before .before .before .before .before .before .before .before .before .before .before .before .before .cut-to .ensures) (c .before .before .before .before .before .before .before .before .before .cut-to2 .ensures)
+    c .before .before .before .before .put-back .ensures (record { regs = S .args .regs; main = S .args .main .now; ptr = S .args .ptr .now; ctl = ctl; heap = heap })
+    (c .before .before .before .before .before .before .before .before .before .before .before .before .before .cut-to .ensures) (c .before .before .before .before .before .before
+    .before .before .before .cut-to2 .ensures)
 
 pub drop-all-spec : {M : Type 1} → statement M
 drop-all-spec =

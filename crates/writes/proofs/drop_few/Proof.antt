@@ -25,9 +25,11 @@ pop-four-requires-2 c κs = search needs
 
 put-back-requires : tie.Need-put-back-requires
 put-back-requires c κs =
-    let S = c .before .before .before .before .before .before .before .before .before .before .before .before .before .before .before .before .before .before in (
+    let at-pop-four = c .before .before .before .before .before .before .before .before in
+    let back18 = at-pop-four .before .before .before .before .before .before .before .before .before .before in
+    let S = back18 in (
       S .pre .retract,
-      λ e. rw (c .before .before .before .before .before .before .before .before .pop-four .ensures, length-cut) (S .pre .in-main e),
+      λ e. rw (at-pop-four .pop-four .ensures, length-cut) (S .pre .in-main e),
       λ e. rw (c .before .before .before .before .pop-four2 .ensures, length-cut) (S .pre .in-ptr e),
     )
 
@@ -39,8 +41,11 @@ same-length-2 c = search needs
 
 returns-3 : tie.Need-returns-3
 returns-3 c ctl heap =
-    let S = c .before .before .before .before .before .before .before .before .before .before .before .before .before .before .before .before .before .before .before .before .before .before .before in
-    c .before .before .before .before .put-back .ensures (record { regs = S .args .regs; main = S .args .main .now; ptr = S .args .ptr .now; ctl = ctl; heap = heap }) (c .before .before .before .before .before .before .before .before .before .before .before .before .before .pop-four .ensures) (c .before .before .before .before .before .before .before .before .before .pop-four2 .ensures)
+    let S = c .before .before .before .before .before .before .before .before .before .before .before .before .before .before .before .before .before .before .before .before .before .before
+    .before in
+    c .before .before .before .before .put-back .ensures (record { regs = S .args .regs; main = S .args .main .now; ptr = S .args .ptr .now; ctl = ctl; heap = heap })
+    (c .before .before .before .before .before .before .before .before .before .before .before .before .before .pop-four .ensures) (c .before .before .before .before .before .before
+    .before .before .before .pop-four2 .ensures)
 
 pub drop-few-spec : {M : Type 1} → statement M
 drop-few-spec =

@@ -34,7 +34,8 @@ same-length-2 c = search needs
 
 returns-2 : tie.Need-returns-2
 returns-2 c =
-    c .before .before .pop-two3 .ensures ∙ rw (c .before .before .before .before .before .before .pop-two2 .ensures) (cut-cut _ _ _ (omega arith))
+    let at-pop-two2 = c .before .before .before .before .before .before in
+    c .before .before .pop-two3 .ensures ∙ rw (at-pop-two2 .pop-two2 .ensures) (cut-cut _ _ _ (omega arith))
 
 pub pop-four-spec : {M : Type 1} → statement M
 pop-four-spec =
