@@ -64,7 +64,7 @@ pub record Onto (l : List ℕ) (t : ℕ) : Type 0 where
   pub room : t + recordWords ≤ length l
 
 -- five stores, one behind another
-pub stored : (l : List ℕ) (t a b c d e : ℕ) →
+stored : (l : List ℕ) (t a b c d e : ℕ) →
     set (set (set (set (set l (t + 0) a) (t + 1) b) (t + 2) c) (t + 3) d) (t + 4) e ≡ sets l t (a ∷ b ∷ c ∷ d ∷ e ∷ [])
 stored l t a b c d e =
     let e0 : t + 0 ≡ t = omega arith in
@@ -74,6 +74,7 @@ stored l t a b c d e =
     let e4 : t + 4 ≡ suc (suc (suc (suc t))) = omega arith in
     rw (e0, e1, e2, e3, e4)
 
+-- a record's words, stored from the top on, are the record on top of the others
 module _ (l : List ℕ) (t : ℕ) (whole : t ≡ recordWords * (t / recordWords)) where
   pub frame-put : (w : Frame) →
       set (set (set (set (set l (t + 0) (w .mainBase)) (t + 1) (w .ptrBase)) (t + 2) (w .proc)) (t + 3) (w .returns)) (t + 4) (w .caller)
@@ -104,6 +105,7 @@ cut-zeros zero i l z = sym (cut-same i l (λ k h. z k (omega arith)))
 cut-zeros (suc n) i l z =
     cut-zeros n (suc i) (set l i 0) (λ k h. getD-set-other l i k 0 0 (λ e. absurd (omega arith)) ∙ z k (omega arith)) ∙ cut-set i l
 
+-- a record's words zeroed
 pub cleared : (l : List ℕ) (t : ℕ) → ((i : ℕ) → t + recordWords ≤ i → wordAt l i ≡ 0) →
     set (set (set (set (set l t 0) (t + 1) 0) (t + 2) 0) (t + 3) 0) (t + 4) 0 ≡ cut t l
 cleared l t z = let e0 : t + 0 ≡ t = omega arith in rw e0 at (stored l t 0 0 0 0 0) ∙ cut-zeros 5 t l z
