@@ -1,14 +1,13 @@
 -- What the functions for control records and for a new view ask for.
-use Prim.Native.Nat.{ℕ, _+_, _-_, _*_, _/_, _<_, _≤_}
-use mathlib.Core.Path.{_≡_}
+use Prim.Native.Nat.{ℕ, _+_, _-_, _<_, _≤_}
 use mathlib.Core.List.{List}
 use lib.ListN.{length}
 use Rattle.model.specs.File.{fileMost}
 use Rattle.model.specs.Calls.{ptrMost, ctlMost, heapMost}
 use Rattle.model.specs.Heap.{markOf}
-use Rattle.model.specs.Control.{recordWords}
 use Rattle.model.specs.declared.Regs.{Regs}
 use Rattle.bridge.specs.declared.Put.{Put}
+use Rattle.layout.specs.Layout.{Onto}
 
 -- a record is pushed on the control stack
 pub record Pushes (r : Regs) (ctl : List ℕ) : Type 0 where
@@ -16,8 +15,7 @@ pub record Pushes (r : Regs) (ctl : List ℕ) : Type 0 where
   pub frame : r .frame ≤ ctlMost
   pub handler : r .handler ≤ ctlMost
   pub top : r .ctop ≤ ctlMost
-  pub whole : r .ctop ≡ recordWords * (r .ctop / recordWords)
-  pub room : r .ctop + recordWords ≤ length ctl
+  pub onto : Onto ctl (r .ctop)
 
 -- a view is formed; lm and lp are the stacks' lengths
 pub record Room (lm lp : ℕ) (heap : List ℕ) (r : Regs) (put : Put) : Type 0 where

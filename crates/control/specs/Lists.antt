@@ -1,28 +1,12 @@
--- Lists of words: what is left where a record's words are zeroed, and stores one after another. Each law is an induction on the list, or
--- follows from one.
-use Prim.Native.Nat.{ℕ, zero, suc, _+_, _-_, _<_, _≤_}
+-- Lists of words: stores one after another, and a slice copied. Each law is an induction on the list, or follows from one.
+use Prim.Native.Nat.{ℕ, suc, _+_, _-_, _<_, _≤_}
 use mathlib.Core.Path.{_≡_, refl, ap, sym, _∙_}
 use mathlib.Core.List.{List, [], _∷_, _++_}
 use native.Mathlib.Omega.{arith}
 use native.Mathlib.Numerals.{add-one}
-use lib.ListN.{length, take, drop, set, replicate}
+use lib.ListN.{length, take, drop, set}
 use lib.Seq.{sets, slice, take-suc, drop-append-le, length-take-le, length-slice}
-use Rattle.model.specs.Words.{wordAt, cut}
-use Rattle.sound.specs.Lists.{Zero, set-zero}
-use Rattle.model.specs.Lists.{cut-same}
-
--- the word at the new top zeroed before the cut
-cut-set : (i : ℕ) (l : List ℕ) → cut (suc i) (set l i 0) ≡ cut i l
-unfolding cut
-cut-set i [] = refl
-cut-set zero (w ∷ l) = refl
-cut-set (suc i) (w ∷ l) = ap (λ (k : List ℕ). w ∷ k) (cut-set i l)
-
--- n words are zeroed, up to the top
-pub cut-zeros : (n i : ℕ) (l : List ℕ) → Zero (i + n) l → sets l i (replicate n 0) ≡ cut i l
-cut-zeros zero i l z = sym (cut-same i l (λ k h. z k (omega arith)))
-cut-zeros (suc n) i l z =
-    cut-zeros n (suc i) (set l i 0) (set-zero (suc i + n) l i 0 (omega arith) (λ k h. z k (omega arith))) ∙ cut-set i l
+use Rattle.model.specs.Words.{wordAt}
 
 -- stores one after another
 pub sets-append : (xs ys l : List ℕ) (i : ℕ) → sets l i (xs ++ ys) ≡ sets (sets l i xs) (i + length xs) ys

@@ -1,8 +1,8 @@
 // Records of the control stack, pushed and taken away, and a view in the heap.
 ghost use mathlib.Core.Path.{_≡_};
-ghost use mathlib.Core.List.{List, [], _∷_};
+ghost use mathlib.Core.List.{List};
 ghost use Prim.Native.Nat.{ℕ, _+_, _-_, _*_, _<_, _≤_};
-ghost use lib.ListN.{length, getD};
+ghost use lib.ListN.{length};
 ghost use lib.Seq.{sets, slice};
 ghost use Rattle.model.specs.File.{after};
 ghost use Rattle.model.specs.Heap.{viewKind, made};
@@ -10,28 +10,10 @@ ghost use Rattle.bridge.specs.Settled.{called, returned, opened, closed};
 ghost use Rattle.sound.specs.Lists.{Topped};
 ghost use Rattle.control.specs.Asks.{Pushes, Room};
 use bridge::Put;
+use layout::Frame;
+use layout::Handler;
 use model::RECORD;
 use model::Regs;
-
-// A word as a number.
-pub fn load(l: &[u32], i: usize) -> usize
-    requires { ⌜ i < length (now l) ⌝ }
-    ensures { λ r. ⌜ r ≡ getD (now (l .entry)) i 0 ⌝ }
-{
-    l[i] as usize
-}
-
-// A record's five words.
-fn put_record(ctl: &mut [u32], at: usize, w0: u32, w1: u32, w2: u32, w3: u32, w4: u32)
-    requires { ⌜ at + 5 ≤ length (now ctl) ⌝ }
-    ensures { λ _. ⌜ now (ctl .exit) ≡ sets (now (ctl .entry)) at (w0 ∷ w1 ∷ w2 ∷ w3 ∷ w4 ∷ []) ⌝ }
-{
-    ctl[at] = w0;
-    ctl[at + 1] = w1;
-    ctl[at + 2] = w2;
-    ctl[at + 3] = w3;
-    ctl[at + 4] = w4;
-}
 
 // The words from start to end, copied to a place of the heap.
 fn copy(heap: &mut [u32], to: usize, from: &[u32], start: usize, end: usize)
@@ -56,15 +38,14 @@ pub fn call(file: &[u8], ctl: &mut [u32], regs: Regs, put: Put) -> Regs
     let top = regs.ctop;
     let callee = code::operand(file, place);
     let back = place + 3;
-    put_record(
-        ctl,
-        top,
-        put.at as u32,
-        put.word,
-        callee as u32,
-        back as u32,
-        regs.frame as u32,
-    );
+    let frame = Frame {
+        main_base: put.at,
+        ptr_base: put.word as usize,
+        proc: callee,
+        returns: back,
+        caller: regs.frame,
+    };
+    layout::put_frame(ctl, top, frame);
     Regs {
         place: put.place,
         frame: top / RECORD + 1,
@@ -82,9 +63,9 @@ pub fn leave(ctl: &mut [u32], regs: Regs, put: Put) -> Regs
     ensures { λ r. ⌜ ((main ptr heap : List ℕ) → record { regs = r; main = main; ptr = ptr; ctl = now (ctl .exit); heap = heap } ≡ returned put (record { regs = regs; main = main; ptr = ptr; ctl = now (ctl .entry); heap = heap })) ⌝ }
 {
     let top = regs.ctop;
-    let caller = load(ctl, RECORD * (regs.frame - 1) + 4);
+    let caller = layout::caller_of(ctl, regs.frame);
     let rest = top - RECORD;
-    put_record(ctl, rest, 0, 0, 0, 0, 0);
+    layout::clear_record(ctl, rest);
     Regs {
         place: put.place,
         frame: caller,
@@ -102,15 +83,14 @@ pub fn open(ctl: &mut [u32], regs: Regs, put: Put) -> Regs
     ensures { λ r. ⌜ ((main ptr heap : List ℕ) → record { regs = r; main = main; ptr = ptr; ctl = now (ctl .exit); heap = heap } ≡ opened put (record { regs = regs; main = main; ptr = ptr; ctl = now (ctl .entry); heap = heap })) ⌝ }
 {
     let top = regs.ctop;
-    put_record(
-        ctl,
-        top,
-        regs.place as u32,
-        regs.mtop as u32,
-        regs.ptop as u32,
-        regs.frame as u32,
-        regs.handler as u32,
-    );
+    let handler = Handler {
+        opened: regs.place,
+        main_top: regs.mtop,
+        ptr_top: regs.ptop,
+        frame: regs.frame,
+        outer: regs.handler,
+    };
+    layout::put_handler(ctl, top, handler);
     Regs {
         place: put.place,
         frame: regs.frame,
@@ -127,11 +107,10 @@ pub fn close(ctl: &mut [u32], regs: Regs, put: Put) -> Regs
     requires { ⌜ Topped (regs .ctop) (now ctl) × (1 ≤ regs .handler) × (5 * regs .handler ≤ regs .ctop) ⌝ }
     ensures { λ r. ⌜ ((main ptr heap : List ℕ) → record { regs = r; main = main; ptr = ptr; ctl = now (ctl .exit); heap = heap } ≡ closed put (record { regs = regs; main = main; ptr = ptr; ctl = now (ctl .entry); heap = heap })) ⌝ }
 {
-    let handler = regs.handler;
     let top = regs.ctop;
-    let outer = load(ctl, RECORD * (handler - 1) + 4);
+    let outer = layout::outer_of(ctl, regs.handler);
     let under = top - RECORD;
-    put_record(ctl, under, 0, 0, 0, 0, 0);
+    layout::clear_record(ctl, under);
     Regs {
         place: put.place,
         frame: regs.frame,

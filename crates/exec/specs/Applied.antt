@@ -37,8 +37,7 @@ module _ (f : List ℕ) (put : Put) (m : Machine) (A : Applies f put m) where
         frame = omega (arith, S .frame, S .ctl .fits, S .ctl-most);
         handler = omega (arith, S .handler, S .ctl .fits, S .ctl-most);
         top = omega (arith, S .ctl .fits, S .ctl-most);
-        whole = S .whole;
-        room = room;
+        onto = record { whole = S .whole; room = room };
       }
 
   pub to-call : put .into ≡ into.Frame →

@@ -18,7 +18,8 @@ use Rattle.bridge.specs.declared.Put.{Put}
 use Rattle.bridge.specs.declared.Plan.{Plan}
 use Rattle.bridge.specs.declared.Plan.the-variants.{Write, OutOfRange, NilObject, NoSuchWord, HeapFull, NoRoom, Thrown}
 use Rattle.exec.specs.declared.Outcome.{Outcome}
-use Rattle.exec.specs.declared.Guard.{Guard}
+use Rattle.layout.specs.declared.Handler.{Handler}
+use Rattle.layout.specs.Layout.{theHandler}
 use Rattle.sound.specs.Lists.{Topped}
 use Rattle.exec.specs.Applies.{Stands, Applies}
 
@@ -68,14 +69,8 @@ settle-raised f m HeapFull never = refl
 settle-raised f m NoRoom never = refl
 settle-raised f m Thrown never = refl
 
--- the handler's record as the code reads it
-unfoldable pub guardAt : List ℕ → ℕ → Guard
-guardAt l n =
-    let h = handlerOf l n in
-    record { opened = h .opened; «main_top» = h .mainTop; «ptr_top» = h .ptrTop; frame = h .frame; outer = h .outer }
-
 -- the registers in the handler
-abbrev pub resumed : Guard → ℕ → ℕ → ℕ → Regs
+abbrev pub resumed : Handler → ℕ → ℕ → ℕ → Regs
 resumed g place handler state =
     record {
       place = place;
@@ -134,7 +129,7 @@ module _ (f : List ℕ) (m : Machine) (code : ℕ) where
   unfolding endedOf raised
   uncaught-ends h = rw (eq-eqb (m .regs .handler) 0 h)
 
-  pub caught-ends : (g : Guard) (place : ℕ) (r : Regs) (main ptr ctl : List ℕ) → (m .regs .handler ≡ 0 → ⊥) → g ≡ guardAt (m .ctl) (m .regs .handler) →
+  pub caught-ends : (g : Handler) (place : ℕ) (r : Regs) (main ptr ctl : List ℕ) → (m .regs .handler ≡ 0 → ⊥) → theHandler g ≡ handlerOf (m .ctl) (m .regs .handler) →
       place ≡ headOf f (frameOf (m .ctl) (g .frame) .proc) + operand f (g .opened) →
       r ≡ resumed g place (m .regs .handler) (m .regs .state) →
       main ≡ cut (g .«main_top») (m .main) →
@@ -146,19 +141,30 @@ module _ (f : List ℕ) (m : Machine) (code : ℕ) where
         state = record { regs = r; main = set main (g .«main_top») code; ptr = ptr; ctl = ctl; heap = m .heap };
       }
       ≡ endedOf (raised f m code)
-  unfolding endedOf raised caught guardAt
-  caught-ends g place r main ptr ctl h eg e er em ep ec = rw (ne-eqb (m .regs .handler) 0 h, er, e, em, ep, ec, eg)
+  unfolding endedOf raised caught
+  caught-ends g place r main ptr ctl h eg e er em ep ec =
+      rw (
+        ne-eqb (m .regs .handler) 0 h,
+        er,
+        e,
+        em,
+        ep,
+        ec,
+        ap (λ x. x .opened) eg,
+        ap (λ x. x .mainTop) eg,
+        ap (λ x. x .ptrTop) eg,
+        ap (λ x. x .frame) eg,
+        ap (λ x. x .outer) eg,
+      )
 
 -- its main top has a word, and its 160 leads to a place
-module _ (f table : List ℕ) (r : Regs) (main ptr ctl : List ℕ) (g : Guard) (R : Raises f table r main ptr ctl)
-    (h : r .handler ≡ 0 → ⊥) (e : g ≡ guardAt ctl (r .handler)) where
+module _ (f table : List ℕ) (r : Regs) (main ptr ctl : List ℕ) (g : Handler) (R : Raises f table r main ptr ctl)
+    (h : r .handler ≡ 0 → ⊥) (e : theHandler g ≡ handlerOf ctl (r .handler)) where
   pub guard-top : g .«main_top» < length main
-  unfolding guardAt
-  guard-top = rw e (R .caught h .main-top)
+  guard-top = rw (ap (λ x. x .mainTop) e) (R .caught h .main-top)
 
   pub guard-targets : Targets f table ctl (g .opened) (g .frame)
-  unfolding guardAt
-  guard-targets = rw e (R .caught h .targets)
+  guard-targets = rw (ap (λ x. x .opened) e, ap (λ x. x .frame) e) (R .caught h .targets)
 
 -- what is asked of a plan at a machine
 pub record Settles (f table : List ℕ) (m : Machine) (plan : Plan) : Type 0 where

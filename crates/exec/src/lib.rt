@@ -10,16 +10,11 @@ ghost use Rattle.model.specs.Step.{raised};
 ghost use Rattle.bridge.specs.Settled.{applied, settle};
 ghost use Rattle.writes.specs.Asks.{onwards};
 ghost use Rattle.exec.specs.Applies.{Applies, Late, Lately, Later, tried, appliedIf};
-ghost use Rattle.exec.specs.Ended.{Targets, Raises, Settles, endedOf, guardAt, resumed, raisedBy};
+ghost use Rattle.exec.specs.Ended.{Targets, Raises, Settles, endedOf, resumed, raisedBy};
 use bridge::Into;
 use bridge::Plan;
 use bridge::Put;
-use model::FRAME;
-use model::MAIN_TOP;
-use model::OPENED;
-use model::OUTER;
-use model::PROC;
-use model::PTR_TOP;
+use layout::Handler;
 use model::RECORD;
 use model::Regs;
 
@@ -130,40 +125,17 @@ fn apply_late(
     }
 }
 
-// An open handler's record.
-pub struct Guard {
-    pub opened: usize, // the place of its 160
-    pub main_top: usize, // the tops then
-    pub ptr_top: usize,
-    pub frame: usize, // its frame's record
-    pub outer: usize, // the next outer handler's record
-}
-
-fn guard_at(ctl: &[u32], handler: usize) -> Guard
-    requires { ⌜ (1 ≤ handler) × (5 * handler ≤ length (now ctl)) ⌝ }
-    ensures { λ r. ⌜ r ≡ guardAt (now (ctl .entry)) handler ⌝ }
-{
-    let under = RECORD * (handler - 1);
-    Guard {
-        opened: control::load(ctl, under + OPENED),
-        main_top: control::load(ctl, under + MAIN_TOP),
-        ptr_top: control::load(ctl, under + PTR_TOP),
-        frame: control::load(ctl, under + FRAME),
-        outer: control::load(ctl, under + OUTER),
-    }
-}
-
 // Where a 160's operand leads: it counts from the head of the procedure whose frame is given.
 fn target(file: &[u8], table: &[usize; 64], ctl: &[u32], at: usize, frame: usize) -> usize
     requires { ⌜ Targets (now file) (now table) (now ctl) at frame ⌝ }
     ensures { λ r. ⌜ r ≡ headOf (now (file .entry)) (frameOf (now (ctl .entry)) frame .proc) + operand (now (file .entry)) at ⌝ }
 {
-    let proc = control::load(ctl, RECORD * (frame - 1) + PROC);
+    let proc = layout::proc_of(ctl, frame);
     table[proc] + code::operand(file, at)
 }
 
 // The registers in the handler: the code lies on its main top, and its record is gone.
-fn resume(guard: Guard, place: usize, handler: usize, state: usize) -> Regs
+fn resume(guard: Handler, place: usize, handler: usize, state: usize) -> Regs
     requires { ⌜ (guard .«main_top» < 4096) × (1 ≤ handler) × (handler ≤ 1280) ⌝ }
     ensures { λ r. ⌜ r ≡ resumed guard place handler state ⌝ }
 {
@@ -201,7 +173,7 @@ pub fn raise(
             regs,
         };
     }
-    let guard = guard_at(ctl, handler);
+    let guard = layout::handler_at(ctl, handler - 1);
     let place = target(file, table, ctl, guard.opened, guard.frame);
     let top = guard.main_top;
     let under = RECORD * (handler - 1);

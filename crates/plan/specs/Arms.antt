@@ -14,7 +14,8 @@ use Rattle.heap.specs.Stores.{Lies, object-lies}
 use Rattle.code.specs.Bodies.{after-above}
 use Rattle.bridge.specs.Planned.{planAt}
 use Rattle.bridge.specs.declared.Plan.{Plan}
-use Rattle.plans.specs.Given.{planned, Body, Within, Record, Callee}
+use Rattle.layout.specs.Layout.{Numbered}
+use Rattle.plans.specs.Given.{planned, Body, Within, Callee}
 use Rattle.plan.specs.Ready.{Ready, placeOf, here}
 
 -- the code at the place
@@ -34,8 +35,8 @@ module _ {f table : List ℕ} {m : Machine} (R : Ready f table m) where
   pub ptr-within : Within (m .ptr) (ptop m)
   ptr-within = record { below = R .ptr-top; few = R .ptr-most }
 
-  pub record-in : Record (m .ctl) (m .regs .frame)
-  record-in = record { some = R .frame-some; inside = omega (arith, R .frame-in, R .ctl-top); few = R .ctl-most }
+  pub record-in : Numbered (m .ctl) (m .regs .frame)
+  record-in = record { some = R .frame-some; inside = omega (arith, R .frame-in, R .ctl-top) }
 
   pub body-here : Body f (placeOf m) (bodyOf (codeAt f m))
   unfolding after

@@ -3,9 +3,6 @@
 // it as a constant; the compiler makes one jump table of all the matches.
 use bridge::Into;
 use bridge::Plan;
-use model::MAIN_BASE;
-use model::PTR_BASE;
-use model::RECORD;
 use model::Regs;
 ghost use mathlib.Core.Path.{_≡_};
 ghost use mathlib.Core.List.{List};
@@ -17,29 +14,21 @@ ghost use Rattle.model.specs.File as model;
 ghost use Rattle.model.specs.Control.{Machine, frameOf, setRegs, setMain, setPtr, setCtl, setHeap};
 ghost use Rattle.bridge.specs.Planned.{planAt};
 ghost use Rattle.code.specs.Kinds.{NoneOf};
-ghost use Rattle.code.specs.Parts.{Small};
 ghost use Rattle.heap.specs.Stores.{Lies};
-ghost use Rattle.plans.specs.Given.{planned, Body, Within, Record};
+ghost use Rattle.layout.specs.Layout.{Numbered};
+ghost use Rattle.plans.specs.Given.{planned, Body, Within};
 ghost use Rattle.plan.specs.Kinds.{atArms, localArms, wordArms};
 ghost use Rattle.plan.specs.Ready.{Ready};
 
-// The index of word s of a frame, whose base is the control stack's word there.
-fn frame_word(file: &[u8], ctl: &[u32], place: usize, base: usize) -> usize
-    requires { ⌜ Body (now file) place 2 × (base < length (now ctl)) × (length (now ctl) ≤ 1280) ⌝ }
-    ensures { λ r. ⌜ Small 8589934592 (wordAt (now (ctl .entry)) base + model.operand (now (file .entry)) place) r ⌝ }
-{
-    plans::wide(ctl[base]) + code::operand(file, place)
-}
-
 // 20 and 22: word s of the frame.
 fn main_locals(file: &[u8], main: &[u32], ctl: &[u32], regs: Regs, kind: u8) -> Plan
-    requires { ⌜ Body (now file) (regs .place) 2 × Within (now main) (regs .mtop) × Record (now ctl) (regs .frame)
+    requires { ⌜ Body (now file) (regs .place) 2 × Within (now main) (regs .mtop) × Numbered (now ctl) (regs .frame)
         × (frameOf (now ctl) (regs .frame) .mainBase + model.operand (now file) (regs .place) < regs .mtop) × ((kind ≡ 20) ⊎ (kind ≡ 22)) ⌝ }
     ensures { λ r. ⌜ ((m : Machine) → r ≡ planned (now (file .entry)) (setRegs regs (setMain (now (main .entry)) (setCtl (now (ctl .entry)) m))) 3 kind) ⌝ }
 {
     let place = regs.place;
     let top = regs.mtop;
-    let at = frame_word(file, ctl, place, RECORD * (regs.frame - 1) + MAIN_BASE);
+    let at = layout::main_base_of(ctl, regs.frame) + code::operand(file, place);
     if kind == 20 {
         return plans::writes(Into::Main, place + 3, top + 1, regs.ptop, top, main[at]);
     }
@@ -49,13 +38,13 @@ fn main_locals(file: &[u8], main: &[u32], ctl: &[u32], regs: Regs, kind: u8) -> 
 
 // 21 and 23: the same on the pointer stack.
 fn ptr_locals(file: &[u8], ptr: &[u32], ctl: &[u32], regs: Regs, kind: u8) -> Plan
-    requires { ⌜ Body (now file) (regs .place) 2 × Within (now ptr) (regs .ptop) × Record (now ctl) (regs .frame)
+    requires { ⌜ Body (now file) (regs .place) 2 × Within (now ptr) (regs .ptop) × Numbered (now ctl) (regs .frame)
         × (frameOf (now ctl) (regs .frame) .ptrBase + model.operand (now file) (regs .place) < regs .ptop) × ((kind ≡ 21) ⊎ (kind ≡ 23)) ⌝ }
     ensures { λ r. ⌜ ((m : Machine) → r ≡ planned (now (file .entry)) (setRegs regs (setPtr (now (ptr .entry)) (setCtl (now (ctl .entry)) m))) 3 kind) ⌝ }
 {
     let place = regs.place;
     let top = regs.ptop;
-    let at = frame_word(file, ctl, place, RECORD * (regs.frame - 1) + PTR_BASE);
+    let at = layout::ptr_base_of(ctl, regs.frame) + code::operand(file, place);
     if kind == 21 {
         return plans::writes(Into::Pointer, place + 3, regs.mtop, top + 1, top, ptr[at]);
     }

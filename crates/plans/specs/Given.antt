@@ -1,5 +1,5 @@
 -- What each family of codes asks for, in the words of the lists that it reads, and the definition in the values that the code computes.
-use Prim.Native.Nat.{ℕ, _+_, _-_, _*_, _<_, _≤_}
+use Prim.Native.Nat.{ℕ, _+_, _-_, _<_, _≤_}
 use mathlib.Core.Bool.{true, false}
 use mathlib.Core.List.{List, [], _∷_}
 use mathlib.Core.Logic.{_⊎_, inl, inr}
@@ -33,12 +33,6 @@ pub record Body (f : List ℕ) (p n : ℕ) : Type 0 where
 pub record Within (l : List ℕ) (top : ℕ) : Type 0 where
   pub below : top ≤ length l
   pub few : length l ≤ 4096
-
--- a frame's record
-pub record Record (ctl : List ℕ) (n : ℕ) : Type 0 where
-  pub some : 1 ≤ n
-  pub inside : recordWords * n ≤ length ctl
-  pub few : length ctl ≤ 1280
 
 -- the procedure that a call names
 pub record Callee (f table : List ℕ) (r : Regs) : Type 0 where

@@ -4,7 +4,6 @@ use bridge::Into;
 use bridge::Plan;
 use bridge::Put;
 use model::RECORD;
-use model::RETURNS;
 use model::Regs;
 use model::Value;
 ghost use mathlib.Core.Path.{_≡_};
@@ -15,7 +14,8 @@ ghost use Rattle.model.specs.Words.{valueOf};
 ghost use Rattle.model.specs.Control.{Machine, setRegs, setMain, setPtr, setCtl};
 ghost use Rattle.bridge.specs.Planned.{write, onValue};
 ghost use Rattle.code.specs.Parts.{Small};
-ghost use Rattle.plans.specs.Given.{planned, Body, Within, Record, Callee, Binary};
+ghost use Rattle.layout.specs.Layout.{Numbered};
+ghost use Rattle.plans.specs.Given.{planned, Body, Within, Callee, Binary};
 
 pub fn writes(into: Into, place: usize, mtop: usize, ptop: usize, at: usize, word: u32) -> Plan
     ensures { λ r. ⌜ r ≡ write into place mtop ptop at word ⌝ }
@@ -176,11 +176,10 @@ pub fn calls(
 
 // 73: back to the return place.
 pub fn leaves(ctl: &[u32], regs: Regs) -> Plan
-    requires { ⌜ Record (now ctl) (regs .frame) ⌝ }
+    requires { ⌜ Numbered (now ctl) (regs .frame) ⌝ }
     ensures { λ r. ⌜ ((f : List ℕ) (m : Machine) → r ≡ planned f (setRegs regs (setCtl (now (ctl .entry)) m)) 1 73) ⌝ }
 {
-    let at = RECORD * (regs.frame - 1) + RETURNS;
-    let place = wide(ctl[at]);
+    let place = layout::returns_of(ctl, regs.frame);
     writes(Into::Return, place, regs.mtop, regs.ptop, 0, 0)
 }
 

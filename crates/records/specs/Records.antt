@@ -1,5 +1,5 @@
--- One control record against a passed file and its map: what the code reads has the model's names, the tests that the code makes are the
--- model's, though in another order, and what one record leaves of `stack?` to the records below.
+-- One control record against a passed file and its map: the tests that the code makes are the model's, though in another order, and what
+-- one record leaves of `stack?` to the records below.
 use Prim.Native.Nat.{ℕ, zero, suc, _+_, _-_, _<_, _≤_}
 use mathlib.Core.Bool.{Bool, true, false, true≢false, not, _&&_}
 use mathlib.Core.List.{List, _∷_}
@@ -12,10 +12,11 @@ use borrow.Author.Tests.{eq-eqb, ne-eqb, eqb-true}
 use Rattle.model.specs.Choice.{if_then_else_, Test, all, all-true}
 use Rattle.model.specs.File.{codes, bodies, bodyOf, byteAt, operand, after, procAt, insOf, insAt, paramsMain, paramsPtr}
 use Rattle.model.specs.Checker.{none, Effect, effectOf}
-use Rattle.model.specs.Control.{Rec, Frame, Handler, asFrame, asHandler, frameRec, handlerRec, recAt, down}
+use Rattle.model.specs.Control.{Rec, Frame, Handler, asFrame, asHandler, frameRec, handlerRec, down}
 use Rattle.model.specs.Sound.{Look, mainAt, isIns, isCode, callBefore, frameTests, firstTests, callerTests, caller, handlerTests, outside, stack?}
-use Rattle.records.specs.declared.Frame.{Frame as FrameRead}
-use Rattle.records.specs.declared.Handler.{Handler as HandlerRead}
+use Rattle.layout.specs.declared.Frame.{Frame as FrameRead}
+use Rattle.layout.specs.declared.Handler.{Handler as HandlerRead}
+use Rattle.layout.specs.Layout.{theFrame, theHandler}
 use Rattle.records.specs.declared.Look.{Look as LookRead}
 use Rattle.records.specs.declared.Below.{Below}
 use Rattle.records.specs.declared.Below.the-variants.{End, On}
@@ -23,27 +24,7 @@ use Rattle.records.specs.Tests.{fails-at}
 use Rattle.code.specs.declared.Head.{Head}
 use Rattle.places.specs.Places.{Shows, beyond, inProc, HeadFor}
 
--- the structs of the code as the model's records
-abbrev pub theFrame : FrameRead → Frame
-theFrame w =
-    record {
-      mainBase = w .«main_base»;
-      ptrBase = w .«ptr_base»;
-      proc = w .proc;
-      returns = w .returns;
-      caller = w .caller;
-    }
-
-abbrev pub theHandler : HandlerRead → Handler
-theHandler w =
-    record {
-      opened = w .opened;
-      mainTop = w .«main_top»;
-      ptrTop = w .«ptr_top»;
-      frame = w .frame;
-      outer = w .outer;
-    }
-
+-- the struct of the code as the model's record
 abbrev pub theLook : LookRead → Look
 theLook s =
     record {
@@ -54,10 +35,6 @@ theLook s =
       mainBase = s .«main_base»;
       ptrBase = s .«ptr_base»;
     }
-
-pub record FrameIs (l : List ℕ) (k : ℕ) (w : FrameRead) : Type 0 where
-  pub is : theFrame w ≡ asFrame (recAt l k)
-  pub small : w .returns < 4294967296
 
 -- what indexes the map, or is added to, is a word
 pub record Near (s : LookRead) : Type 0 where

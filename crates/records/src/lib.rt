@@ -5,26 +5,16 @@ ghost use mathlib.Core.List.{List};
 ghost use Prim.Native.Nat.{ℕ, _+_, _-_, _*_, _<_};
 ghost use lib.ListN.{length};
 ghost use Rattle.model.specs.Choice.{all};
-ghost use Rattle.model.specs.Words.{wordAt};
 ghost use Rattle.model.specs.File.{insAt};
 ghost use Rattle.model.specs.Checker.{Effect, effectOf};
-ghost use Rattle.model.specs.Control.{Rec, asHandler, recAt, down};
+ghost use Rattle.model.specs.Control.{Rec, recAt, down};
 ghost use Rattle.model.specs.Sound.{callBefore, frameTests, firstTests, callerTests, caller, handlerTests, outside};
-ghost use Rattle.code.specs.Parts.{Small};
 ghost use Rattle.places.specs.Places.{Shows, Ready, HeadFor};
-ghost use Rattle.records.specs.Records.{theFrame, theHandler, theLook, FrameIs, Near, Reads, Fits, Pops, Told};
+ghost use Rattle.layout.specs.Layout.{theFrame, theHandler};
+ghost use Rattle.records.specs.Records.{theLook, Near, Reads, Fits, Pops, Told};
 use code::Head;
-use model::CALLER;
-use model::FRAME;
-use model::MAIN_BASE;
-use model::MAIN_TOP;
-use model::OPENED;
-use model::OUTER;
-use model::PROC;
-use model::PTR_BASE;
-use model::PTR_TOP;
-use model::RECORD;
-use model::RETURNS;
+use layout::Frame;
+use layout::Handler;
 use places::NONE;
 
 const CALL: usize = 72;
@@ -36,60 +26,6 @@ pub fn less(a: usize, b: usize) -> usize
     ensures { λ r. ⌜ r ≡ a - b ⌝ }
 {
     if b <= a { a - b } else { 0 }
-}
-
-// A frame's record.
-pub struct Frame {
-    pub main_base: usize,
-    pub ptr_base: usize,
-    pub proc: usize,
-    pub returns: usize, // the return place; 0 for the first frame
-    pub caller: usize, // the caller's record
-}
-
-// A handler's record.
-pub struct Handler {
-    pub opened: usize, // the place of its 160
-    pub main_top: usize, // the tops then
-    pub ptr_top: usize,
-    pub frame: usize, // its frame's record
-    pub outer: usize, // the next outer handler's record
-}
-
-// Word `i` of the record on top of `left` others.
-fn word_of(ctl: &[u32], left: usize, i: usize) -> usize
-    requires { ⌜ 5 * left + i < length (now ctl) ⌝ }
-    ensures { λ r. ⌜ Small 4294967296 (wordAt (now (ctl .entry)) (5 * left + i)) r ⌝ }
-{
-    ctl[RECORD * left + i] as usize
-}
-
-// The record on top of `left` others, a frame's.
-fn frame_at(ctl: &[u32], left: usize) -> Frame
-    requires { ⌜ 5 * left + 4 < length (now ctl) ⌝ }
-    ensures { λ r. ⌜ FrameIs (now (ctl .entry)) left r ⌝ }
-{
-    Frame {
-        main_base: word_of(ctl, left, MAIN_BASE),
-        ptr_base: word_of(ctl, left, PTR_BASE),
-        proc: word_of(ctl, left, PROC),
-        returns: word_of(ctl, left, RETURNS),
-        caller: word_of(ctl, left, CALLER),
-    }
-}
-
-// The record on top of `left` others, a handler's.
-fn handler_at(ctl: &[u32], left: usize) -> Handler
-    requires { ⌜ 5 * left + 4 < length (now ctl) ⌝ }
-    ensures { λ r. ⌜ theHandler r ≡ asHandler (recAt (now (ctl .entry)) left) ⌝ }
-{
-    Handler {
-        opened: word_of(ctl, left, OPENED),
-        main_top: word_of(ctl, left, MAIN_TOP),
-        ptr_top: word_of(ctl, left, PTR_TOP),
-        frame: word_of(ctl, left, FRAME),
-        outer: word_of(ctl, left, OUTER),
-    }
 }
 
 // What the records above tell of the frame that is still to be read.
@@ -248,7 +184,7 @@ fn read_handler(map: &[u16], ctl: &[u32], left: usize, s: Look) -> Below
     requires { ⌜ Near s × (left < 4294967296) × (5 * left + 4 < length (now ctl)) ⌝ }
     ensures { λ r. ⌜ ((f : List ℕ) (lm lp : ℕ) → (s .inner ≡ 65535 → ⊥) → Told f (now (map .entry)) lm lp (recAt (now (ctl .entry)) left) (down (now (ctl .entry)) left) s r) ⌝ }
 {
-    let w = handler_at(ctl, left);
+    let w = layout::handler_at(ctl, left);
     if !handler_right(map, left, w, s) {
         return Below::End(false);
     }
@@ -270,7 +206,7 @@ fn read_frame(
     requires { ⌜ Ready (now file) (now map) (now table) k × Reads lm lp left s × (5 * left + 4 < length (now ctl)) × (s .inner ≡ 65535) ⌝ }
     ensures { λ r. ⌜ Told (now (file .entry)) (now (map .entry)) lm lp (recAt (now (ctl .entry)) left) (down (now (ctl .entry)) left) s r ⌝ }
 {
-    let w = frame_at(ctl, left);
+    let w = layout::frame_at(ctl, left);
     if !frame_right(file, map, table, k, lm, lp, left, w, s) {
         return Below::End(false);
     }

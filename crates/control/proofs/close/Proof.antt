@@ -1,45 +1,24 @@
 -- `control::close` meets its contract: the topmost record is zeroed, and the outer handler was read from it.
 use native.Mathlib.Omega.{arith}
-use Rattle.control.specs.Laws.{close-writes}
 use borrow.Author.Needs.{needs}
 use Rattle.control.proofs.close.Statement.{statement}
 use Rattle.control.proofs.close.Tie as tie
 
-sub-load : tie.Need-sub-load
-sub-load c = search needs
-
-mul-load : tie.Need-mul-load
-mul-load c = search needs
-
-add-load : tie.Need-add-load
-add-load c = search needs
-
-load-requires : tie.Need-load-requires
-load-requires c κs = search needs
+outer-of-requires : tie.Need-outer-of-requires
+outer-of-requires c κs = search needs
 
 sub-under : tie.Need-sub-under
 sub-under c = search needs
 
-put-record-requires : tie.Need-put-record-requires
-put-record-requires c κs = search needs
+clear-record-requires : tie.Need-clear-record-requires
+clear-record-requires c κs = (omega arith, λ i h. c .before .before .before .before .pre .0 .zero i (omega arith))
 
 same-length : tie.Need-same-length
 same-length c = search needs
 
 returns : tie.Need-returns
-returns c main ptr heap =
-    let S = c .before .before .before .before .before .before .before in
-    close-writes (S .args .regs) (S .args .put) _ _ main ptr heap _ (S .pre .0) (omega arith) (c .before .before .before .before .load .ensures) (c .before .before .put-record .ensures)
+returns c main ptr heap = rw (c .before .before .before .before .outer-of .ensures, c .before .before .clear-record .ensures)
 
 pub close-spec : {M : Type 1} → statement M
 close-spec =
-    tie.close
-    (tie.spec
-    sub-load
-    mul-load
-    add-load
-    load-requires
-    sub-under
-    put-record-requires
-    same-length
-    returns)
+    tie.close (tie.spec outer-of-requires sub-under clear-record-requires same-length returns)

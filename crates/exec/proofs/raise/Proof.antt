@@ -12,13 +12,20 @@ returns c heap =
     let S = c .before .before .before .before .before in
     uncaught-ends (S .args .file .now) (record { regs = S .args .regs; main = S .args .main .now; ptr = S .args .ptr .now; ctl = S .args .ctl .now; heap = heap }) (S .args .code) (c .if1 .taken)
 
-guard-at-requires : tie.Need-guard-at-requires
-guard-at-requires c κs = search needs
+sub-handler-at : tie.Need-sub-handler-at
+sub-handler-at c = search needs
+
+handler-at-requires : tie.Need-handler-at-requires
+handler-at-requires c κs = search needs
 
 target-requires : tie.Need-target-requires
 target-requires c κs =
-    let S = c .before .before .before .before .before .before .before .before in
-    guard-targets (S .args .file .now) (S .args .table .now) (S .args .regs) (S .args .main .now) (S .args .ptr .now) (S .args .ctl .now) _ (S .pre) (c .before .before .before .if1 .left) (c .before .guard-at .ensures)
+    let H = c .before in
+    let S = H .before .before .before .before .before .before .before in
+    let A = S .args in
+    guard-targets (A .file .now) (A .table .now) (A .regs) (A .main .now) (A .ptr .now) (A .ctl .now) (H .handler-at .result) (S .pre)
+    (H .before .before .if1 .left)
+    (H .handler-at .ensures)
 
 sub-under : tie.Need-sub-under
 sub-under c = search needs
@@ -37,18 +44,36 @@ cut-to-requires-3 c κs = search needs
 
 mul-main : tie.Need-mul-main
 mul-main c =
-    let S = c .before .before .before .before .before .before .before .before .before .before .before .before .before .before .before .before .before .before .before .before .before in
-    omega (arith, S .pre .main-most, guard-top (S .args .file .now) (S .args .table .now) (S .args .regs) (S .args .main .now) (S .args .ptr .now) (S .args .ctl .now) _ (S .pre) (c .before .before .before .before .before .before .before .before .before .before .before .before .before .before .before .before .if1 .left) (c .before .before .before .before .before .before .before .before .before .before .before .before .before .before .guard-at .ensures))
+    let H = c .before .before .before .before .before .before .before .before .before .before .before .before .before .before in
+    let S = H .before .before .before .before .before .before .before in
+    let A = S .args in
+    let top =
+    guard-top (A .file .now) (A .table .now) (A .regs) (A .main .now) (A .ptr .now) (A .ctl .now) (H .handler-at .result) (S .pre)
+    (H .before .before .if1 .left)
+    (H .handler-at .ensures) in
+    omega (arith, S .pre .main-most, top)
 
 slice-write-main : tie.Need-slice-write-main
 slice-write-main c =
-    let S = c .before .before .before .before .before .before .before .before .before .before .before .before .before .before .before .before .before .before .before .before .before in
-    rw (c .before .before .before .before .before .before .before .before .before .before .cut-to .ensures, length-cut) (guard-top (S .args .file .now) (S .args .table .now) (S .args .regs) (S .args .main .now) (S .args .ptr .now) (S .args .ctl .now) _ (S .pre) (c .before .before .before .before .before .before .before .before .before .before .before .before .before .before .before .before .if1 .left) (c .before .before .before .before .before .before .before .before .before .before .before .before .before .before .guard-at .ensures))
+    let H = c .before .before .before .before .before .before .before .before .before .before .before .before .before .before in
+    let S = H .before .before .before .before .before .before .before in
+    let A = S .args in
+    let top =
+    guard-top (A .file .now) (A .table .now) (A .regs) (A .main .now) (A .ptr .now) (A .ctl .now) (H .handler-at .result) (S .pre)
+    (H .before .before .if1 .left)
+    (H .handler-at .ensures) in
+    rw (c .before .before .before .before .before .before .before .before .before .before .cut-to .ensures, length-cut) top
 
 resume-requires : tie.Need-resume-requires
 resume-requires c κs =
-    let S = c .before .before .before .before .before .before .before .before .before .before .before .before .before .before .before .before .before .before .before .before .before in
-    (omega (arith, S .pre .main-most, guard-top (S .args .file .now) (S .args .table .now) (S .args .regs) (S .args .main .now) (S .args .ptr .now) (S .args .ctl .now) _ (S .pre) (c .before .before .before .before .before .before .before .before .before .before .before .before .before .before .before .before .if1 .left) (c .before .before .before .before .before .before .before .before .before .before .before .before .before .before .guard-at .ensures)), omega (arith, c .before .before .before .before .before .before .before .before .before .before .before .before .before .before .before .before .if1 .left), omega (arith, S .pre .handler, S .pre .ctl-top .fits, S .pre .ctl-most))
+    let H = c .before .before .before .before .before .before .before .before .before .before .before .before .before .before in
+    let S = H .before .before .before .before .before .before .before in
+    let A = S .args in
+    let top =
+    guard-top (A .file .now) (A .table .now) (A .regs) (A .main .now) (A .ptr .now) (A .ctl .now) (H .handler-at .result) (S .pre)
+    (H .before .before .if1 .left)
+    (H .handler-at .ensures) in
+    (omega (arith, S .pre .main-most, top), omega (arith, H .before .before .if1 .left), omega (arith, S .pre .handler, S .pre .ctl-top .fits, S .pre .ctl-most))
 
 same-length : tie.Need-same-length
 same-length c = search needs
@@ -61,15 +86,31 @@ same-length-3 c = search needs
 
 returns-2 : tie.Need-returns-2
 returns-2 c heap =
-    let S = c .before .before .before .before .before .before .before .before .before .before .before .before .before .before .before .before .before .before .before .before .before .before in
-    caught-ends (S .args .file .now) (record { regs = S .args .regs; main = S .args .main .now; ptr = S .args .ptr .now; ctl = S .args .ctl .now; heap = heap }) (S .args .code) _ _ _ _ _ _ (c .before .before .before .before .before .before .before .before .before .before .before .before .before .before .before .before .before .if1 .left) (c .before .before .before .before .before .before .before .before .before .before .before .before .before .before .before .guard-at .ensures) (c .before .before .before .before .before .before .before .before .before .before .before .before .before .target .ensures) (c .resume .ensures) (c .before .before .before .before .before .before .before .before .before .before .before .cut-to .ensures) (c .before .before .before .before .before .before .before .cut-to2 .ensures) (c .before .before .before .cut-to3 .ensures)
+    let H = c .before .before .before .before .before .before .before .before .before .before .before .before .before .before .before in
+    let S = H .before .before .before .before .before .before .before in
+    let A = S .args in
+    caught-ends (A .file .now) (record { regs = A .regs; main = A .main .now; ptr = A .ptr .now; ctl = A .ctl .now; heap = heap }) (A .code)
+    (H .handler-at .result)
+    _
+    _
+    _
+    _
+    _
+    (H .before .before .if1 .left)
+    (H .handler-at .ensures)
+    (c .before .before .before .before .before .before .before .before .before .before .before .before .before .target .ensures)
+    (c .resume .ensures)
+    (c .before .before .before .before .before .before .before .before .before .before .before .cut-to .ensures)
+    (c .before .before .before .before .before .before .before .cut-to2 .ensures)
+    (c .before .before .before .cut-to3 .ensures)
 
 pub raise-spec : {M : Type 1} → statement M
 raise-spec =
     tie.close
     (tie.spec
     returns
-    guard-at-requires
+    sub-handler-at
+    handler-at-requires
     target-requires
     sub-under
     mul-under

@@ -10,7 +10,8 @@ use Rattle.model.specs.File.{insAt}
 use Rattle.model.specs.Checker.{effectOf}
 use Rattle.model.specs.Sound.{callerTests}
 use Rattle.records.specs.Tests.{fails, decided}
-use Rattle.records.specs.Records.{theFrame, call-after, call-pops, is-call, not-call}
+use Rattle.layout.specs.Layout.{theFrame}
+use Rattle.records.specs.Records.{call-after, call-pops, is-call, not-call}
 use Rattle.records.proofs.caller_right.Statement.{statement}
 use Rattle.records.proofs.caller_right.Tie as tie
 

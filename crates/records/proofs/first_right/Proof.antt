@@ -3,7 +3,8 @@ use mathlib.Core.Path.{refl}
 use borrow.Author.Tests.{eqb-true}
 use Rattle.model.specs.Sound.{firstTests}
 use Rattle.records.specs.Tests.{fails, decided}
-use Rattle.records.specs.Records.{theFrame, theLook}
+use Rattle.layout.specs.Layout.{theFrame}
+use Rattle.records.specs.Records.{theLook}
 use Rattle.records.proofs.first_right.Statement.{statement}
 use Rattle.records.proofs.first_right.Tie as tie
 

@@ -8,7 +8,8 @@ use borrow.Author.Needs.{needs}
 use Rattle.model.specs.Sound.{frameTests}
 use Rattle.places.specs.Places.{in-proc-true, in-proc-below}
 use Rattle.records.specs.Tests.{fails, decided}
-use Rattle.records.specs.Records.{theFrame, theLook, not-within}
+use Rattle.layout.specs.Layout.{theFrame}
+use Rattle.records.specs.Records.{theLook, not-within}
 use Rattle.records.proofs.frame_right.Statement.{statement}
 use Rattle.records.proofs.frame_right.Tie as tie
 

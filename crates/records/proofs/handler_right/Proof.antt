@@ -5,7 +5,8 @@ use borrow.Author.Tests.{eqb-true}
 use borrow.Author.Needs.{needs}
 use Rattle.model.specs.Sound.{handlerTests}
 use Rattle.records.specs.Tests.{fails, decided}
-use Rattle.records.specs.Records.{theHandler, theLook}
+use Rattle.layout.specs.Layout.{theHandler}
+use Rattle.records.specs.Records.{theLook}
 use Rattle.records.proofs.handler_right.Statement.{statement}
 use Rattle.records.proofs.handler_right.Tie as tie
 

@@ -62,7 +62,7 @@ caller-right-requires c κs =
     let c₁ = c .before .before .before .before in
     let own = sym (not-false _ (c₁ .if1 .left)) ∙ c₁ .before .frame-right .ensures (down (a .ctl .now) (a .left)) (down-length (a .ctl .now) (a .left)) in
     let fits = frame-fits (a .file .now) (a .map .now) (a .lm) (a .lp) (w .result) (down (a .ctl .now) (a .left)) (a .s) own (pre .1 .main) (pre .1 .ptr) in
-    let small = w .ensures .small in
+    let small = w .ensures .words .returns in
     let e = c .call-before .ensures in
     let l = call-below (a .file .now) (w .result .returns) in
     (c .before .head-of .ensures, pre .0 .shows, fits, omega arith)
@@ -88,7 +88,7 @@ caller-of-requires c κs =
     let own = sym (not-false _ (c₁ .if1 .left)) ∙ c₁ .before .frame-right .ensures (down (a .ctl .now) (a .left)) (down-length (a .ctl .now) (a .left)) in
     let fits = frame-fits (a .file .now) (a .map .now) (a .lm) (a .lp) (w .result) (down (a .ctl .now) (a .left)) (a .s) own (pre .1 .main) (pre .1 .ptr) in
     let head = c .before .before .before .head-of .ensures in
-    let small = w .ensures .small in
+    let small = w .ensures .words .returns in
     let e = c .before .before .call-before .ensures in
     let l = call-below (a .file .now) (w .result .returns) in
     (fits, head .a-small, head .b-small, omega arith)

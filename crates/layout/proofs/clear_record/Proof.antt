@@ -1,11 +1,10 @@
--- `control::put_record` meets its contract: five stores, one behind another.
-use mathlib.Core.Path.{_≡_}
-use Prim.Native.Nat.{suc, _+_}
+-- `layout::clear_record` meets its contract: the words above are 0, so five zeros cut the stack.
 use native.Mathlib.Omega.{arith}
 use lib.ListN.{length-set}
 use borrow.Author.Needs.{needs}
-use Rattle.control.proofs.put_record.Statement.{statement}
-use Rattle.control.proofs.put_record.Tie as tie
+use Rattle.layout.specs.Layout.{cleared}
+use Rattle.layout.proofs.clear_record.Statement.{statement}
+use Rattle.layout.proofs.clear_record.Tie as tie
 
 mul-ctl : tie.Need-mul-ctl
 mul-ctl c = search needs
@@ -53,16 +52,10 @@ same-length : tie.Need-same-length
 same-length c = search needs
 
 returns : tie.Need-returns
-returns c =
-    let at = c .args .at in
-    let e1 : at + 1 ≡ suc at = omega arith in
-    let e2 : at + 2 ≡ suc (suc at) = omega arith in
-    let e3 : at + 3 ≡ suc (suc (suc at)) = omega arith in
-    let e4 : at + 4 ≡ suc (suc (suc (suc at))) = omega arith in
-    rw (e1, e2, e3, e4)
+returns c = cleared (c .args .ctl .now) (c .args .at) (c .pre .1)
 
-pub put-record-spec : {M : Type 1} → statement M
-put-record-spec =
+pub clear-record-spec : {M : Type 1} → statement M
+clear-record-spec =
     tie.close
     (tie.spec
     mul-ctl

@@ -3,8 +3,8 @@ use Prim.Native.Nat.{_+_, _*_}
 use mathlib.Core.Path.{refl}
 use native.Mathlib.Omega.{arith}
 use borrow.Author.Needs.{needs}
-use Rattle.records.proofs.word_of.Statement.{statement}
-use Rattle.records.proofs.word_of.Tie as tie
+use Rattle.layout.proofs.word.Statement.{statement}
+use Rattle.layout.proofs.word.Tie as tie
 
 mul-result : tie.Need-mul-result
 mul-result c = search needs
@@ -22,9 +22,9 @@ cast-result : tie.Need-cast-result
 cast-result c = let a = c .before .args in omega (arith, c .shared-slice-known .given (5 * a .left + a .i))
 
 returns : tie.Need-returns
-returns c = let a = c .before .args in record { is = refl; small = omega (arith, c .shared-slice-known .given (5 * a .left + a .i)) }
+returns c = let a = c .before .args in (refl, omega (arith, c .shared-slice-known .given (5 * a .left + a .i)))
 
-pub word-of-spec : {M : Type 1} → statement M
-word-of-spec =
+pub word-spec : {M : Type 1} → statement M
+word-spec =
     tie.close
     (tie.spec mul-result add-result mul-result-2 shared-slice-read-result cast-result returns)
