@@ -56,7 +56,15 @@ pub fn admit(
     bytes: &[u8],
 ) -> Verdict
     requires { ⌜ Tables (now table) (now marks) ⌝ }
-    ensures { λ r. ⌜ Admitted (record { file = now (file .entry); map = now (map .entry); main = now (main .entry); ptr = now (ptr .entry); ctl = now (ctl .entry); heap = now (heap .entry); bytes = now (bytes .entry) }) (now (map .exit)) (now (table .exit)) (now (marks .exit)) r ⌝ }
+    ensures { λ r. ⌜ Admitted (record {
+      file = now (file .entry);
+      map = now (map .entry);
+      main = now (main .entry);
+      ptr = now (ptr .entry);
+      ctl = now (ctl .entry);
+      heap = now (heap .entry);
+      bytes = now (bytes .entry);
+    }) (now (map .exit)) (now (table .exit)) (now (marks .exit)) r ⌝ }
 {
     let v = checker::check_with(file, map, table);
     let Verdict::Pass(k) = v else {
@@ -99,7 +107,15 @@ pub fn test_for_run(
     bytes: &[u8],
 ) -> Tested
     requires { ⌜ Tables (now table) (now marks) ⌝ }
-    ensures { λ r. ⌜ TestedAs (record { file = now (file .entry); map = now (map .entry); main = now (main .entry); ptr = now (ptr .entry); ctl = now (ctl .entry); heap = now (heap .entry); bytes = now (bytes .entry) }) (now (map .exit)) (now (table .exit)) (now (marks .exit)) r ⌝ }
+    ensures { λ r. ⌜ TestedAs (record {
+      file = now (file .entry);
+      map = now (map .entry);
+      main = now (main .entry);
+      ptr = now (ptr .entry);
+      ctl = now (ctl .entry);
+      heap = now (heap .entry);
+      bytes = now (bytes .entry);
+    }) (now (map .exit)) (now (table .exit)) (now (marks .exit)) r ⌝ }
 {
     let v = admit(file, map, table, marks, main, ptr, ctl, heap, bytes);
     match v {

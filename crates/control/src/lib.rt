@@ -32,7 +32,8 @@ fn copy(heap: &mut [u32], to: usize, from: &[u32], start: usize, end: usize)
 // 72: a new frame. The operand is its procedure, the return place is behind it.
 pub fn call(file: &[u8], ctl: &mut [u32], regs: Regs, put: Put) -> Regs
     requires { ⌜ Pushes regs (now ctl) × (regs .place + 2 < length (now file)) × (after (now file) (regs .place) ≡ regs .place + 3) × (put .at ≤ 4096) ⌝ }
-    ensures { λ r. ⌜ ((main ptr heap : List ℕ) → record { regs = r; main = main; ptr = ptr; ctl = now (ctl .exit); heap = heap } ≡ called (now (file .entry)) put (record { regs = regs; main = main; ptr = ptr; ctl = now (ctl .entry); heap = heap })) ⌝ }
+    ensures { λ r. ⌜ ((main ptr heap : List ℕ) → record { regs = r; main = main; ptr = ptr; ctl = now (ctl .exit); heap = heap }
+        ≡ called (now (file .entry)) put (record { regs = regs; main = main; ptr = ptr; ctl = now (ctl .entry); heap = heap })) ⌝ }
 {
     let place = regs.place;
     let top = regs.ctop;
@@ -60,7 +61,8 @@ pub fn call(file: &[u8], ctl: &mut [u32], regs: Regs, put: Put) -> Regs
 // 73: the frame's record goes.
 pub fn leave(ctl: &mut [u32], regs: Regs, put: Put) -> Regs
     requires { ⌜ Topped (regs .ctop) (now ctl) × (1 ≤ regs .frame) × (5 * regs .frame ≤ regs .ctop) ⌝ }
-    ensures { λ r. ⌜ ((main ptr heap : List ℕ) → record { regs = r; main = main; ptr = ptr; ctl = now (ctl .exit); heap = heap } ≡ returned put (record { regs = regs; main = main; ptr = ptr; ctl = now (ctl .entry); heap = heap })) ⌝ }
+    ensures { λ r. ⌜ ((main ptr heap : List ℕ) → record { regs = r; main = main; ptr = ptr; ctl = now (ctl .exit); heap = heap }
+        ≡ returned put (record { regs = regs; main = main; ptr = ptr; ctl = now (ctl .entry); heap = heap })) ⌝ }
 {
     let top = regs.ctop;
     let caller = layout::caller_of(ctl, regs.frame);
@@ -80,7 +82,8 @@ pub fn leave(ctl: &mut [u32], regs: Regs, put: Put) -> Regs
 // 160: a handler's record.
 pub fn open(ctl: &mut [u32], regs: Regs, put: Put) -> Regs
     requires { ⌜ Pushes regs (now ctl) × (regs .mtop ≤ 4096) × (regs .ptop ≤ 4096) ⌝ }
-    ensures { λ r. ⌜ ((main ptr heap : List ℕ) → record { regs = r; main = main; ptr = ptr; ctl = now (ctl .exit); heap = heap } ≡ opened put (record { regs = regs; main = main; ptr = ptr; ctl = now (ctl .entry); heap = heap })) ⌝ }
+    ensures { λ r. ⌜ ((main ptr heap : List ℕ) → record { regs = r; main = main; ptr = ptr; ctl = now (ctl .exit); heap = heap }
+        ≡ opened put (record { regs = regs; main = main; ptr = ptr; ctl = now (ctl .entry); heap = heap })) ⌝ }
 {
     let top = regs.ctop;
     let handler = Handler {
@@ -105,7 +108,8 @@ pub fn open(ctl: &mut [u32], regs: Regs, put: Put) -> Regs
 // 161: the innermost handler's record goes.
 pub fn close(ctl: &mut [u32], regs: Regs, put: Put) -> Regs
     requires { ⌜ Topped (regs .ctop) (now ctl) × (1 ≤ regs .handler) × (5 * regs .handler ≤ regs .ctop) ⌝ }
-    ensures { λ r. ⌜ ((main ptr heap : List ℕ) → record { regs = r; main = main; ptr = ptr; ctl = now (ctl .exit); heap = heap } ≡ closed put (record { regs = regs; main = main; ptr = ptr; ctl = now (ctl .entry); heap = heap })) ⌝ }
+    ensures { λ r. ⌜ ((main ptr heap : List ℕ) → record { regs = r; main = main; ptr = ptr; ctl = now (ctl .exit); heap = heap }
+        ≡ closed put (record { regs = regs; main = main; ptr = ptr; ctl = now (ctl .entry); heap = heap })) ⌝ }
 {
     let top = regs.ctop;
     let outer = layout::outer_of(ctl, regs.handler);

@@ -69,7 +69,14 @@ pub fn apply(
     put: Put,
 ) -> Tried
     requires { ⌜ Applies (now file) put (record { regs = regs; main = now main; ptr = now ptr; ctl = now ctl; heap = now heap }) ⌝ }
-    ensures state { λ r. ⌜ record { regs = r .regs; main = now (main .exit); ptr = now (ptr .exit); ctl = now (ctl .exit); heap = now (heap .exit) } ≡ appliedIf (r .done) (now (file .entry)) put (record { regs = regs; main = now (main .entry); ptr = now (ptr .entry); ctl = now (ctl .entry); heap = now (heap .entry) }) ⌝ }
+    ensures state { λ r. ⌜ record { regs = r .regs; main = now (main .exit); ptr = now (ptr .exit); ctl = now (ctl .exit); heap = now (heap .exit) }
+        ≡ appliedIf (r .done) (now (file .entry)) put (record {
+          regs = regs;
+          main = now (main .entry);
+          ptr = now (ptr .entry);
+          ctl = now (ctl .entry);
+          heap = now (heap .entry);
+        }) ⌝ }
     ensures running { λ r. ⌜ r .regs .state ≡ regs .state ⌝ }
     ensures undone { λ r. ⌜ (r .done ≡ false → Late (put .into) regs) ⌝ }
 {
@@ -104,7 +111,8 @@ fn apply_late(
     put: Put,
 ) -> Regs
     requires { ⌜ Lately put (record { regs = regs; main = now main; ptr = now ptr; ctl = now ctl; heap = now heap }) ⌝ }
-    ensures { λ r. ⌜ ((f : List ℕ) → record { regs = r; main = now (main .exit); ptr = now (ptr .exit); ctl = now (ctl .exit); heap = now (heap .exit) } ≡ applied f put (record { regs = regs; main = now (main .entry); ptr = now (ptr .entry); ctl = now (ctl .entry); heap = now (heap .entry) })) ⌝ }
+    ensures { λ r. ⌜ ((f : List ℕ) → record { regs = r; main = now (main .exit); ptr = now (ptr .exit); ctl = now (ctl .exit); heap = now (heap .exit) }
+        ≡ applied f put (record { regs = regs; main = now (main .entry); ptr = now (ptr .entry); ctl = now (ctl .entry); heap = now (heap .entry) })) ⌝ }
 {
     let into = put.into;
     let at = put.at;
@@ -163,7 +171,23 @@ pub fn raise(
     code: u32,
 ) -> Outcome
     requires { ⌜ Raises (now file) (now table) regs (now main) (now ptr) (now ctl) ⌝ }
-    ensures { λ r. ⌜ ((heap : List ℕ) → record { on = r .on; code = r .code; state = record { regs = r .regs; main = now (main .exit); ptr = now (ptr .exit); ctl = now (ctl .exit); heap = heap } } ≡ endedOf (raised (now (file .entry)) (record { regs = regs; main = now (main .entry); ptr = now (ptr .entry); ctl = now (ctl .entry); heap = heap }) code)) ⌝ }
+    ensures { λ r. ⌜ ((heap : List ℕ) → record {
+      on = r .on;
+      code = r .code;
+      state = record {
+        regs = r .regs;
+        main = now (main .exit);
+        ptr = now (ptr .exit);
+        ctl = now (ctl .exit);
+        heap = heap;
+      };
+    } ≡ endedOf (raised (now (file .entry)) (record {
+      regs = regs;
+      main = now (main .entry);
+      ptr = now (ptr .entry);
+      ctl = now (ctl .entry);
+      heap = heap;
+    }) code)) ⌝ }
 {
     let handler = regs.handler;
     if handler == 0 {
@@ -217,7 +241,23 @@ pub fn step_with(
     plan: Plan,
 ) -> Outcome
     requires { ⌜ Settles (now file) (now table) (record { regs = regs; main = now main; ptr = now ptr; ctl = now ctl; heap = now heap }) plan × Later regs plan ⌝ }
-    ensures { λ r. ⌜ record { on = r .on; code = r .code; state = record { regs = r .regs; main = now (main .exit); ptr = now (ptr .exit); ctl = now (ctl .exit); heap = now (heap .exit) } } ≡ endedOf (settle (now (file .entry)) (record { regs = regs; main = now (main .entry); ptr = now (ptr .entry); ctl = now (ctl .entry); heap = now (heap .entry) }) plan) ⌝ }
+    ensures { λ r. ⌜ record {
+      on = r .on;
+      code = r .code;
+      state = record {
+        regs = r .regs;
+        main = now (main .exit);
+        ptr = now (ptr .exit);
+        ctl = now (ctl .exit);
+        heap = now (heap .exit);
+      };
+    } ≡ endedOf (settle (now (file .entry)) (record {
+      regs = regs;
+      main = now (main .entry);
+      ptr = now (ptr .entry);
+      ctl = now (ctl .entry);
+      heap = now (heap .entry);
+    }) plan) ⌝ }
 {
     let Plan::Write(put) = plan else {
         let code = code_of(plan, main, regs.mtop);

@@ -54,7 +54,23 @@ pub extern "C" fn yalgovim_start(
     heap: &[u32],
     registers: &mut [u8],
 ) -> Reply
-    ensures { λ r. ⌜ replies r (record { file = now (file .entry); map = now (map .exit); main = now (main .exit); ptr = now (ptr .exit); ctl = now (ctl .exit); heap = now (heap .entry); bytes = now (registers .exit) }) ≡ repliesTo (startOf (record { file = now (file .entry); map = now (map .entry); main = now (main .entry); ptr = now (ptr .entry); ctl = now (ctl .entry); heap = now (heap .entry); bytes = now (registers .entry) })) ⌝ }
+    ensures { λ r. ⌜ replies r (record {
+      file = now (file .entry);
+      map = now (map .exit);
+      main = now (main .exit);
+      ptr = now (ptr .exit);
+      ctl = now (ctl .exit);
+      heap = now (heap .entry);
+      bytes = now (registers .exit);
+    }) ≡ repliesTo (startOf (record {
+      file = now (file .entry);
+      map = now (map .entry);
+      main = now (main .entry);
+      ptr = now (ptr .entry);
+      ctl = now (ctl .entry);
+      heap = now (heap .entry);
+      bytes = now (registers .entry);
+    })) ⌝ }
 {
     told(machine::start(file, map, main, ptr, ctl, heap, registers))
 }
@@ -70,7 +86,23 @@ pub extern "C" fn yalgovim_run(
     registers: &mut [u8],
     budget: u32,
 ) -> Reply
-    ensures { λ r. ⌜ replies r (record { file = now (file .entry); map = now (map .exit); main = now (main .exit); ptr = now (ptr .exit); ctl = now (ctl .exit); heap = now (heap .exit); bytes = now (registers .exit) }) ≡ repliesTo (runOf budget (record { file = now (file .entry); map = now (map .entry); main = now (main .entry); ptr = now (ptr .entry); ctl = now (ctl .entry); heap = now (heap .entry); bytes = now (registers .entry) })) ⌝ }
+    ensures { λ r. ⌜ replies r (record {
+      file = now (file .entry);
+      map = now (map .exit);
+      main = now (main .exit);
+      ptr = now (ptr .exit);
+      ctl = now (ctl .exit);
+      heap = now (heap .exit);
+      bytes = now (registers .exit);
+    }) ≡ repliesTo (runOf budget (record {
+      file = now (file .entry);
+      map = now (map .entry);
+      main = now (main .entry);
+      ptr = now (ptr .entry);
+      ctl = now (ctl .entry);
+      heap = now (heap .entry);
+      bytes = now (registers .entry);
+    })) ⌝ }
 {
     told(machine::run(file, map, main, ptr, ctl, heap, registers, budget))
 }

@@ -33,7 +33,14 @@ pub fn run_on(
     budget: u32,
 ) -> Ended
     requires { ⌜ Runs (now file) (now table) (record { regs = regs; main = now main; ptr = now ptr; ctl = now ctl; heap = now heap }) ⌝ }
-    ensures { λ r. ⌜ ran (r .answer) (record { regs = r .regs; main = now (main .exit); ptr = now (ptr .exit); ctl = now (ctl .exit); heap = now (heap .exit) }) ≡ runOn (now (file .entry)) budget 0 (record { regs = regs; main = now (main .entry); ptr = now (ptr .entry); ctl = now (ctl .entry); heap = now (heap .entry) }) ⌝ }
+    ensures { λ r. ⌜ ran (r .answer) (record { regs = r .regs; main = now (main .exit); ptr = now (ptr .exit); ctl = now (ctl .exit); heap = now (heap .exit) })
+        ≡ runOn (now (file .entry)) budget 0 (record {
+          regs = regs;
+          main = now (main .entry);
+          ptr = now (ptr .entry);
+          ctl = now (ctl .entry);
+          heap = now (heap .entry);
+        }) ⌝ }
 {
     if regs.state == 1 {
         return answered(Answer::Finished(0), regs);

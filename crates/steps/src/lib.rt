@@ -32,7 +32,19 @@ pub fn go_on(
     budget: u32,
 ) -> Pause
     requires { ⌜ Runs (now file) (now table) (record { regs = regs; main = now main; ptr = now ptr; ctl = now ctl; heap = now heap }) × (regs .state ≡ 1 → ⊥) ⌝ }
-    ensures { λ r. ⌜ Paused (now (file .entry)) (now (table .entry)) budget (record { regs = regs; main = now (main .entry); ptr = now (ptr .entry); ctl = now (ctl .entry); heap = now (heap .entry) }) (r .left) (record { regs = r .regs; main = now (main .exit); ptr = now (ptr .exit); ctl = now (ctl .exit); heap = now (heap .exit) }) (r .plan) ⌝ }
+    ensures { λ r. ⌜ Paused (now (file .entry)) (now (table .entry)) budget (record {
+      regs = regs;
+      main = now (main .entry);
+      ptr = now (ptr .entry);
+      ctl = now (ctl .entry);
+      heap = now (heap .entry);
+    }) (r .left) (record {
+      regs = r .regs;
+      main = now (main .exit);
+      ptr = now (ptr .exit);
+      ctl = now (ctl .exit);
+      heap = now (heap .exit);
+    }) (r .plan) ⌝ }
 {
     let mut r = regs;
     let mut left = budget;

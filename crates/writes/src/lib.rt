@@ -77,7 +77,8 @@ fn pop_four(l: &mut [u32], new: usize, old: usize)
 // 73 in the first frame: the run is finished.
 pub fn finish(ctl: &mut [u32], regs: Regs) -> Regs
     requires { ⌜ Topped (regs .ctop) (now ctl) ⌝ }
-    ensures { λ r. ⌜ ((main ptr heap : List ℕ) → record { regs = r; main = main; ptr = ptr; ctl = now (ctl .exit); heap = heap } ≡ finished (record { regs = regs; main = main; ptr = ptr; ctl = now (ctl .entry); heap = heap })) ⌝ }
+    ensures { λ r. ⌜ ((main ptr heap : List ℕ) → record { regs = r; main = main; ptr = ptr; ctl = now (ctl .exit); heap = heap }
+        ≡ finished (record { regs = regs; main = main; ptr = ptr; ctl = now (ctl .entry); heap = heap })) ⌝ }
 {
     cut_to(ctl, 0, regs.ctop);
     Regs {
@@ -94,7 +95,9 @@ pub fn finish(ctl: &mut [u32], regs: Regs) -> Regs
 // 60, 62 and 64: the word set aside is put back.
 fn put_back(main: &mut [u32], ptr: &mut [u32], put: Put)
     requires { ⌜ Retract (put .into) × InMain (length (now main)) put × InPtr (length (now ptr)) put ⌝ }
-    ensures { λ _. ⌜ ((m : Machine) → now (main .entry) ≡ cut (put .mtop) (m .main) → now (ptr .entry) ≡ cut (put .ptop) (m .ptr) → record { regs = onwards put (m .regs); main = now (main .exit); ptr = now (ptr .exit); ctl = m .ctl; heap = m .heap } ≡ plainly (put .into) put m) ⌝ }
+    ensures { λ _. ⌜ ((m : Machine) → now (main .entry) ≡ cut (put .mtop) (m .main) → now (ptr .entry) ≡ cut (put .ptop) (m .ptr)
+        → record { regs = onwards put (m .regs); main = now (main .exit); ptr = now (ptr .exit); ctl = m .ctl; heap = m .heap }
+        ≡ plainly (put .into) put m) ⌝ }
 {
     let into = put.into;
     let at = put.at;
@@ -112,7 +115,8 @@ fn put_back(main: &mut [u32], ptr: &mut [u32], put: Put)
 // 60, 62 and 64, however many words go.
 pub fn drop_all(main: &mut [u32], ptr: &mut [u32], regs: Regs, put: Put)
     requires { ⌜ Dropping (now main) (now ptr) regs put ⌝ }
-    ensures { λ _. ⌜ ((ctl heap : List ℕ) → record { regs = onwards put regs; main = now (main .exit); ptr = now (ptr .exit); ctl = ctl; heap = heap } ≡ plainly (put .into) put (record { regs = regs; main = now (main .entry); ptr = now (ptr .entry); ctl = ctl; heap = heap })) ⌝ }
+    ensures { λ _. ⌜ ((ctl heap : List ℕ) → record { regs = onwards put regs; main = now (main .exit); ptr = now (ptr .exit); ctl = ctl; heap = heap }
+        ≡ plainly (put .into) put (record { regs = regs; main = now (main .entry); ptr = now (ptr .entry); ctl = ctl; heap = heap })) ⌝ }
 {
     cut_to(main, put.mtop, regs.mtop);
     cut_to(ptr, put.ptop, regs.ptop);
@@ -122,7 +126,8 @@ pub fn drop_all(main: &mut [u32], ptr: &mut [u32], regs: Regs, put: Put)
 // The same where at most four words of each stack go; where more would, nothing is done.
 fn drop_few(main: &mut [u32], ptr: &mut [u32], regs: Regs, put: Put) -> bool
     requires { ⌜ Dropping (now main) (now ptr) regs put ⌝ }
-    ensures { λ r. ⌜ ((ctl heap : List ℕ) → record { regs = triedOn r put regs; main = now (main .exit); ptr = now (ptr .exit); ctl = ctl; heap = heap } ≡ tried r (put .into) put (record { regs = regs; main = now (main .entry); ptr = now (ptr .entry); ctl = ctl; heap = heap })) ⌝ }
+    ensures { λ r. ⌜ ((ctl heap : List ℕ) → record { regs = triedOn r put regs; main = now (main .exit); ptr = now (ptr .exit); ctl = ctl; heap = heap }
+        ≡ tried r (put .into) put (record { regs = regs; main = now (main .entry); ptr = now (ptr .entry); ctl = ctl; heap = heap })) ⌝ }
 {
     if 4 < regs.mtop - put.mtop {
         return false;
@@ -140,7 +145,13 @@ fn drop_few(main: &mut [u32], ptr: &mut [u32], regs: Regs, put: Put) -> bool
 // Each arm pops by itself: a plan made with a known `into` then jumps to its arm, which looks at no stack that its instructions leave alone.
 pub fn plain(main: &mut [u32], ptr: &mut [u32], heap: &mut [u32], regs: Regs, put: Put) -> bool
     requires { ⌜ Plain (length (now heap)) (now main) (now ptr) regs put ⌝ }
-    ensures state { λ r. ⌜ ((ctl : List ℕ) → record { regs = triedOn r put regs; main = now (main .exit); ptr = now (ptr .exit); ctl = ctl; heap = now (heap .exit) } ≡ tried r (put .into) put (record { regs = regs; main = now (main .entry); ptr = now (ptr .entry); ctl = ctl; heap = now (heap .entry) })) ⌝ }
+    ensures state { λ r. ⌜ ((ctl : List ℕ) → record {
+      regs = triedOn r put regs;
+      main = now (main .exit);
+      ptr = now (ptr .exit);
+      ctl = ctl;
+      heap = now (heap .exit);
+    } ≡ tried r (put .into) put (record { regs = regs; main = now (main .entry); ptr = now (ptr .entry); ctl = ctl; heap = now (heap .entry) })) ⌝ }
     ensures undone { λ r. ⌜ (r ≡ false → Retract (put .into)) ⌝ }
 {
     let into = put.into;

@@ -15,7 +15,9 @@ enum-told : tie.Need-enum-told
 enum-told c = search needs
 
 form-requires : tie.Need-form-requires
-form-requires c κs = c .before .before .before .before .before .before .before .before .before .before .pre .form (c .before .before .before .enum-told .given .1)
+form-requires c κs =
+    let entry = c .before .before .before .before .before .before .before .before .before .before in
+    entry .pre .form (c .before .before .before .enum-told .given .1)
 
 cut-to-requires : tie.Need-cut-to-requires
 cut-to-requires c κs = search needs
@@ -24,10 +26,16 @@ cut-to-requires-2 : tie.Need-cut-to-requires-2
 cut-to-requires-2 c κs = search needs
 
 mul-ptr : tie.Need-mul-ptr
-mul-ptr c = omega (arith, c .before .before .before .before .before .before .before .before .before .before .before .before .before .before .before .before .before .before .before .before .before .pre .below (c .before .before .before .before .before .before .before .before .before .before .before .before .before .before .enum-told .given .1))
+mul-ptr c =
+    let at-enum-told = c .before .before .before .before .before .before .before .before .before .before .before .before .before .before in
+    let entry = at-enum-told .before .before .before .before .before .before .before in
+    omega (arith, entry .pre .below (at-enum-told .enum-told .given .1))
 
 slice-write-ptr : tie.Need-slice-write-ptr
-slice-write-ptr c = rw (c .before .before .cut-to2 .ensures, length-cut) (c .before .before .before .before .before .before .before .before .before .before .before .before .before .before .before .before .before .before .before .before .before .pre .below (c .before .before .before .before .before .before .before .before .before .before .before .before .before .before .enum-told .given .1))
+slice-write-ptr c =
+    let at-enum-told = c .before .before .before .before .before .before .before .before .before .before .before .before .before .before in
+    let entry = at-enum-told .before .before .before .before .before .before .before in
+    rw (c .before .before .cut-to2 .ensures, length-cut) (entry .pre .below (at-enum-told .enum-told .given .1))
 
 enum-told-2 : tie.Need-enum-told-2
 enum-told-2 c = search needs
@@ -37,7 +45,8 @@ finish-requires c κs = search needs
 
 drop-all-requires : tie.Need-drop-all-requires
 drop-all-requires c κs =
-    let S = c .before .before .before .before .before .before .before .before in S .pre .retract (late-retract (S .args .put .into) (S .args .regs) (S .pre .late) (c .before .before .match .keys3))
+    let back8 = c .before .before .before .before .before .before .before .before in
+    let S = back8 in S .pre .retract (late-retract (S .args .put .into) (S .args .regs) (S .pre .late) (c .before .before .match .keys3))
 
 same-length : tie.Need-same-length
 same-length c = search needs
@@ -51,7 +60,10 @@ same-length-3 c = search needs
 returns : tie.Need-returns
 returns c f =
     let S = c .before .before .before .before .before .before .before .before .before .before .before .before .before .before .before .before .before .before .before .before .before in
-    view-applied f (S .args .put) (record { regs = S .args .regs; main = S .args .main .now; ptr = S .args .ptr .now; ctl = S .args .ctl .now; heap = S .args .heap .now }) _ _ _ _ (c .before .before .before .before .before .before .before .before .before .before .before .before .before .before .enum-told .given .1) (c .before .before .before .before .before .before .before .before .before .before .before .before .before .before .before .before .onward .ensures) (c .before .before .before .before .before .before .cut-to .ensures) (c .before .before .cut-to2 .ensures) (c .before .before .before .before .before .before .before .before .before .before .form .ensures)
+    view-applied f (S .args .put) (record { regs = S .args .regs; main = S .args .main .now; ptr = S .args .ptr .now; ctl = S .args .ctl .now; heap = S .args .heap .now }) _ _ _ _
+    (c .before .before .before .before .before .before .before .before .before .before .before .before .before .before .enum-told .given .1) (c .before .before .before .before .before
+    .before .before .before .before .before .before .before .before .before .before .before .onward .ensures) (c .before .before .before .before .before .before .cut-to .ensures)
+    (c .before .before .cut-to2 .ensures) (c .before .before .before .before .before .before .before .before .before .before .form .ensures)
 
 same-length-4 : tie.Need-same-length-4
 same-length-4 c = search needs
@@ -60,7 +72,8 @@ returns-2 : tie.Need-returns-2
 returns-2 c f =
     let S = c .before .before .before .before .before .before .before .before .before .before .before in
     c .before .before .finish .ensures (S .args .main .now) (S .args .ptr .now) (S .args .heap .now)
-    ∙ finish-applied f (S .args .put) (record { regs = S .args .regs; main = S .args .main .now; ptr = S .args .ptr .now; ctl = S .args .ctl .now; heap = S .args .heap .now }) (c .before .before .before .before .enum-told2 .given .1) (late-return (S .args .put .into) (S .args .regs) (S .pre .late) (c .before .before .before .before .enum-told2 .given .1))
+    ∙ finish-applied f (S .args .put) (record { regs = S .args .regs; main = S .args .main .now; ptr = S .args .ptr .now; ctl = S .args .ctl .now; heap = S .args .heap .now })
+    (c .before .before .before .before .enum-told2 .given .1) (late-return (S .args .put .into) (S .args .regs) (S .pre .late) (c .before .before .before .before .enum-told2 .given .1))
 
 same-length-5 : tie.Need-same-length-5
 same-length-5 c = search needs
@@ -73,7 +86,8 @@ returns-3 c f =
     let S = c .before .before .before .before .before .before .before .before .before .before .before .before .before in
     rw (c .before .before .before .before .before .before .before .before .onward .ensures)
     (c .before .before .before .before .drop-all .ensures (S .args .ctl .now) (S .args .heap .now)
-    ∙ drop-applied f (S .args .put) (record { regs = S .args .regs; main = S .args .main .now; ptr = S .args .ptr .now; ctl = S .args .ctl .now; heap = S .args .heap .now }) (late-retract (S .args .put .into) (S .args .regs) (S .pre .late) (c .before .before .before .before .before .before .before .match .keys3)))
+    ∙ drop-applied f (S .args .put) (record { regs = S .args .regs; main = S .args .main .now; ptr = S .args .ptr .now; ctl = S .args .ctl .now; heap = S .args .heap .now })
+    (late-retract (S .args .put .into) (S .args .regs) (S .pre .late) (c .before .before .before .before .before .before .before .match .keys3)))
 
 pub apply-late-spec : {M : Type 1} → statement M
 apply-late-spec =

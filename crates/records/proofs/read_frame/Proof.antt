@@ -31,7 +31,8 @@ first-right-requires c κs = search needs
 
 returns-2 : tie.Need-returns-2
 returns-2 c =
-    let c₀ = c .before .before .before .before .before in
+    let back5 = c .before .before .before .before .before in
+    let c₀ = back5 in
     let a = c₀ .before .before .before .before .args in
     let pre = c₀ .before .before .before .before .pre in
     let w = c₀ .frame-at in
@@ -55,7 +56,8 @@ call-before-requires c κs = search needs
 
 caller-right-requires : tie.Need-caller-right-requires
 caller-right-requires c κs =
-    let c₀ = c .before .before .before .before .before .before in
+    let back6 = c .before .before .before .before .before .before in
+    let c₀ = back6 in
     let a = c₀ .before .before .before .before .args in
     let pre = c₀ .before .before .before .before .pre in
     let w = c₀ .frame-at in
@@ -69,22 +71,26 @@ caller-right-requires c κs =
 
 returns-3 : tie.Need-returns-3
 returns-3 c =
-    let c₀ = c .before .before .before .before .before .before .before .before in
+    let back6 = c .before .before .before .before .before .before in
+    let back8 = back6 .before .before in
+    let c₀ = back8 in
     let a = c₀ .before .before .before .before .args in
     let pre = c₀ .before .before .before .before .pre in
     let w = c₀ .frame-at in
-    let c₁ = c .before .before .before .before .before .before in
+    let c₁ = back6 in
     let own = sym (not-false _ (c₁ .if1 .left)) ∙ c₁ .before .frame-right .ensures (down (a .ctl .now) (a .left)) (down-length (a .ctl .now) (a .left)) in
     let no = sym (not-true _ (c .if3 .taken)) ∙ c .before .caller-right .ensures (a .lm) (a .lp) in
     told-call _ _ _ _ _ _ _ (w .result) (w .ensures .is) (pre .3) own (c .before .before .before .before .if2 .left) _ (c .before .before .call-before .ensures) no
 
 caller-of-requires : tie.Need-caller-of-requires
 caller-of-requires c κs =
-    let c₀ = c .before .before .before .before .before .before .before .before in
+    let back6 = c .before .before .before .before .before .before in
+    let back8 = back6 .before .before in
+    let c₀ = back8 in
     let a = c₀ .before .before .before .before .args in
     let pre = c₀ .before .before .before .before .pre in
     let w = c₀ .frame-at in
-    let c₁ = c .before .before .before .before .before .before in
+    let c₁ = back6 in
     let own = sym (not-false _ (c₁ .if1 .left)) ∙ c₁ .before .frame-right .ensures (down (a .ctl .now) (a .left)) (down-length (a .ctl .now) (a .left)) in
     let fits = frame-fits (a .file .now) (a .map .now) (a .lm) (a .lp) (w .result) (down (a .ctl .now) (a .left)) (a .s) own (pre .1 .main) (pre .1 .ptr) in
     let head = c .before .before .before .head-of .ensures in
@@ -95,17 +101,22 @@ caller-of-requires c κs =
 
 returns-4 : tie.Need-returns-4
 returns-4 c =
-    let c₀ = c .before .before .before .before .before .before .before .before .before in
+    let at-call-before = c .before .before .before in
+    let at-head-of = at-call-before .before in
+    let at-if2 = at-head-of .before in
+    let back7 = at-if2 .before .before in
+    let back9 = back7 .before .before in
+    let c₀ = back9 in
     let a = c₀ .before .before .before .before .args in
     let pre = c₀ .before .before .before .before .pre in
     let w = c₀ .frame-at in
-    let c₁ = c .before .before .before .before .before .before .before in
+    let c₁ = back7 in
     let own = sym (not-false _ (c₁ .if1 .left)) ∙ c₁ .before .frame-right .ensures (down (a .ctl .now) (a .left)) (down-length (a .ctl .now) (a .left)) in
     let yes = sym (not-false _ (c .before .if3 .left)) ∙ c .before .before .caller-right .ensures (a .lm) (a .lp) in
-    let call = c .before .before .before .call-before .result in
-    let pops = called (a .file .now) (a .map .now) (a .lm) (a .lp) (w .result) call (c .before .before .before .before .head-of .result) (c .before .before .before .before .head-of .ensures) yes in
+    let call = at-call-before .call-before .result in
+    let pops = called (a .file .now) (a .map .now) (a .lm) (a .lp) (w .result) call (at-head-of .head-of .result) (at-head-of .head-of .ensures) yes in
     let r = c .caller-of .ensures in
-    told-caller _ _ _ _ _ _ _ (w .result) (w .ensures .is) (pre .3) own (c .before .before .before .before .before .if2 .left) _ (c .before .before .before .call-before .ensures) _ yes
+    told-caller _ _ _ _ _ _ _ (w .result) (w .ensures .is) (pre .3) own (at-if2 .if2 .left) _ (at-call-before .call-before .ensures) _ yes
     (r .0 (a .file .now) (a .lm) (a .lp) (effectOf (a .file .now) (insAt (a .file .now) call)) pops) (r .1)
 
 pub read-frame-spec : {M : Type 1} → statement M
