@@ -18,8 +18,8 @@ use Rattle.exact.specs.Walk.{first-head, after-head}
 use Rattle.scan.specs.Rest.{rest-inv, whole-inside, records-first}
 use Rattle.scan.specs.Heading.{Placed}
 use Rattle.checker.specs.Parts.{answerOf, Checks}
-use Rattle.checker.specs.declared.Verdict.{Verdict}
-use Rattle.checker.specs.declared.Verdict.the-variants.{Pass, Refuse}
+use Rattle.flow.specs.declared.Verdict.{Verdict}
+use Rattle.flow.specs.declared.Verdict.the-variants.{Pass, Refuse}
 use Rattle.code.specs.Heads.{HeadIs, procHead, head-of}
 use Rattle.code.specs.declared.Head.{Head}
 use Rattle.heap.specs.Table.{Marks, Audited}

@@ -11,8 +11,8 @@ use Rattle.model.specs.Control.{regsFrom}
 use Rattle.model.specs.Sound.{sound?}
 use Rattle.model.specs.Claim.{Bytes}
 use Rattle.model.specs.Calls.{Lent, withMap, machineOf, After, answers, lengthTests, soundTests, demand, testedForRun}
-use Rattle.checker.specs.declared.Verdict.{Verdict}
-use Rattle.checker.specs.declared.Verdict.the-variants.{Pass, Refuse}
+use Rattle.flow.specs.declared.Verdict.{Verdict}
+use Rattle.flow.specs.declared.Verdict.the-variants.{Pass, Refuse}
 use Rattle.heap.specs.Table.{Marks}
 use Rattle.places.specs.Places.{Ready, passed-ready}
 use Rattle.admit.specs.Admit.{Shown, Admitted, tested-refused, tested-on}

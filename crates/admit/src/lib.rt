@@ -3,8 +3,8 @@ ghost use mathlib.Core.Path.{_≡_};
 ghost use Rattle.model.specs.Choice.{all};
 ghost use Rattle.admit.specs.Admit.{lengthList, Tables, Admitted};
 ghost use Rattle.admit.specs.Tested.{TestedAs};
-use checker::Verdict;
 use code::Head;
+use flow::Verdict;
 use heap::HeapAudit;
 use model::Regs;
 

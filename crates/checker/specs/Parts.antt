@@ -20,10 +20,10 @@ use Rattle.flow.specs.Takes.{Fit}
 use Rattle.flow.specs.Flowing.{Begun, Flowed}
 use Rattle.scan.specs.declared.Found.{Found}
 use Rattle.scan.specs.declared.Found.the-variants.{Broken, Whole}
-use Rattle.checker.specs.declared.Verdict.{Verdict}
-use Rattle.checker.specs.declared.Verdict.the-variants.{Pass, Refuse}
+use Rattle.flow.specs.declared.Verdict.{Verdict}
+use Rattle.flow.specs.declared.Verdict.the-variants.{Pass, Refuse}
 use Rattle.model.specs.declared.Answer.{Answer}
-use Rattle.model.specs.declared.Answer.the-variants.{Passed, Ready, Finished, Spent, Uncaught, Refused}
+use Rattle.model.specs.declared.Answer.the-variants.{Passed, Refused}
 
 -- a file, its part of the map and an empty table
 pub record Lengths (f m table : List ℕ) : Type 0 where
@@ -120,20 +120,11 @@ module _ (f m table : List ℕ) (M : Marked f m table) where
       }
 
   -- the heads are right, and what the flow comes to decides
-  module _ (m₁ m₂ table₁ : List ℕ) (k : ℕ) (r : Answer) (H : (headsOf f ≡ right) × Placed f table₁ k × Shows f (firsts f k) m₁) (F : Flowed f m₂ r) where
-    pub look-passed : ((n p : ℕ) → r ≡ Refused n p → ⊥) → Looked f m₂ table₁ (Pass k)
-    look-passed never = go r F never
-      where
-        go : (s : Answer) → Flowed f m₂ s → ((n p : ℕ) → s ≡ Refused n p → ⊥) → Looked f m₂ table₁ (Pass k)
-        go Passed G never = (G .0, (λ map. rw (whole-starts .1, H .0, G .1)), G .2, H .1)
-        go Ready G never = absurd G
-        go (Finished n) G never = absurd G
-        go (Spent n) G never = absurd G
-        go (Uncaught w p n) G never = absurd G
-        go (Refused n p) G never = absurd (never n p refl)
-
-    pub look-refused : (n p : ℕ) → r ≡ Refused n p → Looked f m₂ table₁ (Refuse n p)
-    look-refused n p e map = let G : Flowed f m₂ (Refused n p) = rw e at F in rw (whole-starts .1, H .0, G)
+  pub look-flow : (m₁ m₂ table₁ : List ℕ) (k : ℕ) (v : Verdict) → (headsOf f ≡ right) × Placed f table₁ k × Shows f (firsts f k) m₁ →
+      Flowed f m₂ k v → Looked f m₂ table₁ v
+  look-flow m₁ m₂ table₁ k (Pass n) H F =
+      (F .1 .0, (λ map. rw (whole-starts .1, H .0, F .1 .1)), F .1 .2, rw (F .0) (H .1))
+  look-flow m₁ m₂ table₁ k (Refuse n p) H F = λ map. rw (whole-starts .1, H .0, F)
 
 -- a passed file keeps its part, a refused one has it filled
 pub fill-kept : (f m table : List ℕ) (v : Verdict) → ((n p : ℕ) → v ≡ Refuse n p → ⊥) → Looked f m table v → Filled f m table v

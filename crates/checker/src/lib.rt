@@ -5,15 +5,10 @@ ghost use lib.ListN.{replicate};
 ghost use Rattle.scan.specs.Heading.{Marked};
 ghost use Rattle.checker.specs.Parts.{Lengths, Looked, Filled, Checks};
 ghost use Rattle.model.specs.Calls.{checked, checkOf};
+use flow::Verdict;
 use model::Answer;
 use scan::Found;
 use scan::Heads;
-
-// What the tests find: the file passes and has so many procedures, or it is refused with a number and a place.
-pub enum Verdict {
-    Pass(usize),
-    Refuse(u32, usize),
-}
 
 // Refusals 4 to 9, of a file whose records are marked in its part of the map.
 fn look(file: &[u8], m: &mut [u16], table: &mut [usize; 64]) -> Verdict
@@ -23,13 +18,7 @@ fn look(file: &[u8], m: &mut [u16], table: &mut [usize; 64]) -> Verdict
     let heads = scan::heads_of(file, m, table);
     match heads {
         Heads::Wrong(p) => Verdict::Refuse(4, p),
-        Heads::Right(k) => {
-            let a = flow::flow(file, m, table, k);
-            let Answer::Refused(n, p) = a else {
-                return Verdict::Pass(k);
-            };
-            Verdict::Refuse(n, p)
-        }
+        Heads::Right(k) => flow::flow(file, m, table, k),
     }
 }
 

@@ -22,8 +22,8 @@ use Rattle.effects.specs.Site.{Table}
 use Rattle.flow.specs.Own.{endOf, between, end-low, own-alike}
 use Rattle.flow.specs.Takes.{Good, Alike, take-alike, takeIn, in-set, in-unset}
 use Rattle.flow.specs.Faults.{takeAns, Here, Held, endIn}
-use Rattle.model.specs.declared.Answer.{Answer}
-use Rattle.model.specs.declared.Answer.the-variants.{Passed, Ready, Finished, Spent, Uncaught, Refused}
+use Rattle.flow.specs.declared.Verdict.{Verdict}
+use Rattle.flow.specs.declared.Verdict.the-variants.{Pass, Refuse}
 
 -- the records and heads of a file are right, and its part shows the first instructions
 pub record Begun (f m table : List ℕ) (k : ℕ) : Type 0 where
@@ -37,13 +37,9 @@ pub record Begun (f m table : List ℕ) (k : ℕ) : Type 0 where
   pub good : Good f (firsts f k) m
 
 -- what the flow comes to
-abbrev pub Flowed : List ℕ → List ℕ → Answer → Type 0
-Flowed f m Passed = (k : Known) × (flow f ≡ passed k) × (m ≡ mapFrom k (length f) 0)
-Flowed f m Ready = ⊥
-Flowed f m (Finished n) = ⊥
-Flowed f m (Spent n) = ⊥
-Flowed f m (Uncaught w p n) = ⊥
-Flowed f m (Refused n p) = flow f ≡ refused n p
+abbrev pub Flowed : List ℕ → List ℕ → ℕ → Verdict → Type 0
+Flowed f m n (Pass j) = (j ≡ n) × ((k : Known) × (flow f ≡ passed k) × (m ≡ mapFrom k (length f) 0))
+Flowed f m n (Refuse r p) = flow f ≡ refused r p
 
 abbrev pub ins : List ℕ → List ℕ → List ℕ
 ins f ps = select (λ p. not (isHead f p)) ps
@@ -298,7 +294,7 @@ module _ (f m₀ table : List ℕ) (k : ℕ) (B : Begun f m₀ table k) where
       unfolding takeAll
       come = F .so-far ∙ ap (λ (l : List ℕ). takeAll f l (F .known)) ins-are
 
-      pub flowing-fault : (r : ℕ) (m′ : List ℕ) → takeAns r m′ ≡ takeIn f p m → (r ≡ 0 → ⊥) → Flowed f m′ (Refused r p)
+      pub flowing-fault : (r : ℕ) (m′ : List ℕ) → takeAns r m′ ≡ takeIn f p m → (r ≡ 0 → ⊥) → Flowed f m′ k (Refuse r p)
       flowing-fault r m′ w n = go (taken (take f p (F .known)) (takeIn f p m) r m′ w alike)
         where
           go : Took (take f p (F .known)) r m′ → flow f ≡ refused r p
@@ -348,13 +344,13 @@ module _ (f m₀ table : List ℕ) (k : ℕ) (B : Begun f m₀ table k) where
           let y2 : suc (suc (suc (3 * q))) + 2 ≡ suc (suc (suc (3 * q + 2))) = omega arith in
           rw (y0, y1, y2, x) at (h (suc q) (omega arith))
 
-  pub flowing-end : (m : List ℕ) (p c h e : ℕ) → Flowing f m table k p c h e → length f ≤ p → Flowed f m Passed
+  pub flowing-end : (m : List ℕ) (p c h e : ℕ) → Flowing f m table k p c h e → length f ≤ p → Flowed f m k (Pass k)
   unfolding takeAll
   flowing-end m p c h e F l =
       let w : starts (F .rest) ≡ starts [] = sym (F .rest-is) ∙ rest-end f p l in
       let z : F .rest ≡ [] = cc in
       let done : flow f ≡ passed (F .known) = F .so-far ∙ ap (λ (r : List ℕ). takeAll f (ins f r) (F .known)) z in
-      (F .known, done, by-states (F .known) (length f) 0 m (F .good .shows .long) (λ q b. at q b done (member q (instructions f)) refl))
+      (refl, (F .known, done, by-states (F .known) (length f) 0 m (F .good .shows .long) (λ q b. at q b done (member q (instructions f)) refl)))
     where
       at : (q : ℕ) → q < length f → flow f ≡ passed (F .known) → (t : Bool) → member q (instructions f) ≡ t → stateIn m q ≡ stateAt (F .known) (0 + q)
       at q b done true i =

@@ -12,7 +12,6 @@ ghost use Rattle.flow.specs.Takes.{passOneIn, passAllIn, takeIn};
 ghost use Rattle.flow.specs.Faults.{passAns, takeAns, StateIs, OuterIs, Held, Target, Room, shapePasses, earlyOf, lateOf, Here, endIn};
 ghost use Rattle.flow.specs.Flowing.{Begun, Flowed};
 use effects::Shape;
-use model::Answer;
 use transfer::State;
 
 // An instruction starts here that no state has reached yet.
@@ -198,10 +197,16 @@ fn end_of(table: &[usize; 64], k: usize, c: usize, n: usize) -> usize
     if c < k { table[c] } else { n }
 }
 
+// What the tests find: the file passes and has so many procedures, or it is refused with a number and a place.
+pub enum Verdict {
+    Pass(usize),
+    Refuse(u32, usize),
+}
+
 // The instructions in file order.
-pub fn flow(file: &[u8], m: &mut [u16], table: &[usize; 64], k: usize) -> Answer
+pub fn flow(file: &[u8], m: &mut [u16], table: &[usize; 64], k: usize) -> Verdict
     requires { ⌜ Begun (now file) (now m) (now table) k ⌝ }
-    ensures { λ r. ⌜ Flowed (now (file .entry)) (now (m .exit)) r ⌝ }
+    ensures { λ r. ⌜ Flowed (now (file .entry)) (now (m .exit)) k r ⌝ }
 {
     let n = file.len();
     let bodies = code::bodies();
@@ -218,10 +223,10 @@ pub fn flow(file: &[u8], m: &mut [u16], table: &[usize; 64], k: usize) -> Answer
         } else {
             let fault = take(&bodies, file, table, m, k, head, end, p);
             if fault != 0 {
-                return Answer::Refused(fault, p);
+                return Verdict::Refuse(fault, p);
             }
         }
         p = next;
     }
-    Answer::Passed
+    Verdict::Pass(k)
 }

@@ -10,8 +10,8 @@ use Rattle.model.specs.File.{entry}
 use Rattle.model.specs.Control.{frameRec, putRec, regBytes}
 use Rattle.model.specs.Calls.{Lent, withMap, answers, firstFrame, started, startOf, leaving}
 use Rattle.admit.specs.Admit.{Admitted, tested-refused, tested-on, first-whole}
-use Rattle.checker.specs.declared.Verdict.{Verdict}
-use Rattle.checker.specs.declared.Verdict.the-variants.{Pass, Refuse}
+use Rattle.flow.specs.declared.Verdict.{Verdict}
+use Rattle.flow.specs.declared.Verdict.the-variants.{Pass, Refuse}
 use Rattle.model.specs.declared.Regs.{Regs}
 use Rattle.model.specs.declared.Answer.the-variants.{Ready, Refused}
 

@@ -4,7 +4,7 @@ ghost use lib.ListN.{length, replicate};
 ghost use Rattle.model.specs.Calls.{answers, startOf, runOf};
 ghost use Rattle.machine.specs.Starts.{firstRegs};
 use admit::Tested;
-use checker::Verdict;
+use flow::Verdict;
 use model::Answer;
 use model::RECORD;
 use model::Regs;

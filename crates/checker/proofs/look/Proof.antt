@@ -1,7 +1,5 @@
 -- `checker::look` meets its contract: the heads decide, or else the flow.
-use mathlib.Core.Logic.{⊎-elim}
-use native.Mathlib.Omega.{arith}
-use Rattle.checker.specs.Parts.{look-wrong, look-begun, look-passed, look-refused}
+use Rattle.checker.specs.Parts.{look-wrong, look-begun, look-flow}
 use borrow.Author.Needs.{needs}
 use Rattle.checker.proofs.look.Statement.{statement}
 use Rattle.checker.proofs.look.Tie as tie
@@ -22,45 +20,27 @@ flow-requires c κs =
     look-begun (entry .args .file .now) (entry .args .m .now) (entry .args .table .now) (entry .pre) (at-heads-of .heads-of .last .1 .0) (at-heads-of .heads-of .last .1 .1 .0) _
     (rw (c .before .before .before .heads2 .given .1) at (at-heads-of .heads-of .ensures))
 
-enum-known-a : tie.Need-enum-known-a
-enum-known-a c = search needs
-
 same-length : tie.Need-same-length
 same-length c = search needs
 
 returns : tie.Need-returns
 returns c =
-    let at-flow = c .before .before .before in
-    let at-heads2 = at-flow .before .before .before .before in
-    let at-heads-of = at-heads2 .before .before .before .before in
+    let at-heads-of = c .before .before .before .before .before in
     let entry = at-heads-of .before .before .before .before .before in
-    look-passed (entry .args .file .now) (entry .args .m .now) (entry .args .table .now) (entry .pre) (at-heads-of .heads-of .last .1 .0) (at-flow .flow .last .1 .0)
-    (at-heads-of .heads-of .last .1 .1 .0) _ (at-flow .flow .result) (rw (at-heads2 .heads2 .given .1) at (at-heads-of .heads-of .ensures))
-    (at-flow .flow .ensures) (λ n p e. ⊎-elim (λ z. omega arith) (⊎-elim (λ z. omega arith) (⊎-elim (λ z. omega arith) (⊎-elim (λ z. omega arith)
-    (λ z. omega arith)))) (rw e at (c .match2 .keys2)))
+    look-wrong (entry .args .file .now) (entry .args .m .now) (entry .args .table .now) (entry .pre) (at-heads-of .heads-of .last .1 .0) (at-heads-of .heads-of .last .1 .1 .0) _
+    (rw (c .before .heads .given .1) at (at-heads-of .heads-of .ensures) .0)
 
 same-length-2 : tie.Need-same-length-2
 same-length-2 c = search needs
 
 returns-2 : tie.Need-returns-2
 returns-2 c =
-    let at-heads-of = c .before .before .before .before .before in
-    let entry = at-heads-of .before .before .before .before .before in
-    look-wrong (entry .args .file .now) (entry .args .m .now) (entry .args .table .now) (entry .pre) (at-heads-of .heads-of .last .1 .0) (at-heads-of .heads-of .last .1 .1 .0) _
-    (rw (c .before .heads .given .1) at (at-heads-of .heads-of .ensures) .0)
-
-same-length-3 : tie.Need-same-length-3
-same-length-3 c = search needs
-
-returns-3 : tie.Need-returns-3
-returns-3 c =
-    let at-flow = c .before .before .before .before .before in
-    let at-heads2 = at-flow .before .before .before .before in
+    let at-heads2 = c .before .before .before .before .before .before in
     let at-heads-of = at-heads2 .before .before .before .before in
     let entry = at-heads-of .before .before .before .before .before in
-    look-refused (entry .args .file .now) (entry .args .m .now) (entry .args .table .now) (entry .pre) (at-heads-of .heads-of .last .1 .0) (at-flow .flow .last .1 .0)
-    (at-heads-of .heads-of .last .1 .1 .0) _ (at-flow .flow .result) (rw (at-heads2 .heads2 .given .1) at (at-heads-of .heads-of .ensures))
-    (at-flow .flow .ensures) _ _ (c .before .a .given .1)
+    look-flow (entry .args .file .now) (entry .args .m .now) (entry .args .table .now) (entry .pre) (at-heads-of .heads-of .last .1 .0) (c .before .before .flow .last .1 .0)
+    (at-heads-of .heads-of .last .1 .1 .0) _ (c .before .before .flow .result) (rw (at-heads2 .heads2 .given .1) at (at-heads-of .heads-of .ensures))
+    (c .before .before .flow .ensures)
 
 pub look-spec : {M : Type 1} → statement M
 look-spec =
@@ -70,10 +50,7 @@ look-spec =
     enum-known-heads
     enum-known-heads-2
     flow-requires
-    enum-known-a
     same-length
     returns
     same-length-2
-    returns-2
-    same-length-3
-    returns-3)
+    returns-2)
