@@ -1,14 +1,16 @@
 -- A number that a match has found to be one of a list, or none of several: what holds at each code of the list holds at it, and a number
--- that is no other instruction's code stands for raise.
+-- that is no other instruction's code stands for raise, and has raise's body if it has any.
 use Prim.Native.Nat.{ℕ}
 use mathlib.Core.Bool.{Bool, true, false}
 use mathlib.Core.List.{List, [], _∷_}
 use mathlib.Core.Logic.{_⊎_, inl, inr, ⊎-elim}
-use mathlib.Core.Path.{_≡_}
+use mathlib.Core.Path.{_≡_, refl}
+use native.Mathlib.Decide.{ℕ-discrete}
 use lib.Dec.{T, eqb, eqb→eq}
 use borrow.Author.Tests.{ne-eqb}
 use Rattle.model.specs.Choice.{if_then_else_, member}
-use Rattle.model.specs.File.{raise, insOf}
+use Rattle.model.specs.File as model
+use Rattle.model.specs.File.{unknown, find, bodies, bodyOf, raise, insOf}
 
 -- k is one of the numbers, as a match's arm tells it
 abbrev pub OneOf : List ℕ → ℕ → Type 0
@@ -121,3 +123,22 @@ ins-other nss t f p k h =
       ne-eqb k 160 (out 160 tt),
       ne-eqb k 161 (out 161 tt),
     )
+
+-- a number that is no row's has no body
+abbrev keysAmong : List (List ℕ) → List (ℕ × ℕ) → Bool
+keysAmong nss [] = true
+keysAmong nss (r ∷ rs) = if among nss (r .0) then keysAmong nss rs else false
+
+find-none : (nss : List (List ℕ)) (k : ℕ) → NoneOf nss k → (rs : List (ℕ × ℕ)) → T (keysAmong nss rs) → find rs k ≡ unknown
+find-none nss k h [] t = refl
+find-none nss k h (r ∷ rs) t =
+    let g = and-both (among nss (r .0)) (keysAmong nss rs) t in
+    rw (ne-eqb k (r .0) (none-of nss k h (r .0) (g .0))) (find-none nss k h rs (g .1))
+
+pub body-other : (nss : List (List ℕ)) → T (keysAmong ((162 ∷ []) ∷ nss) bodies) → (k : ℕ) → NoneOf nss k → (bodyOf k ≡ unknown → ⊥) → bodyOf k ≡ 0
+unfolding bodyOf bodies model.codes
+body-other nss t k h some = go (ℕ-discrete k 162)
+  where
+    go : Dec (k ≡ 162) → find bodies k ≡ 0
+    go (yes e) = rw e
+    go (no e) = absurd (some (find-none ((162 ∷ []) ∷ nss) k (h, e) bodies t))

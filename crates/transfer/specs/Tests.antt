@@ -4,19 +4,15 @@ use mathlib.Core.Bool.{Bool, true, false, not}
 use mathlib.Core.List.{List, [], _∷_, _++_}
 use mathlib.Core.Path.{_≡_, refl, sym, _∙_}
 use lib.Dec.{leb, eqb, leb·zero}
-use borrow.Author.Tests.{le-leb, lt-leb, leb-true, eqb-true}
-use native.Mathlib.Decide.{decLe}
+use borrow.Author.Tests.{le-leb, leb-true, eqb-true}
 use native.Mathlib.Nat.{add-zero, sub-zero}
 use native.Mathlib.Numerals.{add-one}
 use native.Mathlib.Omega.{arith}
 use Rattle.model.specs.Choice.{if_then_else_, Test, most, yes?, holds, all, if-both}
 use Rattle.model.specs.File.{onMain, onPtr, Basic, local, assign, field, setField, make, literal, nil, root, setRoot, retract, binary, samePtr, unary, Ins, basic, jump, branch, branchKeep, call, return, enter, exit, raise, after, procAt, resultsMain, resultsPtr, mostMain, mostPtr}
 use Rattle.model.specs.Checker.{none, State, state, Effect, effect, basicEffect, effectOf, moved, goesOn, passes, own, targetTests, nextTests, wordTests, moreTests, floorTest, depthsMost, depthTests, leaveTests}
-use Rattle.effects.specs.declared.Way.{Way}
-use Rattle.effects.specs.declared.Way.the-variants.{Next, Jump, Branch, Keep, Open, Close, Return, Raise}
-use Rattle.effects.specs.declared.Shape.{Shape}
 use Rattle.transfer.specs.declared.State.{State as Words}
-use Rattle.effects.specs.Shape.{words, shapeOf}
+use Rattle.transfer.specs.Shape.{Way, Next, Jump, Branch, Keep, Open, Close, Return, Raise, Shape, words, shapeOf}
 
 -- the code's state as the model's
 abbrev pub asState : Words → State
@@ -72,15 +68,15 @@ leavesBy Close = false
 leavesBy Return = true
 leavesBy Raise = false
 
-abbrev and : Bool → Bool → Bool
+abbrev pub and : Bool → Bool → Bool
 and a b = (if a then b else false)
 
 -- refusal 5, where `own` says that the target is an instruction of the procedure
 unfoldable pub targetOk : Way → Bool → Bool → ℕ → ℕ → Bool
 targetOk w known own q p = (if jumpsBy w then and own (if opensBy w then leb (suc p) q else true) else known)
 
--- refusal 7 with the floor asked where nothing is popped too, as the code asks it
-unfoldable pub firmTests : List ℕ → ℕ → Ins → State → State → List Test
+-- refusal 7 with the floor asked where nothing is popped too
+unfoldable firmTests : List ℕ → ℕ → Ins → State → State → List Test
 firmTests f p i s o =
     most (o .main + effectOf f i .popMain) (s .main)
     ∷ most (o .ptr + effectOf f i .popPtr) (s .ptr)
@@ -94,7 +90,7 @@ floor-same n floor depth h = go (eqb n 0) refl
     go true z = let w = eqb-true n 0 z in le-leb 0 depth (omega arith) ∙ sym (le-leb (floor + n) depth (omega arith))
     go false z = refl
 
-pub firm-same : (f : List ℕ) (p : ℕ) (i : Ins) (s o : State) → o .main ≤ s .main → o .ptr ≤ s .ptr →
+firm-same : (f : List ℕ) (p : ℕ) (i : Ins) (s o : State) → o .main ≤ s .main → o .ptr ≤ s .ptr →
     all (depthTests f p i s o) ≡ all (firmTests f p i s o)
 unfolding depthTests firmTests
 firm-same f p i s o a b =
@@ -105,14 +101,15 @@ unfoldable pub stackOk : ℕ → ℕ → ℕ → ℕ → ℕ → ℕ → Bool
 stackOk have floor pop push word x = and (leb (floor + pop) have) (and (leb word (have - pop)) (leb (have - pop + push) x))
 
 -- a handler has the depth before its 160 and the raised word
-abbrev openOk : Way → ℕ → ℕ → Bool
+abbrev pub openOk : Way → ℕ → ℕ → Bool
 openOk w have x = (if opensBy w then leb (suc have) x else true)
 
-unfoldable pub depthOk : Shape → State → State → ℕ → ℕ → Bool
-depthOk sh s o x y =
-    and (stackOk (s .main) (o .main) (sh .popm) (sh .pushm) (sh .wordm) x)
-    (and (stackOk (s .ptr) (o .ptr) (sh .popp) (sh .pushp) (sh .wordp) y)
-    (openOk (sh .way) (s .main) x))
+unfoldable pub stacksOk : Shape → State → State → ℕ → ℕ → Bool
+stacksOk sh s o x y =
+    and (stackOk (s .main) (o .main) (sh .popm) (sh .pushm) (sh .wordm) x) (stackOk (s .ptr) (o .ptr) (sh .popp) (sh .pushp) (sh .wordp) y)
+
+abbrev pub depthOk : Shape → State → State → ℕ → ℕ → Bool
+depthOk sh s o x y = and (stacksOk sh s o x y) (openOk (sh .way) (s .main) x)
 
 -- refusal 8
 unfoldable pub leaveOk : Way → State → ℕ → ℕ → Bool
@@ -189,12 +186,13 @@ word-tests (unary o) s = simp leb·zero
 
 -- the tests stack by stack: a, e and c of the one, b, g and d of the other
 by-stack : (a b c d e g t : Bool) →
-    and a (and b (and c (and d (and e (and g t))))) ≡ and (and a (and e c)) (and (and b (and g d)) t)
+    and a (and b (and c (and d (and e (and g t))))) ≡ and (and (and a (and e c)) (and b (and g d))) t
 by-stack false b c d e g t = refl
-by-stack true false c d e g t = sym (and-false (and e c))
+by-stack true false c d e g t = rw (and-false (and e c))
 by-stack true true false d e g t = simp and-false
 by-stack true true true false e g t = simp and-false
-by-stack true true true true e g t = simp and-true
+by-stack true true true true false g t = refl
+by-stack true true true true true g t = simp and-true
 
 -- at every place of every file
 module _ (f : List ℕ) (p : ℕ) where
@@ -260,13 +258,14 @@ module _ (f : List ℕ) (p : ℕ) where
   more-tests exit s x = simp leb·zero
   more-tests raise s x = simp leb·zero
 
-  pub depth-tests : (i : Ins) (s o : State) →
-      all (firmTests f p i s o) ≡ depthOk (at i) s o (mostMain f (procAt f p)) (mostPtr f (procAt f p))
-  unfolding firmTests depthOk stackOk
-  depth-tests i s o =
+  pub depth-tests : (i : Ins) (s o : State) → o .main ≤ s .main → o .ptr ≤ s .ptr →
+      all (depthTests f p i s o) ≡ depthOk (at i) s o (mostMain f (procAt f p)) (mostPtr f (procAt f p))
+  unfolding firmTests stacksOk stackOk
+  depth-tests i s o a b =
       let x = mostMain f (procAt f p) in
       let y = mostPtr f (procAt f p) in
-      rw (effect-is i, more-tests i s x)
+      firm-same f p i s o a b
+      ∙ rw (effect-is i, more-tests i s x)
       (by-stack
       (leb (o .main + at i .popm) (s .main))
       (leb (o .ptr + at i .popp) (s .ptr))
@@ -304,21 +303,7 @@ module _ (f : List ℕ) (p : ℕ) where
   passes-are exit s o = simp (sub-zero, add-zero)
   passes-are raise s o = refl
 
--- a sum that must not pass x, as a difference
-pub above : (rest push x : ℕ) → rest ≤ x → leb push (x - rest) ≡ leb (rest + push) x
-above rest push x h = elim (decLe push (x - rest)) [
-  | yes a ↦ rw (le-leb push (x - rest) a, le-leb (rest + push) x (omega arith))
-  | no a ↦ rw (lt-leb push (x - rest) (omega arith), lt-leb (rest + push) x (omega arith))
-]
-
--- what passed tests of the depths show: no pop from an empty stack, and depths that fit the map
-pub record Fits (sh : Shape) (s : State) : Type 0 where
-  pub main : sh .popm ≤ s .main
-  pub ptr : sh .popp ≤ s .ptr
-  pub main-small : s .main - sh .popm + sh .pushm < 65536
-  pub ptr-small : s .ptr - sh .popp + sh .pushp < 65536
-  pub small : s .main < 65536
-
+-- what passed tests of the depths show: no pop from an empty stack, and depths within the greatest
 stack-fits : (have floor pop push word x : ℕ) → stackOk have floor pop push word x ≡ true → (pop ≤ have) × (have - pop + push ≤ x)
 unfolding stackOk
 stack-fits have floor pop push word x e =
@@ -326,13 +311,16 @@ stack-fits have floor pop push word x e =
     let h = if-both (leb word (have - pop)) (leb (have - pop + push) x) (g .1) in
     (omega (arith, leb-true (floor + pop) have (g .0)), leb-true (have - pop + push) x (h .1))
 
-pub depth-fits : (sh : Shape) (s o : State) (x y : ℕ) → x < 256 → y < 256 → s .main < 65536 → depthOk sh s o x y ≡ true → Fits sh s
-unfolding depthOk
-depth-fits sh s o x y hx hy small e =
-    let main = stackOk (s .main) (o .main) (sh .popm) (sh .pushm) (sh .wordm) x in
-    let ptr = stackOk (s .ptr) (o .ptr) (sh .popp) (sh .pushp) (sh .wordp) y in
-    let g = if-both main (and ptr (openOk (sh .way) (s .main) x)) e in
-    let h = if-both ptr (openOk (sh .way) (s .main) x) (g .1) in
+pub record Fits (sh : Shape) (s : State) (x y : ℕ) : Type 0 where
+  pub main : sh .popm ≤ s .main
+  pub ptr : sh .popp ≤ s .ptr
+  pub main-within : s .main - sh .popm + sh .pushm ≤ x
+  pub ptr-within : s .ptr - sh .popp + sh .pushp ≤ y
+
+pub stacks-fit : (sh : Shape) (s o : State) (x y : ℕ) → stacksOk sh s o x y ≡ true → Fits sh s x y
+unfolding stacksOk
+stacks-fit sh s o x y e =
+    let g = if-both (stackOk (s .main) (o .main) (sh .popm) (sh .pushm) (sh .wordm) x) _ e in
     let m = stack-fits (s .main) (o .main) (sh .popm) (sh .pushm) (sh .wordm) x (g .0) in
-    let q = stack-fits (s .ptr) (o .ptr) (sh .popp) (sh .pushp) (sh .wordp) y (h .0) in
-    record { main = m .0; ptr = q .0; main-small = omega arith; ptr-small = omega arith; small = small }
+    let q = stack-fits (s .ptr) (o .ptr) (sh .popp) (sh .pushp) (sh .wordp) y (g .1) in
+    record { main = m .0; ptr = q .0; main-within = m .1; ptr-within = q .1 }

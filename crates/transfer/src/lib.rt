@@ -1,9 +1,19 @@
-// What an instruction makes of the state before it: the tests of 5, 7 and 8, and what passes to the next instruction and to the target.
+// What an instruction makes of the state before it that leads to the next one alone, or nowhere: the tests of 5, 6 and 7, and the depths
+// behind it. Each has a row of its own with its length, pops and pushes: the compiler makes of each row only the tests that it needs.
 ghost use mathlib.Core.Path.{_≡_};
-ghost use Rattle.model.specs.Checker as checker;
-ghost use Rattle.transfer.specs.Tests.{goesBy, jumpsBy, opensBy, closesBy, leavesBy, targetOk, stackOk, depthOk, leaveOk, effectIn, innerBy, nextState, targetMain, targetState, Fits, asState};
-use effects::Shape;
-use effects::Way;
+ghost use mathlib.Core.Logic.{_⊎_};
+ghost use Prim.Native.Nat.{_+_, _<_, _≤_};
+ghost use lib.ListN.{length};
+ghost use Rattle.model.specs.File as model;
+ghost use Rattle.code.specs.Kinds.{NoneOf};
+ghost use Rattle.transfer.specs.Shape.{shapeOf, Next, Raise};
+ghost use Rattle.transfer.specs.Site.{Table, Site};
+ghost use Rattle.transfer.specs.Kinds.{Aside, elsewhere};
+ghost use Rattle.transfer.specs.Tests.{asState, stackOk, stacksOk};
+ghost use Rattle.transfer.specs.Rows.{row, rowShape, refusal, plainly, Bounded, Pushes};
+
+// No state has reached an instruction whose main depth is this; depths are at most 255.
+pub const UNREACHED: usize = 65534;
 
 // The depths before an instruction, and the place of the innermost open 160 or 65,535.
 pub struct State {
@@ -12,102 +22,76 @@ pub struct State {
     pub inner: usize,
 }
 
-pub fn goes(way: Way) -> bool
-    ensures { λ r. ⌜ r ≡ goesBy way ⌝ }
+// What holds throughout a procedure: where it ends, and its greatest depths.
+pub struct Limits {
+    pub end: usize,
+    pub x: usize,
+    pub y: usize,
+}
+
+// What an instruction pops and pushes.
+pub struct Row {
+    pub popm: usize, // words popped from the main stack
+    pub popp: usize, // and from the pointer stack
+    pub pushm: usize, // words pushed on the main stack
+    pub pushp: usize,
+    pub wordm: usize, // main words that must be left after the pops: s + 1 for a frame word s, else 0
+    pub wordp: usize,
+}
+
+// What an instruction comes to: the number of its refusal, or 0; the place behind it; whether its state passes there, and the depths then.
+pub struct Onward {
+    pub fault: u32,
+    pub goes: bool,
+    pub next: usize,
+    pub main: usize,
+    pub ptr: usize,
+}
+
+fn refuse(fault: u32) -> Onward
+    ensures { λ r. ⌜ r ≡ refusal fault ⌝ }
 {
-    match way {
-        Way::Next => true,
-        Way::Jump => false,
-        Way::Branch => true,
-        Way::Keep => true,
-        Way::Open => true,
-        Way::Close => true,
-        Way::Return => false,
-        Way::Raise => false,
+    Onward {
+        fault,
+        goes: false,
+        next: 0,
+        main: 0,
+        ptr: 0,
     }
 }
 
-pub fn jumps_to(way: Way) -> bool
-    ensures { λ r. ⌜ r ≡ jumpsBy way ⌝ }
+// A row that names no frame word.
+pub fn effect(popm: usize, popp: usize, pushm: usize, pushp: usize) -> Row
+    ensures { λ r. ⌜ r ≡ row popm popp pushm pushp 0 0 ⌝ }
 {
-    match way {
-        Way::Next => false,
-        Way::Jump => true,
-        Way::Branch => true,
-        Way::Keep => true,
-        Way::Open => true,
-        Way::Close => false,
-        Way::Return => false,
-        Way::Raise => false,
+    Row {
+        popm,
+        popp,
+        pushm,
+        pushp,
+        wordm: 0,
+        wordp: 0,
     }
 }
 
-fn opens(way: Way) -> bool
-    ensures { λ r. ⌜ r ≡ opensBy way ⌝ }
+fn frame(popm: usize, popp: usize, pushm: usize, pushp: usize, wordm: usize, wordp: usize) -> Row
+    ensures { λ r. ⌜ r ≡ row popm popp pushm pushp wordm wordp ⌝ }
 {
-    match way {
-        Way::Next => false,
-        Way::Jump => false,
-        Way::Branch => false,
-        Way::Keep => false,
-        Way::Open => true,
-        Way::Close => false,
-        Way::Return => false,
-        Way::Raise => false,
+    Row {
+        popm,
+        popp,
+        pushm,
+        pushp,
+        wordm,
+        wordp,
     }
 }
 
-fn closes(way: Way) -> bool
-    ensures { λ r. ⌜ r ≡ closesBy way ⌝ }
-{
-    match way {
-        Way::Next => false,
-        Way::Jump => false,
-        Way::Branch => false,
-        Way::Keep => false,
-        Way::Open => false,
-        Way::Close => true,
-        Way::Return => false,
-        Way::Raise => false,
-    }
-}
-
-fn leaves(way: Way) -> bool
-    ensures { λ r. ⌜ r ≡ leavesBy way ⌝ }
-{
-    match way {
-        Way::Next => false,
-        Way::Jump => false,
-        Way::Branch => false,
-        Way::Keep => false,
-        Way::Open => false,
-        Way::Close => false,
-        Way::Return => true,
-        Way::Raise => false,
-    }
-}
-
-// Refusal 5; own: the target is an instruction of the procedure.
-pub fn target_ok(way: Way, known: bool, own: bool, target: usize, p: usize) -> bool
-    ensures { λ r. ⌜ r ≡ targetOk way known own target p ⌝ }
-{
-    if !jumps_to(way) {
-        return known;
-    }
-    if !own {
-        return false;
-    }
-    if opens(way) { p < target } else { true }
-}
-
-// Refusal 7 on one stack, with no sum that could overflow. The floor is asked at every instruction: where nothing is popped the depths lie
-// above it anyhow, so that no choice is needed.
+// Refusal 7 on one stack. A depth that does not rise stays within the greatest.
 fn stack_ok(have: usize, floor: usize, pop: usize, push: usize, word: usize, most: usize) -> bool
+    requires { ⌜ (floor ≤ have) × (have ≤ most) × (most < 256) × (push < 256) ⌝ }
     ensures { λ r. ⌜ r ≡ stackOk have floor pop push word most ⌝ }
 {
-    if have < floor {
-        return false;
-    }
     if have - floor < pop {
         return false;
     }
@@ -115,114 +99,170 @@ fn stack_ok(have: usize, floor: usize, pop: usize, push: usize, word: usize, mos
     if rest < word {
         return false;
     }
-    if most < rest {
-        return false;
-    }
-    push <= most - rest
-}
-
-// Refusal 7: the state s at the instruction, the state o at the innermost open 160, the procedure's greatest depths.
-pub fn depth_ok(sh: Shape, s: State, o: State, x: usize, y: usize) -> bool
-    ensures { λ r. ⌜ r ≡ depthOk sh (asState s) (asState o) x y ⌝ }
-{
-    if !stack_ok(s.main, o.main, sh.popm, sh.pushm, sh.wordm, x) {
-        return false;
-    }
-    if !stack_ok(s.ptr, o.ptr, sh.popp, sh.pushp, sh.wordp, y) {
-        return false;
-    }
-    let way = sh.way;
-    if opens(way) { s.main < x } else { true }
-}
-
-// Refusal 8: the procedure has the results r and q.
-pub fn leave_ok(way: Way, s: State, r: usize, q: usize) -> bool
-    ensures { λ t. ⌜ t ≡ leaveOk way (asState s) r q ⌝ }
-{
-    if closes(way) {
-        return s.inner != 65535;
-    }
-    if !leaves(way) {
+    if push <= pop {
         return true;
     }
-    if s.main != r {
-        return false;
-    }
-    if s.ptr != q {
-        return false;
-    }
-    s.inner == 65535
+    rest + push <= most
 }
 
-fn moved(sh: Shape, s: State) -> State
-    requires { ⌜ Fits sh (asState s) ⌝ }
-    ensures { λ r. ⌜ asState r ≡ checker.moved (effectIn sh) (asState s) ⌝ }
+// Refusal 7: the state s at the instruction, the state o at the innermost open 160.
+pub fn depths_ok(s: State, o: State, row: Row, limits: Limits) -> bool
+    requires { ⌜ Bounded (asState s) (asState o) limits × Pushes row × (s .main < 65534) ⌝ }
+    ensures { λ r. ⌜ r ≡ stacksOk (rowShape Next row) (asState s) (asState o) (limits .x) (limits .y) ⌝ }
 {
-    State {
-        main: s.main - sh.popm + sh.pushm,
-        ptr: s.ptr - sh.popp + sh.pushp,
-        inner: s.inner,
+    if stack_ok(s.main, o.main, row.popm, row.pushm, row.wordm, limits.x) {
+        return stack_ok(s.ptr, o.ptr, row.popp, row.pushp, row.wordp, limits.y);
+    }
+    false
+}
+
+// The state passes to the instruction at next.
+fn moves(s: State, o: State, limits: Limits, next: usize, row: Row) -> Onward
+    requires { ⌜ Bounded (asState s) (asState o) limits × Pushes row ⌝ }
+    ensures { λ r. ⌜ r ≡ plainly (asState s) (asState o) limits next (rowShape Next row) ⌝ }
+{
+    if UNREACHED <= s.main {
+        return refuse(6);
+    }
+    if limits.end <= next {
+        return refuse(6);
+    }
+    if depths_ok(s, o, row, limits) {
+        let under = s.main - row.popm;
+        let below = s.ptr - row.popp;
+        let main = under + row.pushm;
+        let ptr = below + row.pushp;
+        return Onward {
+            fault: 0,
+            goes: true,
+            next,
+            main,
+            ptr,
+        };
+    }
+    refuse(7)
+}
+
+// The same with no frame word.
+fn step(
+    s: State,
+    o: State,
+    limits: Limits,
+    next: usize,
+    popm: usize,
+    popp: usize,
+    pushm: usize,
+    pushp: usize,
+) -> Onward
+    requires { ⌜ Bounded (asState s) (asState o) limits × (pushm < 256) × (pushp < 256) ⌝ }
+    ensures { λ r. ⌜ r ≡ plainly (asState s) (asState o) limits next (rowShape Next (row popm popp pushm pushp 0 0)) ⌝ }
+{
+    moves(s, o, limits, next, effect(popm, popp, pushm, pushp))
+}
+
+// 162: the state passes nowhere.
+fn raises(s: State, o: State, limits: Limits, next: usize) -> Onward
+    requires { ⌜ Bounded (asState s) (asState o) limits ⌝ }
+    ensures { λ r. ⌜ r ≡ plainly (asState s) (asState o) limits next (rowShape Raise (row 1 0 0 0 0 0)) ⌝ }
+{
+    if UNREACHED <= s.main {
+        return refuse(6);
+    }
+    if depths_ok(s, o, effect(1, 0, 0, 0), limits) {
+        let main = s.main - 1;
+        return Onward {
+            fault: 0,
+            goes: false,
+            next,
+            main,
+            ptr: s.ptr,
+        };
+    }
+    refuse(7)
+}
+
+// 20 to 23
+fn locals(file: &[u8], p: usize, kind: u8, s: State, o: State, limits: Limits) -> Onward
+    requires { ⌜ (p + 2 < length (now file)) × (20 ≤ kind) × (kind ≤ 23) × Bounded (asState s) (asState o) limits ⌝ }
+    ensures { λ r. ⌜ r ≡ plainly (asState s) (asState o) limits (p + 3) (shapeOf (now (file .entry)) p (model.insOf (now (file .entry)) p kind)) ⌝ }
+{
+    let next = p + 3;
+    let word = code::operand(file, p) + 1;
+    match kind {
+        20 => moves(s, o, limits, next, frame(0, 0, 1, 0, word, 0)),
+        22 => moves(s, o, limits, next, frame(1, 0, 0, 0, word, 0)),
+        21 => moves(s, o, limits, next, frame(0, 0, 0, 1, 0, word)),
+        _ => moves(s, o, limits, next, frame(0, 1, 0, 0, 0, word)),
     }
 }
 
-// The innermost open 160 behind the instruction at p, from that at it, inner, and that at inner, outer.
-fn inner_after(way: Way, p: usize, inner: usize, outer: usize) -> usize
-    ensures { λ r. ⌜ r ≡ innerBy way p inner outer ⌝ }
+// 36, 60, 62, 64
+fn blocks(file: &[u8], p: usize, kind: u8, s: State, o: State, limits: Limits) -> Onward
+    requires { ⌜ (p + 4 < length (now file)) × ((kind ≡ 36) ⊎ ((kind ≡ 60) ⊎ ((kind ≡ 62) ⊎ (kind ≡ 64)))) × Bounded (asState s) (asState o) limits ⌝ }
+    ensures { λ r. ⌜ r ≡ plainly (asState s) (asState o) limits (p + 5) (shapeOf (now (file .entry)) p (model.insOf (now (file .entry)) p kind)) ⌝ }
 {
-    match way {
-        Way::Next => inner,
-        Way::Jump => inner,
-        Way::Branch => inner,
-        Way::Keep => inner,
-        Way::Open => p,
-        Way::Close => outer,
-        Way::Return => inner,
-        Way::Raise => inner,
+    let next = p + 5;
+    let k = code::operand(file, p);
+    let n = code::operand2(file, p);
+    match kind {
+        36 => step(s, o, limits, next, k, n, 0, 1),
+        60 => step(s, o, limits, next, 1 + k, n, 1, 0),
+        62 => step(s, o, limits, next, k, 1 + n, 0, 1),
+        _ => step(s, o, limits, next, k, n, 0, 0),
     }
 }
 
-// What the instruction at p passes to the next.
-pub fn next_state(sh: Shape, p: usize, s: State, o: State) -> State
-    requires { ⌜ Fits sh (asState s) ⌝ }
-    ensures { λ r. ⌜ asState r ≡ nextState sh p (asState s) (asState o) ⌝ }
+// 72, of k procedures
+fn calls(file: &[u8], table: &[usize; 64], k: usize, p: usize, s: State, o: State, limits: Limits) -> Onward
+    requires { ⌜ Table (now file) (now table) k × (p + 2 < length (now file)) × Bounded (asState s) (asState o) limits ⌝ }
+    ensures { λ r. ⌜ r ≡ plainly (asState s) (asState o) limits (p + 3) (shapeOf (now (file .entry)) p (model.call (model.operand (now (file .entry)) p))) ⌝ }
 {
-    let way = sh.way;
-    let inner = inner_after(way, p, s.inner, o.inner);
-    let after = moved(sh, s);
-    State {
-        main: after.main,
-        ptr: after.ptr,
-        inner,
+    let next = p + 3;
+    let n = code::operand(file, p);
+    if k <= n {
+        return refuse(5);
     }
+    let at = table[n];
+    let head = code::head_at(file, at);
+    step(s, o, limits, next, head.a, head.b, head.r, head.s)
 }
 
-// The main depth at the target: before the instruction, after it, or with a raised word.
-fn main_at_target(way: Way, before: usize, after: usize, raised: usize) -> usize
-    ensures { λ r. ⌜ r ≡ targetMain way before after raised ⌝ }
+// The instruction of this kind at p, of k procedures; one that has no row here is 162.
+pub fn plain_at(
+    file: &[u8],
+    table: &[usize; 64],
+    k: usize,
+    p: usize,
+    kind: u8,
+    s: State,
+    o: State,
+    limits: Limits,
+) -> Onward
+    requires { ⌜ Table (now file) (now table) k × Site (now file) p × (model.byteAt (now file) p ≡ kind) × Aside kind × NoneOf elsewhere kind
+        × Bounded (asState s) (asState o) limits ⌝ }
+    ensures { λ r. ⌜ r ≡ plainly (asState s) (asState o) limits (model.after (now (file .entry)) p) (shapeOf (now (file .entry)) p (model.insAt (now (file .entry)) p)) ⌝ }
 {
-    match way {
-        Way::Next => before,
-        Way::Jump => before,
-        Way::Branch => after,
-        Way::Keep => before,
-        Way::Open => raised,
-        Way::Close => before,
-        Way::Return => before,
-        Way::Raise => before,
-    }
-}
-
-// What it passes to its target.
-pub fn target_state(sh: Shape, s: State) -> State
-    requires { ⌜ Fits sh (asState s) ⌝ }
-    ensures { λ r. ⌜ asState r ≡ targetState sh (asState s) ⌝ }
-{
-    let way = sh.way;
-    let after = moved(sh, s);
-    let main = main_at_target(way, s.main, after.main, s.main + 1);
-    State {
-        main,
-        ptr: s.ptr,
-        inner: s.inner,
+    let next1 = p + 1;
+    let next2 = p + 2;
+    let next3 = p + 3;
+    let next5 = p + 5;
+    match kind {
+        20..=23 => locals(file, p, kind, s, o, limits),
+        30 => step(s, o, limits, next3, 0, 1, 1, 0),
+        31 => step(s, o, limits, next3, 0, 1, 0, 1),
+        32 => step(s, o, limits, next3, 1, 1, 0, 0),
+        33 => step(s, o, limits, next3, 0, 2, 0, 0),
+        36 | 60 | 62 | 64 => blocks(file, p, kind, s, o, limits),
+        54 => step(s, o, limits, next2, 0, 0, 1, 0),
+        56 => step(s, o, limits, next5, 0, 0, 1, 0),
+        57 => step(s, o, limits, next1, 0, 0, 0, 1),
+        58 => step(s, o, limits, next1, 0, 0, 0, 1),
+        59 => step(s, o, limits, next1, 0, 1, 0, 0),
+        72 => calls(file, table, k, p, s, o, limits),
+        131 => step(s, o, limits, next1, 0, 2, 1, 0),
+        144 | 146 => step(s, o, limits, next1, 1, 0, 1, 0),
+        130 | 140 | 142 | 145 | 195 | 198 | 201 | 204 => step(s, o, limits, next1, 2, 0, 1, 0),
+        141 | 143 => step(s, o, limits, next1, 2, 0, 1, 0),
+        _ => raises(s, o, limits, next1),
     }
 }

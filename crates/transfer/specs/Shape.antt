@@ -1,14 +1,33 @@
 -- What the checker looks at in an instruction, as one record: the shape of an instruction. Every rule of the flow is a test on it
--- (`transfer`).
+-- (`Tests`).
 use Prim.Native.Nat.{ℕ, suc}
 use mathlib.Core.Bool.{Bool, true}
 use mathlib.Core.List.{List}
 use lib.Dec.{leb}
 use Rattle.model.specs.File.{onMain, onPtr, Basic, local, assign, field, setField, make, literal, nil, root, setRoot, retract, binary, samePtr, unary, Ins, basic, jump, branch, branchKeep, call, return, enter, exit, raise, procs}
 use Rattle.model.specs.Checker.{Effect, effect, basicEffect, effectOf, handlerAt}
-use Rattle.effects.specs.declared.Way.{Way}
-use Rattle.effects.specs.declared.Way.the-variants.{Next, Jump, Branch, Keep, Open, Close, Return, Raise}
-use Rattle.effects.specs.declared.Shape.{Shape}
+
+-- where an instruction passes its state
+pub data Way : Type 0 where
+  Next : Way -- to the next instruction
+  Jump : Way -- to its target
+  Branch : Way -- to both, after the pop
+  Keep : Way -- to the next after the pop, to its target before it
+  Open : Way -- opens a handler
+  Close : Way -- closes the innermost handler
+  Return : Way
+  Raise : Way
+
+pub record Shape : Type 0 where
+  pub way : Way
+  pub popm : ℕ
+  pub popp : ℕ
+  pub pushm : ℕ
+  pub pushp : ℕ
+  pub wordm : ℕ
+  pub wordp : ℕ
+  pub target : ℕ
+  pub known : Bool -- the procedure that a call names is there
 
 abbrev pub shape : Way → Effect → ℕ → ℕ → ℕ → Bool → Shape
 shape w e wm wp q t =

@@ -1,12 +1,12 @@
--- What the families of codes have in common: the lengths of their bodies, and that a number in no arm of `shape_at` stands for raise.
+-- What the families of codes have in common: the lengths of their bodies, and that a number in no arm stands for raise.
 use Prim.Native.Nat.{ℕ, zero, suc, _+_, _<_, _≤_}
 use native.Mathlib.Omega.{arith}
 use native.Mathlib.Nat.{eq-or-lt-of-le}
 use mathlib.Core.List.{List, [], _∷_, _++_, map}
 use mathlib.Core.Logic.{_⊎_, ⊎-elim}
 use mathlib.Core.Path.{_≡_, refl, subst}
-use Rattle.model.specs.File.{codes, bodies, bodyOf, raise, insOf}
-use Rattle.code.specs.Kinds.{OneOf, NoneOf, every, ins-other}
+use Rattle.model.specs.File.{codes, bodies, unknown, bodyOf, raise, insOf}
+use Rattle.code.specs.Kinds.{OneOf, NoneOf, every, ins-other, body-other}
 
 -- what holds at each of n numbers from a on
 abbrev pub Each : (ℕ → Type 0) → ℕ → ℕ → Type 0
@@ -33,40 +33,55 @@ pub body-blocks : (k : ℕ) → OneOf (36 ∷ 60 ∷ 62 ∷ 64 ∷ []) k → bod
 unfolding bodyOf bodies codes
 body-blocks k o = every (λ n. bodyOf n ≡ 4) (36 ∷ 60 ∷ 62 ∷ 64 ∷ []) k (refl, (refl, (refl, (refl, tt)))) o
 
--- the codes of the arms that are ranges
-abbrev ranged : List (List ℕ)
-ranged =
-    map (λ n. n ∷ [])
-    (1 ∷ 2 ∷ 3 ∷ 4 ∷ 5 ∷ 6 ∷ 20 ∷ 21 ∷ 22 ∷ 23 ∷ 30 ∷ 31 ∷ 32 ∷ 33 ∷ [])
+-- the codes with functions of their own, which lead elsewhere: 1 to 6, and those of the list
+abbrev pub Aside : ℕ → Type 0
+Aside k = (k < 1) ⊎ (6 < k)
 
--- the other arms, the last one first
-abbrev pub single : List (List ℕ)
-single =
+abbrev pub elsewhere : List (List ℕ)
+elsewhere = (161 ∷ []) ∷ (160 ∷ []) ∷ (73 ∷ []) ∷ (240 ∷ []) ∷ []
+
+-- the arms of `plain_at`, the last one first; 20 to 23 are told by a range
+abbrev pub rows : List (List ℕ)
+rows =
     (141 ∷ 143 ∷ [])
     ∷ (130 ∷ 140 ∷ 142 ∷ 145 ∷ 195 ∷ 198 ∷ 201 ∷ 204 ∷ [])
-    ∷ (161 ∷ [])
-    ∷ (160 ∷ [])
     ∷ (144 ∷ 146 ∷ [])
     ∷ (131 ∷ [])
-    ∷ (73 ∷ [])
     ∷ (72 ∷ [])
     ∷ (59 ∷ [])
     ∷ (58 ∷ [])
     ∷ (57 ∷ [])
-    ∷ (54 ∷ 56 ∷ [])
+    ∷ (56 ∷ [])
+    ∷ (54 ∷ [])
     ∷ (36 ∷ 60 ∷ 62 ∷ 64 ∷ [])
+    ∷ (33 ∷ [])
+    ∷ (32 ∷ [])
+    ∷ (31 ∷ [])
+    ∷ (30 ∷ [])
     ∷ []
 
--- k lies outside the ranges, as the tests tell it
-abbrev pub Between : ℕ → Type 0
-Between k = (k < 1) ⊎ (((6 < k) × (k < 20)) ⊎ (((23 < k) × (k < 30)) ⊎ (33 < k)))
+-- the codes that ranges tell
+abbrev ranged : List (List ℕ)
+ranged = map (λ n. n ∷ []) (1 ∷ 2 ∷ 3 ∷ 4 ∷ 5 ∷ 6 ∷ 20 ∷ 21 ∷ 22 ∷ 23 ∷ [])
 
-between : (k : ℕ) → Between k → NoneOf ranged k
-between k h = ⊎-elim (λ l. omega arith) (⊎-elim (λ l. omega arith) (⊎-elim (λ l. omega arith) (λ l. omega arith))) h
+ranged-none : (k : ℕ) → Aside k → (k < 20) ⊎ (23 < k) → NoneOf ranged k
+ranged-none k a b = ⊎-elim (λ l. omega arith) (λ l. ⊎-elim (λ r. omega arith) (λ r. omega arith) b) a
 
 none-on : (nss mss : List (List ℕ)) (k : ℕ) → NoneOf nss k → NoneOf mss k → NoneOf (nss ++ mss) k
 none-on [] mss k h g = g
 none-on (ns ∷ nss) mss k h g = (none-on nss mss k (h .0) g, h .1)
 
-pub ins-outside : (f : List ℕ) (p k : ℕ) → Between k → NoneOf single k → insOf f p k ≡ raise
-ins-outside f p k b h = ins-other (single ++ ranged) tt f p k (none-on single ranged k h (between k b))
+-- a code with no row is 162
+module _ (k : ℕ) (a : Aside k) (e : NoneOf elsewhere k) (b : (k < 20) ⊎ (23 < k)) (h : NoneOf rows k) where
+  abbrev others : List (List ℕ)
+  others = rows ++ elsewhere ++ ranged
+
+  none : NoneOf others k
+  none = none-on rows (elsewhere ++ ranged) k h (none-on elsewhere ranged k e (ranged-none k a b))
+
+  pub ins-raise : (f : List ℕ) (p : ℕ) → insOf f p k ≡ raise
+  ins-raise f p = ins-other others tt f p k none
+
+  pub body-raise : (bodyOf k ≡ unknown → ⊥) → bodyOf k ≡ 0
+  unfolding bodies codes
+  body-raise some = body-other others tt k none some

@@ -1,3 +1,0 @@
-pub mod Shape
-pub mod Site
-pub mod Kinds
