@@ -11,13 +11,14 @@ ghost use Rattle.flow.specs.Own.{ownIn};
 ghost use Rattle.flow.specs.Takes.{passOneIn, passAllIn, takeIn};
 ghost use Rattle.flow.specs.Faults.{passAns, takeAns, StateIs, OuterIs, Held, Target, Room, shapePasses, earlyOf, lateOf, Here, endIn};
 ghost use Rattle.flow.specs.Flowing.{Begun, Flowed};
-use effects::Shape;
+use transfer::Limits;
 use transfer::State;
+use transfer::UNREACHED;
 
-// An instruction starts here that no state has reached yet.
-const UNREACHED: usize = 65534;
 // No instruction, no handler.
 const NONE: usize = 65535;
+
+const HEAD: u8 = 240;
 
 fn wide(x: u16) -> usize
     ensures { λ r. ⌜ (r ≡ x) × (r < 65536) ⌝ }
@@ -87,106 +88,235 @@ fn pass_one(m: &mut [u16], q: usize, s: State) -> bool
     t.inner == s.inner
 }
 
-// A state passed to a target, where there is one.
-fn pass_target(m: &mut [u16], jumps: bool, q: usize, s: State) -> bool
-    requires { ⌜ Target (now m) jumps q s ⌝ }
-    ensures { λ r. ⌜ passAns r (now (m .exit)) ≡ passAllIn (if jumps then (q, asState s) ∷ [] else []) (now (m .entry)) ⌝ }
+// A state passed to the next instruction, then one to a target: 9 or 0.
+fn pass_both(m: &mut [u16], next: usize, s: State, target: usize, t: State) -> u32
+    requires { ⌜ Fitting (now m) next (asState s) × Fitting (now m) target (asState t) ⌝ }
+    ensures { λ r. ⌜ takeAns r (now (m .exit)) ≡ passAllIn ((next, asState s) ∷ (target, asState t) ∷ []) (now (m .entry)) ⌝ }
 {
-    if jumps {
-        return pass_one(m, q, s);
-    }
-    true
-}
-
-// What the instruction at p passes on: to the next instruction, then to its target.
-fn pass_on(m: &mut [u16], sh: Shape, p: usize, next: usize, s: State, o: State) -> bool
-    requires { ⌜ Room (now m) sh p next s o ⌝ }
-    ensures { λ r. ⌜ passAns r (now (m .exit)) ≡ passAllIn (shapePasses sh p next (asState s) (asState o)) (now (m .entry)) ⌝ }
-{
-    let way = sh.way;
-    let target = sh.target;
-    let to_next = transfer::next_state(sh, p, s, o);
-    let to_target = transfer::target_state(sh, s);
-    let jumps = transfer::jumps_to(way);
-    if transfer::goes(way) {
-        if pass_one(m, next, to_next) {
-            return pass_target(m, jumps, target, to_target);
+    if pass_one(m, next, s) {
+        if pass_one(m, target, t) {
+            return 0;
         }
-        return false;
+        return 9;
     }
-    pass_target(m, jumps, target, to_target)
+    9
 }
 
-// Refusals 5 and 6; 0 where there is none.
-fn early(m: &[u16], sh: Shape, head: usize, end: usize, p: usize, next: usize, s: State) -> u32
-    requires { ⌜ (3 * end ≤ length (now m)) × (end ≤ 4096) ⌝ }
-    ensures { λ r. ⌜ r ≡ earlyOf (now (m .entry)) sh head end p next (asState s) ⌝ }
+// 1 and 3: to the target alone. The depths stay, so that nothing is asked of them.
+fn jump(file: &[u8], m: &mut [u16], head: usize, limits: Limits, p: usize, target: usize) -> u32
+    requires { ⌜ Led (now file) (now m) head p 3 limits (leads Jump 0 target) ⌝ }
+    ensures { λ r. ⌜ takeAns r (now (m .exit)) ≡ takeIn (now (file .entry)) p (now (m .entry)) ⌝ }
 {
-    let way = sh.way;
-    let target = sh.target;
-    let there = own(m, head, end, target);
-    if transfer::target_ok(way, sh.known, there, target, p) {
+    if own(m, head, limits.end, target) {
+        let s = state_in(m, p);
         if UNREACHED <= s.main {
             return 6;
         }
-        if transfer::goes(way) {
-            if own(m, head, end, next) {
-                return 0;
-            }
-            return 6;
+        if pass_one(m, target, s) {
+            return 0;
         }
-        return 0;
+        return 9;
     }
     5
 }
 
-// Refusals 7 and 8; 0 where there is none.
-fn late(file: &[u8], head: usize, sh: Shape, s: State, o: State) -> u32
-    requires { ⌜ head + 6 < length (now file) ⌝ }
-    ensures { λ r. ⌜ r ≡ lateOf (now (file .entry)) head sh (asState s) (asState o) ⌝ }
+// 2, 4, 5 and 6: a word is popped, and the state passes to the next instruction and to the target; 5 and 6 keep the word there.
+fn branch(file: &[u8], m: &mut [u16], head: usize, limits: Limits, p: usize, target: usize, keep: bool) -> u32
+    requires { ⌜ Led (now file) (now m) head p 3 limits (leads (branchWay keep) 1 target) ⌝ }
+    ensures { λ r. ⌜ takeAns r (now (m .exit)) ≡ takeIn (now (file .entry)) p (now (m .entry)) ⌝ }
 {
-    let way = sh.way;
-    let h = code::head_at(file, head);
-    if transfer::depth_ok(sh, s, o, h.x, h.y) {
-        if transfer::leave_ok(way, s, h.r, h.s) {
-            return 0;
+    let next = p + 3;
+    if own(m, head, limits.end, target) {
+        let s = state_in(m, p);
+        if UNREACHED <= s.main {
+            return 6;
         }
-        return 8;
+        if limits.end <= next {
+            return 6;
+        }
+        let o = outer_of(m, s);
+        if transfer::depths_ok(s, o, transfer::effect(1, 0, 0, 0), limits) {
+            let rest = s.main - 1;
+            let then = State {
+                main: rest,
+                ptr: s.ptr,
+                inner: s.inner,
+            };
+            if keep {
+                return pass_both(m, next, then, target, s);
+            }
+            return pass_both(m, next, then, target, then);
+        }
+        return 7;
     }
-    7
+    5
 }
 
-// The instruction at p of the procedure between head and end, of k procedures: the number of its refusal, or 0. `bodies` is a copy of
-// the table of body lengths.
-fn take(
-    bodies: &[u8; 256],
+// 160: the handler gets the depths before it and one main word more.
+fn open(file: &[u8], m: &mut [u16], head: usize, limits: Limits, p: usize, target: usize) -> u32
+    requires { ⌜ Led (now file) (now m) head p 3 limits (leads Open 0 target) ⌝ }
+    ensures { λ r. ⌜ takeAns r (now (m .exit)) ≡ takeIn (now (file .entry)) p (now (m .entry)) ⌝ }
+{
+    let next = p + 3;
+    if own(m, head, limits.end, target) {
+        if target <= p {
+            return 5;
+        }
+        let s = state_in(m, p);
+        if UNREACHED <= s.main {
+            return 6;
+        }
+        if limits.end <= next {
+            return 6;
+        }
+        if limits.x <= s.main {
+            return 7;
+        }
+        let raised = s.main + 1;
+        let then = State {
+            main: s.main,
+            ptr: s.ptr,
+            inner: p,
+        };
+        let caught = State {
+            main: raised,
+            ptr: s.ptr,
+            inner: s.inner,
+        };
+        return pass_both(m, next, then, target, caught);
+    }
+    5
+}
+
+// 161: the innermost handler is closed.
+fn close(file: &[u8], m: &mut [u16], head: usize, limits: Limits, p: usize) -> u32
+    requires { ⌜ Led (now file) (now m) head p 1 limits (leads Close 0 0) ⌝ }
+    ensures { λ r. ⌜ takeAns r (now (m .exit)) ≡ takeIn (now (file .entry)) p (now (m .entry)) ⌝ }
+{
+    let next = p + 1;
+    let s = state_in(m, p);
+    if UNREACHED <= s.main {
+        return 6;
+    }
+    if limits.end <= next {
+        return 6;
+    }
+    if s.inner == NONE {
+        return 8;
+    }
+    let o = outer_of(m, s);
+    let then = State {
+        main: s.main,
+        ptr: s.ptr,
+        inner: o.inner,
+    };
+    if pass_one(m, next, then) {
+        return 0;
+    }
+    9
+}
+
+// 73: the state passes nowhere.
+fn leave(file: &[u8], m: &[u16], head: usize, limits: Limits, p: usize) -> u32
+    requires { ⌜ Led (now file) (now m) head p 1 limits (leads Return 0 0) ⌝ }
+    ensures { λ r. ⌜ takeAns r (now (m .entry)) ≡ takeIn (now (file .entry)) p (now (m .entry)) ⌝ }
+{
+    let h = code::head_at(file, head);
+    let s = state_in(m, p);
+    if UNREACHED <= s.main {
+        return 6;
+    }
+    if s.main != h.r {
+        return 8;
+    }
+    if s.ptr != h.s {
+        return 8;
+    }
+    if s.inner != NONE {
+        return 8;
+    }
+    0
+}
+
+// 1 to 6
+fn jumps(file: &[u8], m: &mut [u16], head: usize, limits: Limits, p: usize, kind: u8) -> u32
+    requires { ⌜ Held3 (now file) (now m) head p limits kind × (1 ≤ kind) × (kind ≤ 6) ⌝ }
+    ensures { λ r. ⌜ takeAns r (now (m .exit)) ≡ takeIn (now (file .entry)) p (now (m .entry)) ⌝ }
+{
+    match kind {
+        1 => jump(file, m, head, limits, p, code::forwards(file, p)),
+        3 => jump(file, m, head, limits, p, code::backwards(file, p)),
+        2 => branch(file, m, head, limits, p, code::forwards(file, p), false),
+        4 => branch(file, m, head, limits, p, code::backwards(file, p), false),
+        _ => branch(file, m, head, limits, p, code::forwards(file, p), true),
+    }
+}
+
+// What taking an instruction comes to: the number of its refusal, or 0 and the place behind it.
+pub struct Taken {
+    pub fault: u32,
+    pub next: usize,
+}
+
+fn taken(fault: u32, next: usize) -> Taken
+    ensures { λ r. ⌜ r ≡ takenBy fault next ⌝ }
+{
+    Taken { fault, next }
+}
+
+// An instruction that leads to the next one alone, or nowhere.
+fn plain(
     file: &[u8],
     table: &[usize; 64],
     m: &mut [u16],
     k: usize,
     head: usize,
-    end: usize,
+    limits: Limits,
     p: usize,
-) -> u32
-    requires { ⌜ (now bodies ≡ lengths) × Here (now file) (now table) (now m) k head end p ⌝ }
-    ensures { λ r. ⌜ takeAns r (now (m .exit)) ≡ takeIn (now (file .entry)) p (now (m .entry)) ⌝ }
+    kind: u8,
+) -> Taken
+    requires { ⌜ Table (now file) (now table) k × Among (now file) (now m) head p limits kind × Aside kind × NoneOf elsewhere kind ⌝ }
+    ensures { λ r. ⌜ Took (now (file .entry)) p (now (m .entry)) (now (m .exit)) r ⌝ }
 {
-    let sh = effects::shape_at(file, table, k, head, p);
-    let next = code::after(bodies, file, p);
     let s = state_in(m, p);
-    let first = early(m, sh, head, end, p, next, s);
-    if first != 0 {
-        return first;
-    }
     let o = outer_of(m, s);
-    let second = late(file, head, sh, s, o);
-    if second != 0 {
-        return second;
+    let to = transfer::plain_at(file, table, k, p, kind, s, o, limits);
+    let next = to.next;
+    if to.goes {
+        let then = State {
+            main: to.main,
+            ptr: to.ptr,
+            inner: s.inner,
+        };
+        if pass_one(m, next, then) {
+            return taken(0, next);
+        }
+        return taken(9, next);
     }
-    if pass_on(m, sh, p, next, s, o) {
-        return 0;
+    taken(to.fault, next)
+}
+
+// The instruction of this kind at p, of the procedure with this head and these limits, of k procedures.
+fn take(
+    file: &[u8],
+    table: &[usize; 64],
+    m: &mut [u16],
+    k: usize,
+    head: usize,
+    limits: Limits,
+    p: usize,
+    kind: u8,
+) -> Taken
+    requires { ⌜ Table (now file) (now table) k × Among (now file) (now m) head p limits kind × (kind ≡ 240 → ⊥) ⌝ }
+    ensures { λ r. ⌜ Took (now (file .entry)) p (now (m .entry)) (now (m .exit)) r ⌝ }
+{
+    match kind {
+        1..=6 => taken(jumps(file, m, head, limits, p, kind), p + 3),
+        73 => taken(leave(file, m, head, limits, p), p + 1),
+        160 => taken(open(file, m, head, limits, p, head + code::operand(file, p)), p + 3),
+        161 => taken(close(file, m, head, limits, p), p + 1),
+        _ => plain(file, table, m, k, head, limits, p, kind),
     }
-    9
 }
 
 // Where the procedure behind c heads ends, of k procedures in a file of n bytes.
@@ -203,30 +333,42 @@ pub enum Verdict {
     Refuse(u32, usize),
 }
 
+// What holds throughout the procedure with this head and this end.
+fn limits_of(file: &[u8], head: usize, end: usize) -> Limits
+    requires { ⌜ head + 6 < length (now file) ⌝ }
+    ensures { λ r. ⌜ (r .end ≡ end) × Bounds (now (file .entry)) head r ⌝ }
+{
+    Limits {
+        end,
+        x: code::wide(file[head + 5]),
+        y: code::wide(file[head + 6]),
+    }
+}
+
 // The instructions in file order.
 pub fn flow(file: &[u8], m: &mut [u16], table: &[usize; 64], k: usize) -> Verdict
     requires { ⌜ Begun (now file) (now m) (now table) k ⌝ }
     ensures { λ r. ⌜ Flowed (now (file .entry)) (now (m .exit)) k r ⌝ }
 {
     let n = file.len();
-    let bodies = code::bodies();
     let mut p = 0;
     let mut c = 0;
     let mut head = 0;
-    let mut end = 0;
+    let mut limits = limits_of(file, 0, 0);
     while p < n {
-        let next = code::after(&bodies, file, p);
-        if file[p] == 240 {
+        let kind = file[p];
+        if kind == HEAD {
             head = p;
             c += 1;
-            end = end_of(table, k, c, n);
+            limits = limits_of(file, p, end_of(table, k, c, n));
+            p += 7;
         } else {
-            let fault = take(&bodies, file, table, m, k, head, end, p);
-            if fault != 0 {
-                return Verdict::Refuse(fault, p);
+            let to = take(file, table, m, k, head, limits, p, kind);
+            if to.fault != 0 {
+                return Verdict::Refuse(to.fault, p);
             }
+            p = to.next;
         }
-        p = next;
     }
     Verdict::Pass(k)
 }

@@ -24,3 +24,7 @@ pub record Site (f : List ℕ) (p : ℕ) : Type 0 where
 pub room : {f : List ℕ} {p : ℕ} → Site f p → (n : ℕ) → bodyOf (byteAt f p) ≡ n → p + n < length f
 unfolding after
 room s n e = omega (arith, s .inside)
+
+pub low : (f : List ℕ) (p : ℕ) → Site f p → p < 4096
+unfolding after
+low f p s = omega (arith, s .inside, s .small)

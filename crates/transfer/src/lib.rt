@@ -143,28 +143,31 @@ fn moves(s: State, o: State, limits: Limits, next: usize, row: Row) -> Onward
     refuse(7)
 }
 
-// The same with no frame word.
+// The same with no frame word, for an instruction of so many bytes at p.
 fn step(
     s: State,
     o: State,
     limits: Limits,
-    next: usize,
+    p: usize,
+    size: usize,
     popm: usize,
     popp: usize,
     pushm: usize,
     pushp: usize,
 ) -> Onward
-    requires { ⌜ Bounded (asState s) (asState o) limits × (pushm < 256) × (pushp < 256) ⌝ }
-    ensures { λ r. ⌜ r ≡ plainly (asState s) (asState o) limits next (rowShape Next (row popm popp pushm pushp 0 0)) ⌝ }
+    requires { ⌜ Bounded (asState s) (asState o) limits × (p < 4096) × (size < 256) × (pushm < 256) × (pushp < 256) ⌝ }
+    ensures { λ r. ⌜ r ≡ plainly (asState s) (asState o) limits (p + size) (rowShape Next (row popm popp pushm pushp 0 0)) ⌝ }
 {
+    let next = p + size;
     moves(s, o, limits, next, effect(popm, popp, pushm, pushp))
 }
 
 // 162: the state passes nowhere.
-fn raises(s: State, o: State, limits: Limits, next: usize) -> Onward
-    requires { ⌜ Bounded (asState s) (asState o) limits ⌝ }
-    ensures { λ r. ⌜ r ≡ plainly (asState s) (asState o) limits next (rowShape Raise (row 1 0 0 0 0 0)) ⌝ }
+fn raises(s: State, o: State, limits: Limits, p: usize) -> Onward
+    requires { ⌜ Bounded (asState s) (asState o) limits × (p < 4096) ⌝ }
+    ensures { λ r. ⌜ r ≡ plainly (asState s) (asState o) limits (p + 1) (rowShape Raise (row 1 0 0 0 0 0)) ⌝ }
 {
+    let next = p + 1;
     if UNREACHED <= s.main {
         return refuse(6);
     }
@@ -198,33 +201,31 @@ fn locals(file: &[u8], p: usize, kind: u8, s: State, o: State, limits: Limits) -
 
 // 36, 60, 62, 64
 fn blocks(file: &[u8], p: usize, kind: u8, s: State, o: State, limits: Limits) -> Onward
-    requires { ⌜ (p + 4 < length (now file)) × ((kind ≡ 36) ⊎ ((kind ≡ 60) ⊎ ((kind ≡ 62) ⊎ (kind ≡ 64)))) × Bounded (asState s) (asState o) limits ⌝ }
+    requires { ⌜ (p + 4 < length (now file)) × (p < 4096) × ((kind ≡ 36) ⊎ ((kind ≡ 60) ⊎ ((kind ≡ 62) ⊎ (kind ≡ 64)))) × Bounded (asState s) (asState o) limits ⌝ }
     ensures { λ r. ⌜ r ≡ plainly (asState s) (asState o) limits (p + 5) (shapeOf (now (file .entry)) p (model.insOf (now (file .entry)) p kind)) ⌝ }
 {
-    let next = p + 5;
     let k = code::operand(file, p);
     let n = code::operand2(file, p);
     match kind {
-        36 => step(s, o, limits, next, k, n, 0, 1),
-        60 => step(s, o, limits, next, 1 + k, n, 1, 0),
-        62 => step(s, o, limits, next, k, 1 + n, 0, 1),
-        _ => step(s, o, limits, next, k, n, 0, 0),
+        36 => step(s, o, limits, p, 5, k, n, 0, 1),
+        60 => step(s, o, limits, p, 5, 1 + k, n, 1, 0),
+        62 => step(s, o, limits, p, 5, k, 1 + n, 0, 1),
+        _ => step(s, o, limits, p, 5, k, n, 0, 0),
     }
 }
 
 // 72, of k procedures
 fn calls(file: &[u8], table: &[usize; 64], k: usize, p: usize, s: State, o: State, limits: Limits) -> Onward
-    requires { ⌜ Table (now file) (now table) k × (p + 2 < length (now file)) × Bounded (asState s) (asState o) limits ⌝ }
+    requires { ⌜ Table (now file) (now table) k × (p + 2 < length (now file)) × (p < 4096) × Bounded (asState s) (asState o) limits ⌝ }
     ensures { λ r. ⌜ r ≡ plainly (asState s) (asState o) limits (p + 3) (shapeOf (now (file .entry)) p (model.call (model.operand (now (file .entry)) p))) ⌝ }
 {
-    let next = p + 3;
     let n = code::operand(file, p);
     if k <= n {
         return refuse(5);
     }
     let at = table[n];
     let head = code::head_at(file, at);
-    step(s, o, limits, next, head.a, head.b, head.r, head.s)
+    step(s, o, limits, p, 3, head.a, head.b, head.r, head.s)
 }
 
 // The instruction of this kind at p, of k procedures; one that has no row here is 162.
@@ -242,27 +243,23 @@ pub fn plain_at(
         × Bounded (asState s) (asState o) limits ⌝ }
     ensures { λ r. ⌜ r ≡ plainly (asState s) (asState o) limits (model.after (now (file .entry)) p) (shapeOf (now (file .entry)) p (model.insAt (now (file .entry)) p)) ⌝ }
 {
-    let next1 = p + 1;
-    let next2 = p + 2;
-    let next3 = p + 3;
-    let next5 = p + 5;
     match kind {
         20..=23 => locals(file, p, kind, s, o, limits),
-        30 => step(s, o, limits, next3, 0, 1, 1, 0),
-        31 => step(s, o, limits, next3, 0, 1, 0, 1),
-        32 => step(s, o, limits, next3, 1, 1, 0, 0),
-        33 => step(s, o, limits, next3, 0, 2, 0, 0),
+        30 => step(s, o, limits, p, 3, 0, 1, 1, 0),
+        31 => step(s, o, limits, p, 3, 0, 1, 0, 1),
+        32 => step(s, o, limits, p, 3, 1, 1, 0, 0),
+        33 => step(s, o, limits, p, 3, 0, 2, 0, 0),
         36 | 60 | 62 | 64 => blocks(file, p, kind, s, o, limits),
-        54 => step(s, o, limits, next2, 0, 0, 1, 0),
-        56 => step(s, o, limits, next5, 0, 0, 1, 0),
-        57 => step(s, o, limits, next1, 0, 0, 0, 1),
-        58 => step(s, o, limits, next1, 0, 0, 0, 1),
-        59 => step(s, o, limits, next1, 0, 1, 0, 0),
+        54 => step(s, o, limits, p, 2, 0, 0, 1, 0),
+        56 => step(s, o, limits, p, 5, 0, 0, 1, 0),
+        57 => step(s, o, limits, p, 1, 0, 0, 0, 1),
+        58 => step(s, o, limits, p, 1, 0, 0, 0, 1),
+        59 => step(s, o, limits, p, 1, 0, 1, 0, 0),
         72 => calls(file, table, k, p, s, o, limits),
-        131 => step(s, o, limits, next1, 0, 2, 1, 0),
-        144 | 146 => step(s, o, limits, next1, 1, 0, 1, 0),
-        130 | 140 | 142 | 145 | 195 | 198 | 201 | 204 => step(s, o, limits, next1, 2, 0, 1, 0),
-        141 | 143 => step(s, o, limits, next1, 2, 0, 1, 0),
-        _ => raises(s, o, limits, next1),
+        131 => step(s, o, limits, p, 1, 0, 2, 1, 0),
+        144 | 146 => step(s, o, limits, p, 1, 1, 0, 1, 0),
+        130 | 140 | 142 | 145 | 195 | 198 | 201 | 204 => step(s, o, limits, p, 1, 2, 0, 1, 0),
+        141 | 143 => step(s, o, limits, p, 1, 2, 0, 1, 0),
+        _ => raises(s, o, limits, p),
     }
 }

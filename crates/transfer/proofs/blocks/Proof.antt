@@ -9,9 +9,6 @@ use borrow.Author.Needs.{needs}
 use Rattle.transfer.proofs.blocks.Statement.{statement}
 use Rattle.transfer.proofs.blocks.Tie as tie
 
-add-next : tie.Need-add-next
-add-next c = search needs
-
 operand-requires : tie.Need-operand-requires
 operand-requires c κs = search needs
 
@@ -19,22 +16,22 @@ operand2-requires : tie.Need-operand2-requires
 operand2-requires c κs = search needs
 
 step-requires : tie.Need-step-requires
-step-requires c κs = search needs
+step-requires c κs = ((c .before .before .before .before .pre .3), (c .before .before .before .before .pre .1), omega arith, omega arith, omega arith)
 
 add-step : tie.Need-add-step
 add-step c = search needs
 
 step-requires-2 : tie.Need-step-requires-2
-step-requires-2 c κs = search needs
+step-requires-2 c κs = ((c .before .before .before .before .pre .3), (c .before .before .before .before .pre .1), omega arith, omega arith, omega arith)
 
 add-step-2 : tie.Need-add-step-2
 add-step-2 c = search needs
 
 step-requires-3 : tie.Need-step-requires-3
-step-requires-3 c κs = search needs
+step-requires-3 c κs = ((c .before .before .before .before .pre .3), (c .before .before .before .before .pre .1), omega arith, omega arith, omega arith)
 
 step-requires-4 : tie.Need-step-requires-4
-step-requires-4 c κs = search needs
+step-requires-4 c κs = ((c .before .before .before .before .pre .3), (c .before .before .before .before .pre .1), omega arith, omega arith, omega arith)
 
 returns : tie.Need-returns
 unfolding shapeOf insOf basicEffect makerPops
@@ -52,7 +49,7 @@ returns-4 : tie.Need-returns-4
 unfolding shapeOf insOf basicEffect
 returns-4 c = let e : (c .before .before .before .before .before .args .kind) ≡ 64 =
     ⊎-elim (λ e. absurd ((c .before .match .rest .0 .0 .1) e)) (⊎-elim (λ e. absurd ((c .before .match .rest .0 .1) e)) (⊎-elim (λ e. absurd ((c .before .match .rest .1) e)) (λ e. e)))
-    (c .before .before .before .before .before .pre .1)
+    (c .before .before .before .before .before .pre .2)
     in
     rw ((c .step4 .ensures), e, (c .before .before .before .operand .ensures .is), (c .before .before .operand2 .ensures .is))
 
@@ -60,7 +57,6 @@ pub blocks-spec : {M : Type 1} → statement M
 blocks-spec =
     tie.close
     (tie.spec
-    add-next
     operand-requires
     operand2-requires
     step-requires

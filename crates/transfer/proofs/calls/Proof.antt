@@ -11,9 +11,6 @@ use borrow.Author.Needs.{needs}
 use Rattle.transfer.proofs.calls.Statement.{statement}
 use Rattle.transfer.proofs.calls.Tie as tie
 
-add-next : tie.Need-add-next
-add-next c = search needs
-
 operand-requires : tie.Need-operand-requires
 operand-requires c κs = search needs
 
@@ -35,7 +32,7 @@ head-at-requires : tie.Need-head-at-requires
 head-at-requires c κs = let t = (c .before .before .before .before .pre .0) in let n = (c .before .before .operand .result) in rw (t .heads n (omega (arith, t .few))) (t .whole n)
 
 step-requires : tie.Need-step-requires
-step-requires c κs = ((c .before .before .before .before .before .pre .2), omega (arith, (c .head-at .ensures)), omega (arith, (c .head-at .ensures)))
+step-requires c κs = ((c .before .before .before .before .before .pre .3), (c .before .before .before .before .before .pre .2), omega arith, omega (arith, (c .head-at .ensures)), omega (arith, (c .head-at .ensures)))
 
 returns-2 : tie.Need-returns-2
 unfolding shapeOf procHead effectOf
@@ -48,7 +45,6 @@ pub calls-spec : {M : Type 1} → statement M
 calls-spec =
     tie.close
     (tie.spec
-    add-next
     operand-requires
     refuse-requires
     returns

@@ -6,78 +6,65 @@ use mathlib.Core.Path.{_≡_, _∙_, refl, ap}
 use native.Mathlib.Omega.{arith}
 use Rattle.model.specs.File.{codes, bodies, bodyOf, insOf}
 use Rattle.model.specs.Checker.{basicEffect}
-use Rattle.code.specs.Bodies.{after-above}
 use Rattle.code.specs.Kinds.{every}
 use Rattle.transfer.specs.Shape.{Next, Raise, shapeOf}
-use Rattle.transfer.specs.Site.{room}
+use Rattle.transfer.specs.Site.{room, low}
 use Rattle.transfer.specs.Kinds.{body-locals, body-blocks, ins-raise, body-raise}
 use Rattle.transfer.specs.Rows.{row, rowShape, at-row}
 use Rattle.transfer.proofs.plain_at.Statement.{statement}
 use Rattle.transfer.proofs.plain_at.Tie as tie
 
-add-next1 : tie.Need-add-next1
-add-next1 c = omega (arith, (c .before .pre .1), after-above (c .before .args .file .now) (c .before .args .p))
-
-add-next2 : tie.Need-add-next2
-add-next2 c = omega (arith, (c .before .pre .1), after-above (c .before .args .file .now) (c .before .args .p))
-
-add-next3 : tie.Need-add-next3
-add-next3 c = omega (arith, (c .before .pre .1), after-above (c .before .args .file .now) (c .before .args .p))
-
-add-next5 : tie.Need-add-next5
-add-next5 c = omega (arith, (c .before .pre .1), after-above (c .before .args .file .now) (c .before .args .p))
-
 step-requires : tie.Need-step-requires
-step-requires c κs = ((c .before .before .pre .5), omega arith, omega arith)
+step-requires c κs = ((c .before .before .pre .5), low (c .before .before .args .file .now) (c .before .before .args .p) (c .before .before .pre .1), omega arith, omega arith, omega arith)
 
 step-requires-2 : tie.Need-step-requires-2
-step-requires-2 c κs = ((c .before .before .pre .5), omega arith, omega arith)
+step-requires-2 c κs = ((c .before .before .pre .5), low (c .before .before .args .file .now) (c .before .before .args .p) (c .before .before .pre .1), omega arith, omega arith, omega arith)
 
 step-requires-3 : tie.Need-step-requires-3
-step-requires-3 c κs = ((c .before .before .pre .5), omega arith, omega arith)
+step-requires-3 c κs = ((c .before .before .pre .5), low (c .before .before .args .file .now) (c .before .before .args .p) (c .before .before .pre .1), omega arith, omega arith, omega arith)
 
 step-requires-4 : tie.Need-step-requires-4
-step-requires-4 c κs = ((c .before .before .pre .5), omega arith, omega arith)
+step-requires-4 c κs = ((c .before .before .pre .5), low (c .before .before .args .file .now) (c .before .before .args .p) (c .before .before .pre .1), omega arith, omega arith, omega arith)
 
 blocks-requires : tie.Need-blocks-requires
-blocks-requires c κs = (room (c .before .before .pre .1) 4 (ap bodyOf (c .before .before .pre .2) ∙ body-blocks _ (c .match .keys5)), (c .match .keys5), (c .before .before .pre .5))
+blocks-requires c κs = (room (c .before .before .pre .1) 4 (ap bodyOf (c .before .before .pre .2) ∙ body-blocks _ (c .match .keys5)), low (c .before .before .args .file .now) (c .before .before .args .p) (c .before .before .pre .1), (c .match .keys5), (c .before .before .pre .5))
 
 step-requires-5 : tie.Need-step-requires-5
-step-requires-5 c κs = ((c .before .before .pre .5), omega arith, omega arith)
+step-requires-5 c κs = ((c .before .before .pre .5), low (c .before .before .args .file .now) (c .before .before .args .p) (c .before .before .pre .1), omega arith, omega arith, omega arith)
 
 step-requires-6 : tie.Need-step-requires-6
-step-requires-6 c κs = ((c .before .before .pre .5), omega arith, omega arith)
+step-requires-6 c κs = ((c .before .before .pre .5), low (c .before .before .args .file .now) (c .before .before .args .p) (c .before .before .pre .1), omega arith, omega arith, omega arith)
 
 step-requires-7 : tie.Need-step-requires-7
-step-requires-7 c κs = ((c .before .before .pre .5), omega arith, omega arith)
+step-requires-7 c κs = ((c .before .before .pre .5), low (c .before .before .args .file .now) (c .before .before .args .p) (c .before .before .pre .1), omega arith, omega arith, omega arith)
 
 step-requires-8 : tie.Need-step-requires-8
-step-requires-8 c κs = ((c .before .before .pre .5), omega arith, omega arith)
+step-requires-8 c κs = ((c .before .before .pre .5), low (c .before .before .args .file .now) (c .before .before .args .p) (c .before .before .pre .1), omega arith, omega arith, omega arith)
 
 step-requires-9 : tie.Need-step-requires-9
-step-requires-9 c κs = ((c .before .before .pre .5), omega arith, omega arith)
+step-requires-9 c κs = ((c .before .before .pre .5), low (c .before .before .args .file .now) (c .before .before .args .p) (c .before .before .pre .1), omega arith, omega arith, omega arith)
 
 calls-requires : tie.Need-calls-requires
 unfolding bodyOf bodies codes
-calls-requires c κs = ((c .before .before .pre .0), room (c .before .before .pre .1) 2 (ap bodyOf ((c .before .before .pre .2) ∙ (c .match .keys11))), (c .before .before .pre .5))
+calls-requires c κs = ((c .before .before .pre .0), room (c .before .before .pre .1) 2 (ap bodyOf ((c .before .before .pre .2) ∙ (c .match .keys11))), low (c .before .before .args .file .now) (c .before .before .args .p) (c .before .before .pre .1), (c .before .before .pre .5))
 
 step-requires-10 : tie.Need-step-requires-10
-step-requires-10 c κs = ((c .before .before .pre .5), omega arith, omega arith)
+step-requires-10 c κs = ((c .before .before .pre .5), low (c .before .before .args .file .now) (c .before .before .args .p) (c .before .before .pre .1), omega arith, omega arith, omega arith)
 
 step-requires-11 : tie.Need-step-requires-11
-step-requires-11 c κs = ((c .before .before .pre .5), omega arith, omega arith)
+step-requires-11 c κs = ((c .before .before .pre .5), low (c .before .before .args .file .now) (c .before .before .args .p) (c .before .before .pre .1), omega arith, omega arith, omega arith)
 
 step-requires-12 : tie.Need-step-requires-12
-step-requires-12 c κs = ((c .before .before .pre .5), omega arith, omega arith)
+step-requires-12 c κs = ((c .before .before .pre .5), low (c .before .before .args .file .now) (c .before .before .args .p) (c .before .before .pre .1), omega arith, omega arith, omega arith)
 
 step-requires-13 : tie.Need-step-requires-13
-step-requires-13 c κs = ((c .before .before .pre .5), omega arith, omega arith)
+step-requires-13 c κs = ((c .before .before .pre .5), low (c .before .before .args .file .now) (c .before .before .args .p) (c .before .before .pre .1), omega arith, omega arith, omega arith)
 
 locals-requires : tie.Need-locals-requires
 locals-requires c κs = (room (c .before .before .before .before .pre .1) 2 (ap bodyOf (c .before .before .before .before .pre .2) ∙ body-locals _ (omega arith) (omega arith)), omega arith, omega arith, (c .before .before .before .before .pre .5))
 
 raises-requires : tie.Need-raises-requires
-raises-requires c κs = (c .before .before .before .pre .5)
+raises-requires c κs = ((c .before .before .before .pre .5), low (c .before .before .before .args .file .now) (c .before .before .before .args .p) (c .before .before .before .pre .1))
 
 returns : tie.Need-returns
 unfolding insOf shapeOf basicEffect bodyOf bodies codes
@@ -171,10 +158,6 @@ pub plain-at-spec : {M : Type 1} → statement M
 plain-at-spec =
     tie.close
     (tie.spec
-    add-next1
-    add-next2
-    add-next3
-    add-next5
     step-requires
     step-requires-2
     step-requires-3

@@ -4,14 +4,17 @@ use borrow.Author.Needs.{needs}
 use Rattle.transfer.proofs.step.Statement.{statement}
 use Rattle.transfer.proofs.step.Tie as tie
 
+add-next : tie.Need-add-next
+add-next c = search needs
+
 effect-requires : tie.Need-effect-requires
 effect-requires c κs = search needs
 
 moves-requires : tie.Need-moves-requires
-moves-requires c κs = rw (c .effect .ensures) ((c .before .pre .0), ((c .before .pre .1), (c .before .pre .2)))
+moves-requires c κs = rw (c .effect .ensures) ((c .before .pre .0), ((c .before .pre .3), (c .before .pre .4)))
 
 returns : tie.Need-returns
 returns c = rw ((c .moves .ensures), (c .before .effect .ensures))
 
 pub step-spec : {M : Type 1} → statement M
-step-spec = tie.close (tie.spec effect-requires moves-requires returns)
+step-spec = tie.close (tie.spec add-next effect-requires moves-requires returns)
