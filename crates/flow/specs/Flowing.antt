@@ -11,17 +11,18 @@ use lib.ListN.{length, getD, drop, length-drop}
 use lib.Seq.{getD-drop, drop-drop}
 use borrow.Author.Tests.{lt-ltb, le-ltb, eq-eqb, ne-eqb, eqb-true}
 use Rattle.model.specs.Choice.{if_then_else_, Mem, member}
-use Rattle.model.specs.File.{byteAt, after, whole?, Records, starts, recordsOf, startsIn, isHead, select, instructions, heads, procs, headOf, procAt, mostMain}
-use Rattle.model.specs.Checker.{none, state, isSet, Known, stateAt, firsts, Step, bad, next, refused, passed, goOn, take, takeAll, flow, mapFrom}
+use Rattle.model.specs.File.{unknown, bodies, bodyOf, byteAt, after, whole?, Records, starts, recordsOf, startsIn, isHead, select, instructions, heads, procs, headOf, procAt, mostMain, mostPtr}
+use Rattle.model.specs.Checker.{none, State, state, isSet, Known, stateAt, outer, own, firsts, Step, bad, next, refused, passed, goOn, take, takeAll, flow, mapFrom}
 use Rattle.exact.specs.Walk.{instructions-others, instructions-are, Walk, walk, walk-above, records-walk, after-above, after-head, head-in, first-head, member-in, in-member, instruction-below, HeadsHold, select-in, getD-in, procs-some, in-select}
 use Rattle.exact.specs.Flow.{own-in, keeps-shape, flow-keeps, flow-rest}
 use Rattle.scan.specs.Rest.{restOf, rest-end, rest-inv, whole-inside, records-first}
 use Rattle.scan.specs.Marks.{stateIn}
 use Rattle.scan.specs.Heading.{Placed}
-use Rattle.effects.specs.Site.{Table}
-use Rattle.flow.specs.Own.{endOf, between, end-low, own-alike}
-use Rattle.flow.specs.Takes.{Good, Alike, take-alike, takeIn, in-set, in-unset}
-use Rattle.flow.specs.Faults.{takeAns, Here, Held, endIn}
+use Rattle.transfer.specs.Site.{Table}
+use Rattle.flow.specs.Own.{endOf, between, end-low, ownIn, own-alike}
+use Rattle.flow.specs.Takes.{Good, Alike, take-alike, takeIn, in-set, in-unset, outer-alike}
+use Rattle.flow.specs.Faults.{takeAns, Held, endIn}
+use Rattle.flow.specs.Ways.{Here}
 use Rattle.flow.specs.declared.Verdict.{Verdict}
 use Rattle.flow.specs.declared.Verdict.the-variants.{Pass, Refuse}
 
@@ -43,6 +44,20 @@ Flowed f m n (Refuse r p) = flow f ≡ refused r p
 
 abbrev pub ins : List ℕ → List ℕ → List ℕ
 ins f ps = select (λ p. not (isHead f p)) ps
+
+-- the first of what is left is the next
+head-first : (c : ℕ) (l : List ℕ) (x : ℕ) (xs : List ℕ) → drop c l ≡ x ∷ xs → getD l c 0 ≡ x
+head-first c l x xs e =
+    let w : c ≡ c + 0 = omega arith in
+    ap (λ (n : ℕ). getD l n 0) w ∙ sym (getD-drop c l 0 0) ∙ ap (λ (r : List ℕ). getD r 0 0) e
+
+whole-known : (f : List ℕ) (p : ℕ) → whole? f p ≡ true → bodyOf (byteAt f p) ≡ unknown → ⊥
+unfolding whole?
+whole-known f p e z = true≢false (sym e ∙ rw (eq-eqb (bodyOf (byteAt f p)) unknown z))
+
+pub head-size : (f : List ℕ) (p : ℕ) → byteAt f p ≡ 240 → after f p ≡ p + 7
+unfolding after bodyOf bodies
+head-size f p z = rw z (omega arith)
 
 -- at p, behind c heads, in the procedure between h and e
 pub record Flowing (f m table : List ℕ) (k p c h e : ℕ) : Type 0 where
@@ -88,7 +103,7 @@ module _ (f m₀ table : List ℕ) (k : ℕ) (B : Begun f m₀ table k) where
       let r = rest-inv f 0 (B .places) (B .some) (sym (records-first f z) ∙ e) in
       rw (e, r .1 .2, eq-eqb (byteAt f 0) 240 z)
 
-  begun-table : Table f table k
+  pub begun-table : Table f table k
   begun-table =
       record {
         count = B .placed .count;
@@ -137,9 +152,7 @@ module _ (f m₀ table : List ℕ) (k : ℕ) (B : Begun f m₀ table k) where
         let heads-are : drop c (heads f) ≡ p ∷ select (isHead f) (next-is .1 .0) =
         F .to-come ∙ ap (select (isHead f)) (next-is .1 .2) ∙ rw (eq-eqb (byteAt f p) 240 z) in
         let a : length (heads f) - c ≡ suc (length (select (isHead f) (next-is .1 .0))) = sym (length-drop c (heads f)) ∙ ap length heads-are in
-        let at : getD (heads f) c 0 ≡ p =
-        let w : c ≡ c + 0 = omega arith in
-        ap (λ (n : ℕ). getD (heads f) n 0) w ∙ sym (getD-drop c (heads f) 0 0) ∙ ap (λ (l : List ℕ). getD l 0 0) heads-are in
+        let at : getD (heads f) c 0 ≡ p = head-first c (heads f) p (select (isHead f) (next-is .1 .0)) heads-are in
         let skip : ins f (F .rest) ≡ ins f (next-is .1 .0) =
         ap (ins f) (next-is .1 .2) ∙ rw (eq-eqb (byteAt f p) 240 z) in
         let up = after-above f p in
@@ -258,21 +271,106 @@ module _ (f m₀ table : List ℕ) (k : ℕ) (B : Begun f m₀ table k) where
           go true z = rw (in-set f (F .known) m G p in? below z) (to-held (stateAt (F .known) p .inner) (G .fits p z .held))
           go false z = rw (in-unset f (F .known) m G p in? below z) (inl refl)
 
-      pub flowing-here : Here f table m k h e p
-      flowing-here =
+      owns : (q : ℕ) → ownIn m h e q ≡ own f p q
+      owns q =
           let I = in-proc in
           let b = I .one in
           let z : suc (c - 1) ≡ c = omega arith in
+          rw (I .head, I .end ∙ ap (endOf f) (sym z))
+          (own-alike f (B .places) (B .records) (F .known) m (F .good .shows) p (c - 1) proc-is n-low head-zero q)
+
+      -- the next record is an instruction of the procedure, if it starts before the end
+      own-next : ownIn m h e (after f p) ≡ ltb (after f p) e
+      unfolding own isHead endOf procs headOf
+      own-next = go (decLt (after f p) e)
+        where
+          I : InProc
+          I = in-proc
+
+          up : p < after f p
+          up = after-above f p
+
+          -- the first of the records to come
+          first : after f p < e → (qs : List ℕ) × (next-is .1 .0 ≡ after f p ∷ qs)
+          first l =
+              let a = end-low f (B .places) (B .records) c in
+              let z = I .end in
+              let w = rest-inv f (after f p) (next-is .1 .0) (omega arith) (next-is .1 .1) in
+              (w .1 .0, w .1 .2)
+
+          no-head : after f p < e → byteAt f (after f p) ≡ 240 → ⊥
+          no-head l z =
+              let q = after f p in
+              let hs : drop c (heads f) ≡ q ∷ select (isHead f) (first l .0) =
+              F .to-come ∙ heads-are ∙ ap (select (isHead f)) (first l .1) ∙ rw (eq-eqb (byteAt f q) 240 z) in
+              let a : length (heads f) - c ≡ suc (length (select (isHead f) (first l .0))) = sym (length-drop c (heads f)) ∙ ap length hs in
+              let at : getD (heads f) c 0 ≡ q = head-first c (heads f) q (select (isHead f) (first l .0)) hs in
+              let ends : e ≡ q = I .end ∙ rw (lt-ltb c (length (heads f)) (omega arith)) at in
+              omega arith
+
+          there : after f p < e → Mem (after f p) (instructions f)
+          there l =
+              let n = ne-eqb (byteAt f (after f p)) 240 (no-head l) in
+              rw (instructions-others f)
+              (in-select (λ q. not (isHead f q)) (startsIn (recordsOf f)) (after f p) (part-next (after f p) (rw (first l .1) (inl refl)))
+              (rw n))
+
+          go : Dec (after f p < e) → ownIn m h e (after f p) ≡ ltb (after f p) e
+          go (yes l) =
+              let z : suc (c - 1) ≡ c = let a = I .one in omega arith in
+              let pq : procAt f (after f p) ≡ c - 1 =
+              between f (B .places) (B .records) (c - 1) (after f p) n-low (let a = I .head in let b = I .above in let u = up in omega arith) (rw (z, ← I .end) l) in
+              let own? : own f p (after f p) ≡ true =
+              rw (in-member (after f p) (instructions f) (there l), eq-eqb (procAt f (after f p)) (procAt f p) (pq ∙ sym proc-is)) in
+              owns (after f p) ∙ own? ∙ sym (lt-ltb (after f p) e l)
+          go (no l) = let a = I .above in let u = up in rw (lt-ltb h (after f p) (omega arith), le-ltb (after f p) e (omega arith))
+
+      -- the depths lie above the floor and, where a state is known, within the greatest
+      floor : (outer (stateIn m) (stateIn m p) .main ≤ stateIn m p .main) × (outer (stateIn m) (stateIn m p) .ptr ≤ stateIn m p .ptr)
+      floor = go (isSet (stateAt (F .known) p)) refl
+        where
+          in? : member p (instructions f) ≡ true
+          in? = in-member p (instructions f) flowing-ins
+
+          go : (t : Bool) → isSet (stateAt (F .known) p) ≡ t →
+              (outer (stateIn m) (stateIn m p) .main ≤ stateIn m p .main) × (outer (stateIn m) (stateIn m p) .ptr ≤ stateIn m p .ptr)
+          go true z =
+              let T = F .good .fits p z in
+              rw (in-set f (F .known) m (F .good) p in? below z, outer-alike f (B .places) (B .bytes) (B .records) (F .known) m (F .good) (stateAt (F .known) p) T)
+              (T .main-above, T .ptr-above)
+          go false z = rw (in-unset f (F .known) m (F .good) p in? below z) (omega arith, omega arith)
+
+      within : stateIn m p .main < 65534 → (stateIn m p .main ≤ byteAt f (h + 5)) × (stateIn m p .ptr ≤ byteAt f (h + 6))
+      within l = go (isSet (stateAt (F .known) p)) refl
+        where
+          in? : member p (instructions f) ≡ true
+          in? = in-member p (instructions f) flowing-ins
+
+          go : (t : Bool) → isSet (stateAt (F .known) p) ≡ t → (stateIn m p .main ≤ byteAt f (h + 5)) × (stateIn m p .ptr ≤ byteAt f (h + 6))
+          go true z =
+              let head-is : h ≡ headOf f (procAt f p) = in-proc .head ∙ ap (headOf f) (sym proc-is) in
+              rw (in-set f (F .known) m (F .good) p in? below z, head-is) (unfold mostMain mostPtr in F .good .within p z)
+          go false z =
+              let w : stateIn m p .main ≡ 65534 = ap (λ (u : State). u .main) (in-unset f (F .known) m (F .good) p in? below z) in absurd (omega arith)
+
+      pub flowing-here : Here f m h e p
+      flowing-here =
+          let I = in-proc in
+          let head-is : h ≡ headOf f (procAt f p) = I .head ∙ ap (headOf f) (sym proc-is) in
           record {
-            table-is = begun-table;
-            site = record { inside = flowing-inside; small = B .few; head = I .head ∙ ap (headOf f) (sym proc-is); low = I .above };
+            site = record { known = whole-known f p (next-is .0); inside = flowing-inside; small = B .few };
+            head = head-is;
+            head-whole = rw head-is (begun-table .whole (procAt f p));
+            low = I .above;
             long = F .good .shows .long;
-            owns = λ q.
-                rw (I .head, I .end ∙ ap (endOf f) (sym z))
-                (own-alike f (B .places) (B .records) (F .known) m (F .good .shows) p (c - 1) proc-is n-low head-zero q);
+            owns = owns;
+            own-next = own-next;
             end-low = rw (I .end) (end-low f (B .places) (B .records) c);
             own-low = λ q w. instruction-below f (B .places) (B .records) q (own-in f p q w .0);
             held = held;
+            main-floor = floor .0;
+            ptr-floor = floor .1;
+            within = within;
             bytes = B .bytes;
           }
 

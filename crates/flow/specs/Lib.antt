@@ -1,4 +1,5 @@
-pub mod Takes
 pub mod Own
+pub mod Takes
 pub mod Faults
+pub mod Ways
 pub mod Flowing

@@ -14,13 +14,9 @@ use Rattle.model.specs.File.{Ins, insAt, instructions, headOf, procAt, mostMain
 use Rattle.model.specs.Checker.{none, State, state, isSet, sameState, Known, stateAt, outer, passes, targetTests, nextTests, depthTests, leaveTests, Step, bad, next, need, meet, andThen, passAll, takeWith, take}
 use Rattle.model.specs.Claim.{Bytes}
 use Rattle.exact.specs.Walk.{in-member, member-in, instruction-below}
-use Rattle.exact.specs.Flow.{Depths, Inner, Moves, moves}
+use Rattle.exact.specs.Flow.{Within, Depths, Inner, Moves, moves}
 use Rattle.scan.specs.Marks.{unreached, stateIn, putIn, Shows, put-shows}
-use Rattle.transfer.specs.Tests.{firmTests, firm-same}
-
--- a state is known where the first number is below 65,534
-abbrev pub isSetIn : State → Bool
-isSetIn s = ltb (s .main) unreached
+use Rattle.transfer.specs.Rows.{isSetIn}
 
 abbrev pub passOneIn : List ℕ → ℕ → State → Step (List ℕ)
 passOneIn m q s = meet (isSetIn (stateIn m q)) (sameState (stateIn m q) s) m (putIn m q s)
@@ -33,7 +29,7 @@ unfoldable pub takeInWith : List ℕ → ℕ → Ins → List ℕ → State → 
 takeInWith f p i m s o =
     need (all (targetTests f p i)) 5
     (need (isSetIn s && all (nextTests f p i)) 6
-    (need (all (firmTests f p i s o)) 7
+    (need (all (depthTests f p i s o)) 7
     (need (all (leaveTests f p i s)) 8
     (passAllIn (passes f p i s o) m))))
 
@@ -48,8 +44,10 @@ pub record Fit (k : Known) (s : State) : Type 0 where
   pub main-above : outer (stateAt k) s .main ≤ s .main
   pub ptr-above : outer (stateAt k) s .ptr ≤ s .ptr
 
+-- the known states fit, and have depths within those of their procedures
 pub record Good (f : List ℕ) (k : Known) (m : List ℕ) : Type 0 where
   pub shows : Shows f k m
+  pub within : (q : ℕ) → isSet (stateAt k q) ≡ true → Within f q (stateAt k q)
   pub fits : (q : ℕ) → isSet (stateAt k q) ≡ true → Fit k (stateAt k q)
 
 byte-set : (s : State) → s .main < 256 → isSet s ≡ true
@@ -104,14 +102,20 @@ fit-grown k q s u h n F =
     go (inr e) = inr (grown k q (u .inner) s h e)
 
 good-put : (f : List ℕ) (k : Known) (m : List ℕ) (q : ℕ) (s : State) → Good f k m → member q (instructions f) ≡ true → q < length f →
-    isSet (stateAt k q) ≡ false → Fit k s → Good f ((q, s) ∷ k) (putIn m q s)
-good-put f k m q s G in? low n F =
+    isSet (stateAt k q) ≡ false → Fit k s → Within f q s → Good f ((q, s) ∷ k) (putIn m q s)
+good-put f k m q s G in? low n F W =
     let h = byte-set s (F .main-byte) in
     record {
       shows = put-shows f k m (G .shows) q s h in? low;
       fits = λ r e. at r e (eqb r q) refl;
+      within = λ r e. inside r e (eqb r q) refl;
     }
   where
+    inside : (r : ℕ) → isSet (if eqb r q then s else stateAt k r) ≡ true → (t : Bool) → eqb r q ≡ t →
+        Within f r (if eqb r q then s else stateAt k r)
+    inside r e true w = let z = eqb-true r q w in rw (w, z) W
+    inside r e false w = let v : isSet (stateAt k r) ≡ true = rw w at e in rw w (G .within r v)
+
     at : (r : ℕ) → isSet (if eqb r q then s else stateAt k r) ≡ true → (t : Bool) → eqb r q ≡ t →
         Fit ((q, s) ∷ k) (if eqb r q then s else stateAt k r)
     at r e true w = rw w (fit-grown k q s s (byte-set s (F .main-byte)) n F)
@@ -129,13 +133,13 @@ Alike f (next k) (next m) = Good f k m
 -- states that an instruction passes on
 abbrev Sendable : List ℕ → Known → List (ℕ × State) → Type 0
 Sendable f k [] = Unit {0}
-Sendable f k (o ∷ os) = ((member (o .0) (instructions f) ≡ true) × (o .0 < length f) × Fit k (o .1)) × Sendable f k os
+Sendable f k (o ∷ os) = ((member (o .0) (instructions f) ≡ true) × (o .0 < length f) × Fit k (o .1) × Within f (o .0) (o .1)) × Sendable f k os
 
 sendable-grown : (f : List ℕ) (k : Known) (q : ℕ) (s : State) (os : List (ℕ × State)) → isSet s ≡ true → isSet (stateAt k q) ≡ false →
     Sendable f k os → Sendable f ((q, s) ∷ k) os
 sendable-grown f k q s [] h n S = tt
 sendable-grown f k q s (o ∷ os) h n S =
-    ((S .0 .0, S .0 .1, fit-grown k q s (o .1) h n (S .0 .2)), sendable-grown f k q s os h n (S .1))
+    ((S .0 .0, S .0 .1, fit-grown k q s (o .1) h n (S .0 .2), S .0 .3), sendable-grown f k q s os h n (S .1))
 
 all-alike : (f : List ℕ) (os : List (ℕ × State)) (k : Known) (m : List ℕ) → Good f k m → Sendable f k os → Alike f (passAll os k) (passAllIn os m)
 all-alike f [] k m G S = G
@@ -158,7 +162,7 @@ all-alike f (o ∷ os) k m G S = go (isSet (stateAt k (o .0))) refl (λ k′ m�
     go true h r = rw (h, both true h, in-set f k m G (o .0) in? (S .0 .1) h) (same? (sameState (stateAt k (o .0)) (o .1)) G r)
     go false h r =
         rw (h, both false h)
-        (r ((o .0, o .1) ∷ k) (putIn m (o .0) (o .1)) (good-put f k m (o .0) (o .1) G in? (S .0 .1) h (S .0 .2))
+        (r ((o .0, o .1) ∷ k) (putIn m (o .0) (o .1)) (good-put f k m (o .0) (o .1) G in? (S .0 .1) h (S .0 .2) (S .0 .3))
         (sendable-grown f k (o .0) (o .1) os (byte-set (o .1) (S .0 .2 .main-byte)) h (S .1)))
 
 need-alike : (f : List ℕ) (t : Bool) (n : ℕ) (a : Step Known) (b : Step (List ℕ)) → (t ≡ true → Alike f a b) → Alike f (need t n a) (need t n b)
@@ -212,7 +216,7 @@ module _ (f ps : List ℕ) (B : Bytes f) (e : recordsOf f ≡ starts ps) (k : Kn
     Above u = (outer (stateAt k) u .main ≤ u .main) × (outer (stateAt k) u .ptr ≤ u .ptr)
 
     fit-moved : (q : ℕ) (u : State) → Moves f p (stateAt k p) (outer (stateAt k) (stateAt k p)) q u →
-        (member q (instructions f) ≡ true) × (q < length f) × Fit k u
+        (member q (instructions f) ≡ true) × (q < length f) × Fit k u × Within f q u
     unfolding mostMain mostPtr
     fit-moved q u M =
         let F = G .fits p set? in (
@@ -225,8 +229,13 @@ module _ (f ps : List ℕ) (B : Bytes f) (e : recordsOf f ≡ starts ps) (k : Kn
             main-above = above (M .high .alike) (M .inner) .0;
             ptr-above = above (M .high .alike) (M .inner) .1;
           },
+          near (M .depths),
         )
       where
+        near : Depths f p (stateAt k p) u → Within f q u
+        near (inl d) = rw (M .same-proc) d
+        near (inr d) = rw (M .same-proc, d .0, d .1) (G .within p set?)
+
         -- the floor is the one before, the 160's own depths, or the one outside
         under-same : u .inner ≡ stateAt k p .inner → Above u
         under-same z =
@@ -262,7 +271,7 @@ module _ (f ps : List ℕ) (B : Bytes f) (e : recordsOf f ≡ starts ps) (k : Kn
         inner-held (inr (inl z)) = inr (rw (z .0) set?)
         inner-held (inr (inr z)) = rw z (outer-fit (stateAt k p) (G .fits p set?))
 
-    sendable : (os : List (ℕ × State)) → ((q : ℕ) (u : State) → Mem (q, u) os → (member q (instructions f) ≡ true) × (q < length f) × Fit k u) → Sendable f k os
+    sendable : (os : List (ℕ × State)) → ((q : ℕ) (u : State) → Mem (q, u) os → (member q (instructions f) ≡ true) × (q < length f) × Fit k u × Within f q u) → Sendable f k os
     sendable [] h = tt
     sendable (o ∷ os) h = (h (o .0) (o .1) (inl refl), sendable os (λ q u w. h q u (inr w)))
 
@@ -272,11 +281,10 @@ module _ (f ps : List ℕ) (B : Bytes f) (e : recordsOf f ≡ starts ps) (k : Kn
     known-alike i z =
         let b = G .fits p set? .main-byte in
         let o = outer (stateAt k) (stateAt k p) in
-        let firm = firm-same f p i (stateAt k p) o (G .fits p set? .main-above) (G .fits p set? .ptr-above) in
-        rw (set?, lt-ltb (stateAt k p .main) unreached (omega arith), firm)
+        rw (set?, lt-ltb (stateAt k p .main) unreached (omega arith))
         (need-alike f (all (targetTests f p i)) 5 _ _ (λ t.
         need-alike f (all (nextTests f p i)) 6 _ _ (λ n.
-        need-alike f (all (firmTests f p i (stateAt k p) o)) 7 _ _ (λ d.
+        need-alike f (all (depthTests f p i (stateAt k p) o)) 7 _ _ (λ d.
         need-alike f (all (leaveTests f p i (stateAt k p))) 8 _ _ (λ l.
         all-alike f (passes f p i (stateAt k p) o) k m G
         (sendable (passes f p i (stateAt k p) o) (λ q u w.
@@ -285,7 +293,7 @@ module _ (f ps : List ℕ) (B : Bytes f) (e : recordsOf f ≡ starts ps) (k : Kn
         (record {
           targets = rw z (all-true (targetTests f p i) t);
           nexts = rw z (all-true (nextTests f p i) n);
-          depths = rw z (all-true (depthTests f p i (stateAt k p) o) (firm ∙ d));
+          depths = rw z (all-true (depthTests f p i (stateAt k p) o) d);
           leaves = rw z (all-true (leaveTests f p i (stateAt k p)) l);
         })
         q u (rw z w)))))))))

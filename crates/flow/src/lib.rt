@@ -3,13 +3,16 @@ ghost use mathlib.Core.Path.{_≡_};
 ghost use Prim.Native.Nat.{_+_, _*_, _<_, _≤_};
 ghost use mathlib.Core.List.{_∷_, []};
 ghost use lib.ListN.{length};
-ghost use Rattle.model.specs.Choice.{if_then_else_};
 ghost use Rattle.model.specs.File as model;
-ghost use Rattle.code.specs.Table.{lengths};
+ghost use Rattle.code.specs.Kinds.{NoneOf};
+ghost use Rattle.transfer.specs.Shape.{Jump, Open, Close, Return};
+ghost use Rattle.transfer.specs.Site.{Table};
+ghost use Rattle.transfer.specs.Kinds.{Aside, elsewhere};
 ghost use Rattle.transfer.specs.Tests.{asState};
 ghost use Rattle.flow.specs.Own.{ownIn};
 ghost use Rattle.flow.specs.Takes.{passOneIn, passAllIn, takeIn};
-ghost use Rattle.flow.specs.Faults.{passAns, takeAns, StateIs, OuterIs, Held, Target, Room, shapePasses, earlyOf, lateOf, Here, endIn};
+ghost use Rattle.flow.specs.Faults.{passAns, takeAns, StateIs, OuterIs, Held, Fitting, endIn};
+ghost use Rattle.flow.specs.Ways.{leads, branchWay, Led, Among, Bounds, takenBy, Took};
 ghost use Rattle.flow.specs.Flowing.{Begun, Flowed};
 use transfer::Limits;
 use transfer::State;
@@ -240,7 +243,7 @@ fn leave(file: &[u8], m: &[u16], head: usize, limits: Limits, p: usize) -> u32
 
 // 1 to 6
 fn jumps(file: &[u8], m: &mut [u16], head: usize, limits: Limits, p: usize, kind: u8) -> u32
-    requires { ⌜ Held3 (now file) (now m) head p limits kind × (1 ≤ kind) × (kind ≤ 6) ⌝ }
+    requires { ⌜ Among (now file) (now m) head p limits kind × (1 ≤ kind) × (kind ≤ 6) ⌝ }
     ensures { λ r. ⌜ takeAns r (now (m .exit)) ≡ takeIn (now (file .entry)) p (now (m .entry)) ⌝ }
 {
     match kind {
@@ -258,7 +261,7 @@ pub struct Taken {
     pub next: usize,
 }
 
-fn taken(fault: u32, next: usize) -> Taken
+fn done(fault: u32, next: usize) -> Taken
     ensures { λ r. ⌜ r ≡ takenBy fault next ⌝ }
 {
     Taken { fault, next }
@@ -289,11 +292,11 @@ fn plain(
             inner: s.inner,
         };
         if pass_one(m, next, then) {
-            return taken(0, next);
+            return done(0, next);
         }
-        return taken(9, next);
+        return done(9, next);
     }
-    taken(to.fault, next)
+    done(to.fault, next)
 }
 
 // The instruction of this kind at p, of the procedure with this head and these limits, of k procedures.
@@ -311,10 +314,10 @@ fn take(
     ensures { λ r. ⌜ Took (now (file .entry)) p (now (m .entry)) (now (m .exit)) r ⌝ }
 {
     match kind {
-        1..=6 => taken(jumps(file, m, head, limits, p, kind), p + 3),
-        73 => taken(leave(file, m, head, limits, p), p + 1),
-        160 => taken(open(file, m, head, limits, p, head + code::operand(file, p)), p + 3),
-        161 => taken(close(file, m, head, limits, p), p + 1),
+        1..=6 => done(jumps(file, m, head, limits, p, kind), p + 3),
+        73 => done(leave(file, m, head, limits, p), p + 1),
+        160 => done(open(file, m, head, limits, p, head + code::operand(file, p)), p + 3),
+        161 => done(close(file, m, head, limits, p), p + 1),
         _ => plain(file, table, m, k, head, limits, p, kind),
     }
 }

@@ -4,8 +4,12 @@ use native.Mathlib.Omega.{arith}
 use native.Mathlib.Nat.{eq-or-lt-of-le}
 use mathlib.Core.List.{List, [], _∷_, _++_, map}
 use mathlib.Core.Logic.{_⊎_, ⊎-elim}
+use mathlib.Core.Bool.{Bool, true, false}
 use mathlib.Core.Path.{_≡_, refl, subst}
-use Rattle.model.specs.File.{codes, bodies, unknown, bodyOf, raise, insOf}
+use lib.Dec.{eqb}
+use borrow.Author.Tests.{ne-eqb}
+use Rattle.model.specs.Choice.{if_then_else_}
+use Rattle.model.specs.File.{codes, bodies, unknown, bodyOf, Ins, basic, jump, branch, branchKeep, call, return, enter, exit, raise, insOf}
 use Rattle.code.specs.Kinds.{OneOf, NoneOf, every, ins-other, body-other}
 
 -- what holds at each of n numbers from a on
@@ -85,3 +89,42 @@ module _ (k : ℕ) (a : Aside k) (e : NoneOf elsewhere k) (b : (k < 20) ⊎ (23 
   pub body-raise : (bodyOf k ≡ unknown → ⊥) → bodyOf k ≡ 0
   unfolding bodies codes
   body-raise some = body-other others tt k none some
+
+-- every other code leads to the next instruction alone, or nowhere
+abbrev pub straight? : Ins → Bool
+straight? (basic b) = true
+straight? (jump q) = false
+straight? (branch t q) = false
+straight? (branchKeep t q) = false
+straight? (call n) = true
+straight? return = false
+straight? (enter s) = false
+straight? exit = false
+straight? raise = true
+
+straight-if : (t : Bool) (a b : Ins) → straight? (if t then a else b) ≡ (if t then straight? a else straight? b)
+straight-if true a b = refl
+straight-if false a b = refl
+
+if-same : (t b : Bool) → (if t then b else b) ≡ b
+if-same true b = refl
+if-same false b = refl
+
+pub straight : (k : ℕ) → Aside k → NoneOf elsewhere k → (f : List ℕ) (p : ℕ) → straight? (insOf f p k) ≡ true
+unfolding insOf
+straight k a e f p =
+    let no : (n : ℕ) → 1 ≤ n → n ≤ 6 → eqb k n ≡ false =
+    λ n l h. ne-eqb k n (λ z. ⊎-elim (λ t. omega arith) (λ t. omega arith) a) in
+    simp (
+      straight-if,
+      if-same,
+      no 1 (omega arith) (omega arith),
+      no 2 (omega arith) (omega arith),
+      no 3 (omega arith) (omega arith),
+      no 4 (omega arith) (omega arith),
+      no 5 (omega arith) (omega arith),
+      no 6 (omega arith) (omega arith),
+      ne-eqb k 161 (e .1),
+      ne-eqb k 160 (e .0 .1),
+      ne-eqb k 73 (e .0 .0 .1),
+    )

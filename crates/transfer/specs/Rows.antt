@@ -1,12 +1,12 @@
 -- What an instruction comes to that leads to the next one alone, or nowhere, by its shape: a refusal, or the place behind it and the depths
 -- there (`plainly`). A row of the code is such a shape.
-use Prim.Native.Nat.{ℕ, suc, _+_, _<_, _≤_}
+use Prim.Native.Nat.{ℕ, suc, _+_, _-_, _<_, _≤_}
 use mathlib.Core.Bool.{Bool, true, false}
 use mathlib.Core.List.{List}
 use mathlib.Core.Path.{_≡_}
 use native.Mathlib.Omega.{arith}
 use lib.Dec.{ltb}
-use borrow.Author.Tests.{lt-ltb, le-ltb}
+use borrow.Author.Tests.{lt-ltb, le-ltb, le-leb}
 use Rattle.model.specs.Choice.{if_then_else_}
 use Rattle.model.specs.File.{bodyOf, byteAt, after, insOf, insAt}
 use Rattle.model.specs.Checker.{State, effect, moved}
@@ -14,7 +14,7 @@ use Rattle.transfer.specs.declared.Row.{Row}
 use Rattle.transfer.specs.declared.Limits.{Limits}
 use Rattle.transfer.specs.declared.Onward.{Onward}
 use Rattle.transfer.specs.Shape.{Way, Shape, shape, shapeOf}
-use Rattle.transfer.specs.Tests.{goesBy, stacksOk, effectIn}
+use Rattle.transfer.specs.Tests.{goesBy, stackOk, stacksOk, effectIn}
 
 -- a state is known where the first number is below 65,534
 abbrev pub isSetIn : State → Bool
@@ -51,6 +51,22 @@ pub record Bounded (s o : State) (l : Limits) : Type 0 where
 
 abbrev pub Pushes : Row → Type 0
 Pushes r = (r .pushm < 256) × (r .pushp < 256)
+
+-- depths that stay as they are pass the tests
+pub still : (w : Way) (t : ℕ) (s o : State) (l : Limits) → Bounded s o l → s .main < 65534 →
+    stacksOk (shape w (effect 0 0 0 0) 0 0 t true) s o (l .x) (l .y) ≡ true
+unfolding stacksOk stackOk
+still w t s o l B a =
+    let m = B .main-within a in
+    let q = B .ptr-within a in
+    rw (
+      le-leb (o .main + 0) (s .main) (omega (arith, B .main-floor)),
+      le-leb (o .ptr + 0) (s .ptr) (omega (arith, B .ptr-floor)),
+      le-leb 0 (s .main - 0) (omega arith),
+      le-leb 0 (s .ptr - 0) (omega arith),
+      le-leb (s .main - 0 + 0) (l .x) (omega arith),
+      le-leb (s .ptr - 0 + 0) (l .y) (omega arith),
+    )
 
 -- the instruction of kind k at p, whose record has n bytes
 pub at-row : (f : List ℕ) (p k n : ℕ) (s o : State) (l : Limits) (sh : Shape) (r : Onward) → byteAt f p ≡ k → suc (bodyOf k) ≡ n →

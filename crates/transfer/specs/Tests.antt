@@ -152,7 +152,7 @@ unfoldable pub targetState : Shape → State → State
 targetState sh s =
     state (targetMain (sh .way) (s .main) (moved (effectIn sh) s .main) (s .main + 1)) (s .ptr) (s .inner)
 
-and-true : (t : Bool) → and t true ≡ t
+pub and-true : (t : Bool) → and t true ≡ t
 and-true true = refl
 and-true false = refl
 

@@ -1,0 +1,371 @@
+-- Taking an instruction by its shape: the model's tests on it in their order (`by-shape`), and for each way that an instruction can lead what
+-- is left of them. Depths that stay as they are need no test (`still`).
+use Prim.Native.Nat.{ℕ, suc, _+_, _-_, _*_, _<_, _≤_}
+use mathlib.Core.Bool.{Bool, true, false, true≢false, not, _&&_}
+use mathlib.Core.List.{List, [], _∷_, _++_}
+use mathlib.Core.Path.{_≡_, refl, ap, sym, _∙_}
+use native.Mathlib.Nat.{add-zero, sub-zero}
+use native.Mathlib.Omega.{arith}
+use lib.Dec.{ltb, leb, eqb}
+use lib.ListN.{length}
+use borrow.Author.Tests.{ltb-true}
+use Rattle.model.specs.Choice.{if_then_else_}
+use Rattle.model.specs.File.{Ins, basic, jump, branch, branchKeep, call, return, enter, exit, raise, byteAt, insAt, after, headOf, procAt, resultsMain, resultsPtr, mostMain, mostPtr}
+use Rattle.model.specs.Checker.{none, State, state, effect, moved, outer, own, Step, bad, next, need, andThen}
+use Rattle.transfer.specs.declared.State.{State as Numbers}
+use Rattle.transfer.specs.declared.Limits.{Limits}
+use Rattle.transfer.specs.declared.Onward.{Onward}
+use Rattle.transfer.specs.Shape.{Way, Next, Jump, Branch, Keep, Open, Close, Return, Raise, Shape, shape, shapeOf}
+use Rattle.transfer.specs.Site.{Site}
+use Rattle.transfer.specs.Tests.{asState, goesBy, jumpsBy, targetOk, stacksOk, depthOk, leaveOk, effectIn, nextState, targetState, Fits, stacks-fit, target-tests, next-tests, depth-tests, leave-tests, passes-are}
+use Rattle.transfer.specs.Rows.{row, rowShape, isSetIn, onwardBy, plainly, Bounded, still}
+use Rattle.transfer.specs.Kinds.{straight?}
+use Rattle.scan.specs.Marks.{stateIn}
+use Rattle.flow.specs.declared.Taken.{Taken}
+use Rattle.flow.specs.Own.{ownIn}
+use Rattle.flow.specs.Takes.{passOneIn, passAllIn, takeIn, takeInWith}
+use Rattle.flow.specs.Faults.{takeAns, passAns, StateIs, OuterIs, Held, Fitting, and-end}
+
+-- what is known of the instruction at p of the procedure between h and e
+pub record Here (f m : List ℕ) (h e p : ℕ) : Type 0 where
+  pub site : Site f p
+  pub head : h ≡ headOf f (procAt f p)
+  pub head-whole : h + 6 < length f
+  pub low : h < p
+  pub long : length m ≡ 3 * length f
+  pub owns : (q : ℕ) → ownIn m h e q ≡ own f p q
+  pub own-next : ownIn m h e (after f p) ≡ ltb (after f p) e
+  pub end-low : e ≤ length f
+  pub own-low : (q : ℕ) → own f p q ≡ true → q < length f
+  pub held : Held m (stateIn m p .inner)
+  pub main-floor : outer (stateIn m) (stateIn m p) .main ≤ stateIn m p .main
+  pub ptr-floor : outer (stateIn m) (stateIn m p) .ptr ≤ stateIn m p .ptr
+  pub within : stateIn m p .main < 65534 → (stateIn m p .main ≤ byteAt f (h + 5)) × (stateIn m p .ptr ≤ byteAt f (h + 6))
+  pub bytes : (i : ℕ) → byteAt f i < 256
+
+-- the limits are those of the procedure with head h
+abbrev pub Bounds : List ℕ → ℕ → Limits → Type 0
+Bounds f h l = (l .x ≡ byteAt f (h + 5)) × (l .y ≡ byteAt f (h + 6))
+
+-- an instruction that pops n main words and leads to t
+abbrev pub leads : Way → ℕ → ℕ → Shape
+leads w n t = shape w (effect n 0 0 0) 0 0 t true
+
+abbrev pub branchWay : Bool → Way
+branchWay k = if k then Keep else Branch
+
+-- the instruction at p has n bytes and this shape
+pub record Led (f m : List ℕ) (h p n : ℕ) (l : Limits) (sh : Shape) : Type 0 where
+  pub here : Here f m h (l .end) p
+  pub bounds : Bounds f h l
+  pub shape-is : shapeOf f p (insAt f p) ≡ sh
+  pub size : after f p ≡ p + n
+
+-- the kind of the instruction at p
+pub record Among (f m : List ℕ) (h p : ℕ) (l : Limits) (kind : ℕ) : Type 0 where
+  pub here : Here f m h (l .end) p
+  pub bounds : Bounds f h l
+  pub kind-is : byteAt f p ≡ kind
+
+abbrev pub takenBy : ℕ → ℕ → Taken
+takenBy n q = record { fault = n; next = q }
+
+-- what taking an instruction leaves
+pub record Took (f : List ℕ) (p : ℕ) (m m′ : List ℕ) (r : Taken) : Type 0 where
+  pub is : takeAns (r .fault) m′ ≡ takeIn f p m
+  pub on : r .fault ≡ 0 → r .next ≡ after f p
+
+-- tests with the numbers of their refusals, and what comes where all hold
+unfoldable pub judged : List (Bool × ℕ) → Step (List ℕ) → Step (List ℕ)
+judged [] k = k
+judged (t ∷ ts) k = need (t .0) (t .1) (judged ts k)
+
+pub record Judged (x : Step (List ℕ)) (ts : List (Bool × ℕ)) (k : Step (List ℕ)) : Type 0 where
+  pub is : x ≡ judged ts k
+
+-- a test that fails stops, one that holds goes on
+pub stops : {x k : Step (List ℕ)} {t : Bool} {n : ℕ} {ts : List (Bool × ℕ)} → Judged x ((t, n) ∷ ts) k → t ≡ false → bad n ≡ x
+unfolding judged
+stops w e = sym (w .is ∙ rw e)
+
+pub passes : {x k : Step (List ℕ)} {t : Bool} {n : ℕ} {ts : List (Bool × ℕ)} → Judged x ((t, n) ∷ ts) k → t ≡ true → Judged x ts k
+unfolding judged
+passes w e = record { is = w .is ∙ rw e }
+
+pub all-passed : {x k : Step (List ℕ)} → Judged x [] k → x ≡ k
+unfolding judged
+all-passed w = w .is
+
+module _ (f m : List ℕ) (h p : ℕ) (l : Limits) (H : Here f m h (l .end) p) (B : Bounds f h l) where
+  s : State
+  s = stateIn m p
+
+  o : State
+  o = outer (stateIn m) (stateIn m p)
+
+  pub bounded : Bounded (stateIn m p) (outer (stateIn m) (stateIn m p)) l
+  bounded =
+      record {
+        main-floor = H .main-floor;
+        ptr-floor = H .ptr-floor;
+        main-within = λ a. rw (B .0) (H .within a .0);
+        ptr-within = λ a. rw (B .1) (H .within a .1);
+        x-byte = rw (B .0) (H .bytes (h + 5));
+        y-byte = rw (B .1) (H .bytes (h + 6));
+      }
+
+  head-bytes : (mostMain f (procAt f p) ≡ l .x) × (mostPtr f (procAt f p) ≡ l .y)
+      × (resultsMain f (procAt f p) ≡ byteAt f (h + 3)) × (resultsPtr f (procAt f p) ≡ byteAt f (h + 4))
+  unfolding mostMain mostPtr resultsMain resultsPtr
+  head-bytes =
+      let z = sym (H .head) in (
+        ap (λ (n : ℕ). byteAt f (n + 5)) z ∙ sym (B .0),
+        ap (λ (n : ℕ). byteAt f (n + 6)) z ∙ sym (B .1),
+        ap (λ (n : ℕ). byteAt f (n + 3)) z,
+        ap (λ (n : ℕ). byteAt f (n + 4)) z,
+      )
+
+  -- what a shape passes on
+  abbrev shapePasses : Shape → List (ℕ × State)
+  shapePasses sh =
+      (if goesBy (sh .way) then (after f p, nextState sh p (stateIn m p) (outer (stateIn m) (stateIn m p))) ∷ [] else [])
+      ++ (if jumpsBy (sh .way) then (sh .target, targetState sh (stateIn m p)) ∷ [] else [])
+
+  by-shape : (sh : Shape) → shapeOf f p (insAt f p) ≡ sh →
+      takeIn f p m
+      ≡ need (targetOk (sh .way) (sh .known) (ownIn m h (l .end) (sh .target)) (sh .target) p) 5
+      (need (isSetIn (stateIn m p) && (if goesBy (sh .way) then ltb (after f p) (l .end) else true)) 6
+      (need (depthOk sh (stateIn m p) (outer (stateIn m) (stateIn m p)) (l .x) (l .y)) 7
+      (need (leaveOk (sh .way) (stateIn m p) (byteAt f (h + 3)) (byteAt f (h + 4))) 8 (passAllIn (shapePasses sh) m))))
+  unfolding takeIn takeInWith
+  by-shape sh e =
+      let i = insAt f p in
+      let b = head-bytes in
+      rw (
+        target-tests f p i,
+        next-tests f p i,
+        depth-tests f p i (stateIn m p) (outer (stateIn m) (stateIn m p)) (H .main-floor) (H .ptr-floor),
+        leave-tests f p i (stateIn m p),
+        passes-are f p i (stateIn m p) (outer (stateIn m) (stateIn m p)),
+        b .0,
+        b .1,
+        b .2,
+        b .3,
+        e,
+        ← H .owns (sh .target),
+        ← H .owns (after f p),
+        H .own-next,
+      )
+
+  -- where a state is known, depths that stay pass
+  stays : (w : Way) (t : ℕ) → isSetIn (stateIn m p) ≡ true →
+      stacksOk (leads w 0 t) (stateIn m p) (outer (stateIn m) (stateIn m p)) (l .x) (l .y) ≡ true
+  stays w t z = still w t (stateIn m p) (outer (stateIn m) (stateIn m p)) l bounded (ltb-true (stateIn m p .main) 65534 z)
+
+  -- 1 and 3
+  pub takes-jump : (t : ℕ) → shapeOf f p (insAt f p) ≡ leads Jump 0 t →
+      Judged (takeIn f p m) ((ownIn m h (l .end) t, 5) ∷ (isSetIn (stateIn m p), 6) ∷ []) (passOneIn m t (stateIn m p))
+  unfolding targetOk leaveOk targetState judged
+  takes-jump t e =
+      record {
+        is = by-shape (leads Jump 0 t) e
+            ∙ rw (and-end (passOneIn m t (stateIn m p))) (go (ownIn m h (l .end) t) (isSetIn (stateIn m p)) _ _ (stays Jump t));
+      }
+    where
+      go : (a u d : Bool) (k : Step (List ℕ)) → (u ≡ true → d ≡ true) →
+          need (if a then true else false) 5 (need (u && true) 6 (need (if d then true else false) 7 k)) ≡ need a 5 (need u 6 k)
+      go true true d k z = rw (z refl)
+      go true false d k z = refl
+      go false u d k z = refl
+
+  -- 2, 4, 5 and 6
+  abbrev popped : State
+  popped = state (stateIn m p .main - 1) (stateIn m p .ptr) (stateIn m p .inner)
+
+  pub takes-branch : (keep : Bool) (t : ℕ) → shapeOf f p (insAt f p) ≡ leads (branchWay keep) 1 t →
+      Judged (takeIn f p m)
+      ((ownIn m h (l .end) t, 5)
+      ∷ (isSetIn (stateIn m p), 6)
+      ∷ (ltb (after f p) (l .end), 6)
+      ∷ (stacksOk (rowShape Next (row 1 0 0 0 0 0)) (stateIn m p) (outer (stateIn m) (stateIn m p)) (l .x) (l .y), 7)
+      ∷ [])
+      (passAllIn ((after f p, popped) ∷ (t, (if keep then stateIn m p else popped)) ∷ []) m)
+  unfolding targetOk leaveOk nextState targetState stacksOk judged
+  takes-branch keep t e = way keep e
+    where
+      go : (a u n d : Bool) (k : Step (List ℕ)) →
+          need (if a then true else false) 5 (need (u && n) 6 (need (if d then true else false) 7 k)) ≡ need a 5 (need u 6 (need n 6 (need d 7 k)))
+      go true true true true k = refl
+      go true true true false k = refl
+      go true true false d k = refl
+      go true false n d k = refl
+      go false u n d k = refl
+
+      depths : Way → Bool
+      depths w = stacksOk (leads w 1 t) (stateIn m p) (outer (stateIn m) (stateIn m p)) (l .x) (l .y)
+
+      ends : State → Step (List ℕ)
+      ends u = passAllIn ((after f p, popped) ∷ (t, u) ∷ []) m
+
+      way : (keep : Bool) → shapeOf f p (insAt f p) ≡ leads (branchWay keep) 1 t →
+          Judged (takeIn f p m)
+          ((ownIn m h (l .end) t, 5)
+          ∷ (isSetIn (stateIn m p), 6)
+          ∷ (ltb (after f p) (l .end), 6)
+          ∷ (stacksOk (rowShape Next (row 1 0 0 0 0 0)) (stateIn m p) (outer (stateIn m) (stateIn m p)) (l .x) (l .y), 7)
+          ∷ [])
+          (passAllIn ((after f p, popped) ∷ (t, (if keep then stateIn m p else popped)) ∷ []) m)
+      way true e =
+          record {
+            is = by-shape (leads Keep 1 t) e
+                ∙ rw (sub-zero (stateIn m p .ptr), add-zero (stateIn m p .ptr), add-zero (stateIn m p .main - 1))
+                (go (ownIn m h (l .end) t) (isSetIn (stateIn m p)) (ltb (after f p) (l .end)) (depths Keep) (ends (stateIn m p)));
+          }
+      way false e =
+          record {
+            is = by-shape (leads Branch 1 t) e
+                ∙ rw (sub-zero (stateIn m p .ptr), add-zero (stateIn m p .ptr), add-zero (stateIn m p .main - 1))
+                (go (ownIn m h (l .end) t) (isSetIn (stateIn m p)) (ltb (after f p) (l .end)) (depths Branch) (ends popped));
+          }
+
+  -- 160
+  pub takes-open : (t : ℕ) → shapeOf f p (insAt f p) ≡ leads Open 0 t →
+      Judged (takeIn f p m)
+      ((ownIn m h (l .end) t, 5)
+      ∷ (leb (suc p) t, 5)
+      ∷ (isSetIn (stateIn m p), 6)
+      ∷ (ltb (after f p) (l .end), 6)
+      ∷ (leb (suc (stateIn m p .main)) (l .x), 7)
+      ∷ [])
+      (passAllIn
+      ((after f p, state (stateIn m p .main) (stateIn m p .ptr) p)
+      ∷ (t, state (stateIn m p .main + 1) (stateIn m p .ptr) (stateIn m p .inner))
+      ∷ [])
+      m)
+  unfolding targetOk leaveOk nextState targetState judged
+  takes-open t e =
+      record {
+        is = by-shape (leads Open 0 t) e
+            ∙ rw (sub-zero (stateIn m p .ptr), add-zero (stateIn m p .ptr), sub-zero (stateIn m p .main), add-zero (stateIn m p .main))
+            (go (ownIn m h (l .end) t) (leb (suc p) t) (isSetIn (stateIn m p)) _ _ _ _ (stays Open t));
+      }
+    where
+      go : (a b u n d x : Bool) (k : Step (List ℕ)) → (u ≡ true → d ≡ true) →
+          need (if a then b else false) 5 (need (u && n) 6 (need (if d then x else false) 7 k))
+          ≡ need a 5 (need b 5 (need u 6 (need n 6 (need x 7 k))))
+      go true true true n d x k z = rw (z refl)
+      go true true false n d x k z = refl
+      go true false u n d x k z = refl
+      go false b u n d x k z = refl
+
+  -- 161
+  pub takes-close : shapeOf f p (insAt f p) ≡ leads Close 0 0 →
+      Judged (takeIn f p m)
+      ((isSetIn (stateIn m p), 6) ∷ (ltb (after f p) (l .end), 6) ∷ (not (eqb (stateIn m p .inner) none), 8) ∷ [])
+      (passOneIn m (after f p) (state (stateIn m p .main) (stateIn m p .ptr) (outer (stateIn m) (stateIn m p) .inner)))
+  unfolding targetOk leaveOk nextState judged
+  takes-close e =
+      record {
+        is = by-shape (leads Close 0 0) e
+            ∙ rw (
+              sub-zero (stateIn m p .ptr),
+              add-zero (stateIn m p .ptr),
+              sub-zero (stateIn m p .main),
+              add-zero (stateIn m p .main),
+              and-end (passOneIn m (after f p) (state (stateIn m p .main) (stateIn m p .ptr) (outer (stateIn m) (stateIn m p) .inner))),
+            )
+            (go (isSetIn (stateIn m p)) _ _ _ (stays Close 0));
+      }
+    where
+      go : (u n d : Bool) (k : Step (List ℕ)) → (u ≡ true → d ≡ true) →
+          need (u && n) 6 (need (if d then true else false) 7 k) ≡ need u 6 (need n 6 k)
+      go true n d k z = rw (z refl)
+      go false n d k z = refl
+
+  -- 73
+  pub takes-return : shapeOf f p (insAt f p) ≡ leads Return 0 0 →
+      Judged (takeIn f p m)
+      ((isSetIn (stateIn m p), 6)
+      ∷ (eqb (stateIn m p .main) (byteAt f (h + 3)), 8)
+      ∷ (eqb (stateIn m p .ptr) (byteAt f (h + 4)), 8)
+      ∷ (eqb (stateIn m p .inner) none, 8)
+      ∷ [])
+      (next m)
+  unfolding targetOk leaveOk judged
+  takes-return e =
+      record {
+        is = by-shape (leads Return 0 0) e
+            ∙ go (isSetIn (stateIn m p)) _ (eqb (stateIn m p .main) (byteAt f (h + 3))) (eqb (stateIn m p .ptr) (byteAt f (h + 4))) _ _ (stays Return 0);
+      }
+    where
+      go : (u d a b c : Bool) (k : Step (List ℕ)) → (u ≡ true → d ≡ true) →
+          need (u && true) 6 (need (if d then true else false) 7 (need (if a then (if b then c else false) else false) 8 k))
+          ≡ need u 6 (need a 8 (need b 8 (need c 8 k)))
+      go true d true true c k z = rw (z refl)
+      go true d true false c k z = rw (z refl)
+      go true d false b c k z = rw (z refl)
+      go false d a b c k z = refl
+
+  -- the others, by what they come to
+  pub record Onwards (r : Onward) : Type 0 where
+    pub stop : r .goes ≡ false → (takeAns (r .fault) m ≡ takeIn f p m) × (r .fault ≡ 0 → r .next ≡ after f p)
+    pub pass : r .goes ≡ true →
+        (r .next ≡ after f p) × (takeIn f p m ≡ passOneIn m (after f p) (state (r .main) (r .ptr) (stateIn m p .inner)))
+        × (r .next < l .end) × (r .main ≤ l .x) × (r .ptr ≤ l .y)
+
+  pub takes-plain : straight? (insAt f p) ≡ true →
+      Onwards (plainly (stateIn m p) (outer (stateIn m) (stateIn m p)) l (after f p) (shapeOf f p (insAt f p)))
+  unfolding plainly targetOk leaveOk shapeOf nextState
+  takes-plain e = go (insAt f p) refl e
+    where
+      -- by the four tests
+      out : (known set on d g : Bool) (r : Onward) (k : Step (List ℕ)) →
+          takeIn f p m ≡ need known 5 (need (set && on) 6 (need (if d then true else false) 7 k)) → r .fault ≡ 0 → r .next ≡ after f p → r .goes ≡ g →
+          (d ≡ true → on ≡ true → g ≡ true →
+          (k ≡ passOneIn m (after f p) (state (r .main) (r .ptr) (stateIn m p .inner))) × (after f p < l .end) × (r .main ≤ l .x) × (r .ptr ≤ l .y)) →
+          (g ≡ false → k ≡ next m) → Onwards (onwardBy known set on d r)
+      out false set on d g r k w z q gg h n = record { stop = λ i. (sym w, λ y. absurd (omega arith)); pass = λ i. absurd (true≢false (sym i)) }
+      out true false on d g r k w z q gg h n = record { stop = λ i. (sym w, λ y. absurd (omega arith)); pass = λ i. absurd (true≢false (sym i)) }
+      out true true false d g r k w z q gg h n = record { stop = λ i. (sym w, λ y. absurd (omega arith)); pass = λ i. absurd (true≢false (sym i)) }
+      out true true true false g r k w z q gg h n = record { stop = λ i. (sym w, λ y. absurd (omega arith)); pass = λ i. absurd (true≢false (sym i)) }
+      out true true true true g r k w z q gg h n =
+          record {
+            stop = λ i. (rw z (sym (w ∙ n (sym gg ∙ i))), λ y. q);
+            pass = λ i. let v = h refl refl (sym gg ∙ i) in (q, w ∙ v .0, rw q (v .1), v .2, v .3);
+          }
+
+      fits : (sh : Shape) → stacksOk sh (stateIn m p) (outer (stateIn m) (stateIn m p)) (l .x) (l .y) ≡ true → Fits sh (stateIn m p) (l .x) (l .y)
+      fits sh d = stacks-fit sh (stateIn m p) (outer (stateIn m) (stateIn m p)) (l .x) (l .y) d
+
+      result : Shape → Onward
+      result sh =
+          record { fault = 0; goes = goesBy (sh .way); next = after f p; main = moved (effectIn sh) (stateIn m p) .main; ptr = moved (effectIn sh) (stateIn m p) .ptr }
+
+      ends : Shape → Step (List ℕ)
+      ends sh = passAllIn ((after f p, nextState sh p (stateIn m p) (outer (stateIn m) (stateIn m p))) ∷ []) m
+
+      deep : Shape → Bool
+      deep sh = stacksOk sh (stateIn m p) (outer (stateIn m) (stateIn m p)) (l .x) (l .y)
+
+      go : (i : Ins) → insAt f p ≡ i → straight? i ≡ true → Onwards (plainly (stateIn m p) (outer (stateIn m) (stateIn m p)) l (after f p) (shapeOf f p i))
+      go (basic b) z y =
+          let sh = shapeOf f p (basic b) in
+          out true (isSetIn (stateIn m p)) (ltb (after f p) (l .end)) (deep sh) true (result sh) (ends sh) (by-shape sh (ap (shapeOf f p) z)) refl refl refl
+          (λ d on g. let w = fits sh d in (and-end _, ltb-true (after f p) (l .end) on, w .main-within, w .ptr-within))
+          (λ g. absurd (true≢false g))
+      go (call n) z y =
+          let sh = shapeOf f p (call n) in
+          out (sh .known) (isSetIn (stateIn m p)) (ltb (after f p) (l .end)) (deep sh) true (result sh) (ends sh) (by-shape sh (ap (shapeOf f p) z)) refl refl refl
+          (λ d on g. let w = fits sh d in (and-end _, ltb-true (after f p) (l .end) on, w .main-within, w .ptr-within))
+          (λ g. absurd (true≢false g))
+      go raise z y =
+          let sh = shapeOf f p raise in
+          out true (isSetIn (stateIn m p)) true (deep sh) false (result sh) (next m) (by-shape sh (ap (shapeOf f p) z)) refl refl refl
+          (λ d on g. absurd (true≢false (sym g)))
+          (λ g. refl)
+      go (jump q) z y = absurd (true≢false (sym y))
+      go (branch t q) z y = absurd (true≢false (sym y))
+      go (branchKeep t q) z y = absurd (true≢false (sym y))
+      go return z y = absurd (true≢false (sym y))
+      go (enter n) z y = absurd (true≢false (sym y))
+      go exit z y = absurd (true≢false (sym y))
