@@ -135,6 +135,9 @@ module _ (f m₀ table : List ℕ) (k : ℕ) (B : Begun f m₀ table k) where
           let first : headOf f 0 + 6 < length f = room (headOf f 0) (unfold headOf procs in getD-in (heads f) 0 0 z) in
           rw (past n (omega arith)) (let q = head-zero in omega arith)
 
+  pub first-whole : 0 + 6 < length f
+  first-whole = let w = begun-table .whole 0 in let z = head-zero in omega arith
+
   module _ (m : List ℕ) (p c h e : ℕ) (F : Flowing f m table k p c h e) (below : p < length f) where
     next-is : (whole? f p ≡ true) × ((qs : List ℕ) × (restOf f (after f p) ≡ starts qs) × (F .rest ≡ p ∷ qs))
     next-is = rest-inv f p (F .rest) below (F .rest-is)

@@ -10,21 +10,24 @@ use lib.Dec.{ltb, leb, eqb}
 use lib.ListN.{length}
 use borrow.Author.Tests.{ltb-true}
 use Rattle.model.specs.Choice.{if_then_else_}
-use Rattle.model.specs.File.{Ins, basic, jump, branch, branchKeep, call, return, enter, exit, raise, byteAt, insAt, after, headOf, procAt, resultsMain, resultsPtr, mostMain, mostPtr}
+use Rattle.model.specs.File.{Ins, basic, jump, branch, branchKeep, call, return, enter, exit, raise, bodyOf, byteAt, insOf, insAt, after, headOf, procAt, resultsMain, resultsPtr, mostMain, mostPtr}
 use Rattle.model.specs.Checker.{none, State, state, effect, moved, outer, own, Step, bad, next, need, andThen}
+use Rattle.code.specs.Kinds.{NoneOf}
 use Rattle.transfer.specs.declared.State.{State as Numbers}
 use Rattle.transfer.specs.declared.Limits.{Limits}
 use Rattle.transfer.specs.declared.Onward.{Onward}
 use Rattle.transfer.specs.Shape.{Way, Next, Jump, Branch, Keep, Open, Close, Return, Raise, Shape, shape, shapeOf}
+use Rattle.transfer.specs.Site as site
 use Rattle.transfer.specs.Site.{Site}
 use Rattle.transfer.specs.Tests.{asState, goesBy, jumpsBy, targetOk, stacksOk, depthOk, leaveOk, effectIn, nextState, targetState, Fits, stacks-fit, target-tests, next-tests, depth-tests, leave-tests, passes-are}
 use Rattle.transfer.specs.Rows.{row, rowShape, isSetIn, onwardBy, plainly, Bounded, still}
-use Rattle.transfer.specs.Kinds.{straight?}
+use Rattle.transfer.specs.Kinds.{Aside, elsewhere, straight?, straight}
+use Rattle.exact.specs.Walk.{after-above}
 use Rattle.scan.specs.Marks.{stateIn}
 use Rattle.flow.specs.declared.Taken.{Taken}
 use Rattle.flow.specs.Own.{ownIn}
 use Rattle.flow.specs.Takes.{passOneIn, passAllIn, takeIn, takeInWith}
-use Rattle.flow.specs.Faults.{takeAns, passAns, StateIs, OuterIs, Held, Fitting, and-end}
+use Rattle.flow.specs.Faults.{takeAns, passAns, StateIs, OuterIs, Held, held-as, and-end}
 
 -- what is known of the instruction at p of the procedure between h and e
 pub record Here (f m : List ℕ) (h e p : ℕ) : Type 0 where
@@ -95,6 +98,13 @@ passes w e = record { is = w .is ∙ rw e }
 pub all-passed : {x k : Step (List ℕ)} → Judged x [] k → x ≡ k
 unfolding judged
 all-passed w = w .is
+
+-- what comes of an instruction that leads to the next one alone, or nowhere
+pub record Onwards (f m : List ℕ) (p : ℕ) (l : Limits) (r : Onward) : Type 0 where
+  pub stop : r .goes ≡ false → (takeAns (r .fault) m ≡ takeIn f p m) × (r .fault ≡ 0 → r .next ≡ after f p)
+  pub pass : r .goes ≡ true →
+      (r .next ≡ after f p) × (takeIn f p m ≡ passOneIn m (after f p) (state (r .main) (r .ptr) (stateIn m p .inner)))
+      × (r .next < l .end) × (r .main ≤ l .x) × (r .ptr ≤ l .y)
 
 module _ (f m : List ℕ) (h p : ℕ) (l : Limits) (H : Here f m h (l .end) p) (B : Bounds f h l) where
   s : State
@@ -306,15 +316,9 @@ module _ (f m : List ℕ) (h p : ℕ) (l : Limits) (H : Here f m h (l .end) p) (
       go true d false b c k z = rw (z refl)
       go false d a b c k z = refl
 
-  -- the others, by what they come to
-  pub record Onwards (r : Onward) : Type 0 where
-    pub stop : r .goes ≡ false → (takeAns (r .fault) m ≡ takeIn f p m) × (r .fault ≡ 0 → r .next ≡ after f p)
-    pub pass : r .goes ≡ true →
-        (r .next ≡ after f p) × (takeIn f p m ≡ passOneIn m (after f p) (state (r .main) (r .ptr) (stateIn m p .inner)))
-        × (r .next < l .end) × (r .main ≤ l .x) × (r .ptr ≤ l .y)
-
+  -- the others
   pub takes-plain : straight? (insAt f p) ≡ true →
-      Onwards (plainly (stateIn m p) (outer (stateIn m) (stateIn m p)) l (after f p) (shapeOf f p (insAt f p)))
+      Onwards f m p l (plainly (stateIn m p) (outer (stateIn m) (stateIn m p)) l (after f p) (shapeOf f p (insAt f p)))
   unfolding plainly targetOk leaveOk shapeOf nextState
   takes-plain e = go (insAt f p) refl e
     where
@@ -323,7 +327,7 @@ module _ (f m : List ℕ) (h p : ℕ) (l : Limits) (H : Here f m h (l .end) p) (
           takeIn f p m ≡ need known 5 (need (set && on) 6 (need (if d then true else false) 7 k)) → r .fault ≡ 0 → r .next ≡ after f p → r .goes ≡ g →
           (d ≡ true → on ≡ true → g ≡ true →
           (k ≡ passOneIn m (after f p) (state (r .main) (r .ptr) (stateIn m p .inner))) × (after f p < l .end) × (r .main ≤ l .x) × (r .ptr ≤ l .y)) →
-          (g ≡ false → k ≡ next m) → Onwards (onwardBy known set on d r)
+          (g ≡ false → k ≡ next m) → Onwards f m p l (onwardBy known set on d r)
       out false set on d g r k w z q gg h n = record { stop = λ i. (sym w, λ y. absurd (omega arith)); pass = λ i. absurd (true≢false (sym i)) }
       out true false on d g r k w z q gg h n = record { stop = λ i. (sym w, λ y. absurd (omega arith)); pass = λ i. absurd (true≢false (sym i)) }
       out true true false d g r k w z q gg h n = record { stop = λ i. (sym w, λ y. absurd (omega arith)); pass = λ i. absurd (true≢false (sym i)) }
@@ -347,7 +351,7 @@ module _ (f m : List ℕ) (h p : ℕ) (l : Limits) (H : Here f m h (l .end) p) (
       deep : Shape → Bool
       deep sh = stacksOk sh (stateIn m p) (outer (stateIn m) (stateIn m p)) (l .x) (l .y)
 
-      go : (i : Ins) → insAt f p ≡ i → straight? i ≡ true → Onwards (plainly (stateIn m p) (outer (stateIn m) (stateIn m p)) l (after f p) (shapeOf f p i))
+      go : (i : Ins) → insAt f p ≡ i → straight? i ≡ true → Onwards f m p l (plainly (stateIn m p) (outer (stateIn m) (stateIn m p)) l (after f p) (shapeOf f p i))
       go (basic b) z y =
           let sh = shapeOf f p (basic b) in
           out true (isSetIn (stateIn m p)) (ltb (after f p) (l .end)) (deep sh) true (result sh) (ends sh) (by-shape sh (ap (shapeOf f p) z)) refl refl refl
@@ -369,3 +373,121 @@ module _ (f m : List ℕ) (h p : ℕ) (l : Limits) (H : Here f m h (l .end) p) (
       go return z y = absurd (true≢false (sym y))
       go (enter n) z y = absurd (true≢false (sym y))
       go exit z y = absurd (true≢false (sym y))
+
+-- the places that are read and written lie in the part
+module _ {f m : List ℕ} {h e p : ℕ} (H : Here f m h e p) where
+  pub own-place : (q : ℕ) → ownIn m h e q ≡ true → (3 * q + 2 < length m) × (q < 4096)
+  own-place q w =
+      let a = H .own-low q (sym (H .owns q) ∙ w) in
+      let b = H .long in
+      let c = H .site .small in
+      (omega arith, omega arith)
+
+  pub next-place : (q : ℕ) → q < e → (3 * q + 2 < length m) × (q < 4096)
+  next-place q w =
+      let a = H .end-low in
+      let b = H .long in
+      let c = H .site .small in
+      (omega arith, omega arith)
+
+  pub here-place : (3 * p + 2 < length m) × (p < 4096)
+  here-place =
+      let a = site.low f p (H .site) in
+      let d = H .site .inside in
+      let b = H .long in
+      let u = after-above f p in
+      (omega arith, a)
+
+  pub ends-low : (3 * e ≤ length m) × (e ≤ 4096)
+  ends-low =
+      let a = H .end-low in
+      let b = H .long in
+      let c = H .site .small in
+      (omega arith, omega arith)
+
+-- what the functions have in hand: the state s as read, o at the innermost open 160, and the place p + n behind the instruction
+module _ {f m : List ℕ} {h p : ℕ} {l : Limits} (H : Here f m h (l .end) p) (B : Bounds f h l) {s : Numbers} (S : StateIs m p s) where
+  pub held-here : Held m (s .inner)
+  held-here = held-as m p s S (H .held)
+
+  pub bounded-here : {o : Numbers} → OuterIs m (asState s) o → Bounded (asState s) (asState o) l
+  bounded-here O = rw (O .is, S .is) (bounded f m h p l H B)
+
+pub led : {f m : List ℕ} {h p kind : ℕ} {l : Limits} → Among f m h p l kind → (k n : ℕ) (sh : Shape) → kind ≡ k → suc (bodyOf k) ≡ n →
+    shapeOf f p (insOf f p k) ≡ sh → Led f m h p n l sh
+unfolding insAt after
+led {f} {m} {h} {p} A k n sh e b i =
+    record {
+      here = A .here;
+      bounds = A .bounds;
+      shape-is = rw (A .kind-is, e) i;
+      size = rw (A .kind-is, e) (omega (arith, b));
+    }
+
+module _ {f m : List ℕ} {h p : ℕ} {l : Limits} {s : Numbers} where
+  pub on-jump : {t : ℕ} → Led f m h p 3 l (leads Jump 0 t) → StateIs m p s →
+      Judged (takeIn f p m) ((ownIn m h (l .end) t, 5) ∷ (isSetIn (asState s), 6) ∷ []) (passOneIn m t (asState s))
+  on-jump L S = rw (← S .is) at (takes-jump f m h p l (L .here) (L .bounds) _ (L .shape-is))
+
+  pub on-branch : (keep : Bool) (t : ℕ) → Led f m h p 3 l (leads (branchWay keep) 1 t) → StateIs m p s →
+      Judged (takeIn f p m)
+      ((ownIn m h (l .end) t, 5)
+      ∷ (isSetIn (asState s), 6)
+      ∷ (ltb (p + 3) (l .end), 6)
+      ∷ (stacksOk (rowShape Next (row 1 0 0 0 0 0)) (asState s) (outer (stateIn m) (asState s)) (l .x) (l .y), 7)
+      ∷ [])
+      (passAllIn
+      ((p + 3, state (s .main - 1) (s .ptr) (s .inner))
+      ∷ (t, (if keep then asState s else state (s .main - 1) (s .ptr) (s .inner)))
+      ∷ [])
+      m)
+  on-branch keep t L S = rw (← S .is, L .size) at (takes-branch f m h p l (L .here) (L .bounds) keep t (L .shape-is))
+
+  pub on-open : {t : ℕ} → Led f m h p 3 l (leads Open 0 t) → StateIs m p s →
+      Judged (takeIn f p m)
+      ((ownIn m h (l .end) t, 5)
+      ∷ (leb (suc p) t, 5)
+      ∷ (isSetIn (asState s), 6)
+      ∷ (ltb (p + 3) (l .end), 6)
+      ∷ (leb (suc (s .main)) (l .x), 7)
+      ∷ [])
+      (passAllIn ((p + 3, state (s .main) (s .ptr) p) ∷ (t, state (s .main + 1) (s .ptr) (s .inner)) ∷ []) m)
+  on-open L S = rw (← S .is, L .size) at (takes-open f m h p l (L .here) (L .bounds) _ (L .shape-is))
+
+  pub on-close : Led f m h p 1 l (leads Close 0 0) → StateIs m p s →
+      Judged (takeIn f p m) ((isSetIn (asState s), 6) ∷ (ltb (p + 1) (l .end), 6) ∷ (not (eqb (s .inner) none), 8) ∷ [])
+      (passOneIn m (p + 1) (state (s .main) (s .ptr) (outer (stateIn m) (asState s) .inner)))
+  on-close L S = rw (← S .is, L .size) at (takes-close f m h p l (L .here) (L .bounds) (L .shape-is))
+
+  pub on-return : Led f m h p 1 l (leads Return 0 0) → StateIs m p s →
+      Judged (takeIn f p m)
+      ((isSetIn (asState s), 6) ∷ (eqb (s .main) (byteAt f (h + 3)), 8) ∷ (eqb (s .ptr) (byteAt f (h + 4)), 8) ∷ (eqb (s .inner) none, 8) ∷ [])
+      (next m)
+  on-return L S = rw (← S .is) at (takes-return f m h p l (L .here) (L .bounds) (L .shape-is))
+
+-- taking an instruction of kind k, whose record has n bytes, where nothing but the fault is left open
+pub took : {f m m′ : List ℕ} {h p kind r : ℕ} {l : Limits} → Among f m h p l kind → (k n : ℕ) → kind ≡ k → suc (bodyOf k) ≡ n →
+    takeAns r m′ ≡ takeIn f p m → Took f p m m′ (takenBy r (p + n))
+unfolding after
+took A k n e b w = record { is = w; on = λ z. rw (A .kind-is, e) (omega (arith, b)) }
+
+-- and one that leads to the next alone, or nowhere
+pub onwards : {f m : List ℕ} {h p kind : ℕ} {l : Limits} {s o : Numbers} {r : Onward} → Among f m h p l kind → Aside kind → NoneOf elsewhere kind →
+    StateIs m p s → OuterIs m (asState s) o → r ≡ plainly (asState s) (asState o) l (after f p) (shapeOf f p (insAt f p)) → Onwards f m p l r
+unfolding insAt
+onwards {f} {m} {h} {p} {kind} {l} A a e S O w =
+    rw (w, O .is, S .is) (takes-plain f m h p l (A .here) (A .bounds) (rw (A .kind-is) (straight kind a e f p)))
+
+module _ {f m : List ℕ} {p : ℕ} {l : Limits} {r : Onward} (W : Onwards f m p l r) where
+  module _ {s : Numbers} (S : StateIs m p s) (g : r .goes ≡ true) where
+    here-inner : s .inner ≡ stateIn m p .inner
+    here-inner = ap (λ (u : State). u .inner) (S .is)
+
+    pub plain-passed : {m′ : List ℕ} → passAns true m′ ≡ passOneIn m (r .next) (state (r .main) (r .ptr) (s .inner)) → Took f p m m′ (takenBy 0 (r .next))
+    plain-passed e = let w = W .pass g in record { is = (rw (w .0, here-inner) at e) ∙ sym (w .1); on = λ z. w .0 }
+
+    pub plain-refused : {m′ : List ℕ} → passAns false m′ ≡ passOneIn m (r .next) (state (r .main) (r .ptr) (s .inner)) → Took f p m m′ (takenBy 9 (r .next))
+    plain-refused e = let w = W .pass g in record { is = (rw (w .0, here-inner) at e) ∙ sym (w .1); on = λ z. w .0 }
+
+  pub plain-stopped : r .goes ≡ false → Took f p m m (takenBy (r .fault) (r .next))
+  plain-stopped g = let w = W .stop g in record { is = w .0; on = w .1 }
