@@ -12,6 +12,9 @@ use model::Regs;
 // A heap of so many words at most is short.
 const FEW: usize = 2048;
 
+// No heap has more words.
+const MOST: usize = 16384;
+
 // Refusal 10: the lent lengths, with the head of procedure 0.
 fn lengths_right(head: Head, main: usize, ptr: usize, ctl: usize, heap: usize) -> bool
     ensures { λ r. ⌜ r ≡ all (lengthList head main ptr ctl heap) ⌝ }
@@ -92,7 +95,7 @@ fn admit_with(
     }
 }
 
-// The same with marks of its own: a short heap is given a short table, for clearing the long one takes longer than the tests of a short heap.
+// The same with marks of its own. A short heap is given a short table: to clear the long one takes longer than to test a short heap.
 pub fn admit(
     file: &[u8],
     map: &mut [u16],
@@ -118,7 +121,7 @@ pub fn admit(
         let mut few = [false; FEW];
         return admit_with(file, map, table, &mut few, main, ptr, ctl, heap, bytes);
     }
-    let mut marks = [false; 16384];
+    let mut marks = [false; MOST];
     admit_with(file, map, table, &mut marks, main, ptr, ctl, heap, bytes)
 }
 
@@ -190,6 +193,6 @@ pub fn test_for_run(
         let mut few = [false; FEW];
         return test_with(file, map, table, &mut few, main, ptr, ctl, heap, bytes);
     }
-    let mut marks = [false; 16384];
+    let mut marks = [false; MOST];
     test_with(file, map, table, &mut marks, main, ptr, ctl, heap, bytes)
 }
