@@ -5,7 +5,7 @@ ghost use lib.ListN.{length, replicate, set};
 ghost use Rattle.model.specs.File as model;
 ghost use Rattle.model.specs.Checker.{state};
 ghost use Rattle.scan.specs.Marks.{putIn};
-ghost use Rattle.scan.specs.Scanning.{Scanned, markOf};
+ghost use Rattle.scan.specs.Scanning.{Scanned, listIn, lastIn};
 ghost use Rattle.scan.specs.Heading.{headOk, numberOk, startsAt, Marked, Headed};
 use code::Head;
 
@@ -20,8 +20,8 @@ const UNKNOWN: usize = 255;
 
 // What the records of a file come to.
 pub enum Found {
-    Broken(usize),
-    Whole,
+    Broken(usize), // the place of the first that is at fault
+    Whole(usize, usize), // the number of heads, and the place of the 65th
 }
 
 // Every number is 65,535.
@@ -35,21 +35,36 @@ pub fn fill(m: &mut [u16])
     }
 }
 
-// Marks that an instruction starts at p; a head is left.
-fn mark(m: &mut [u16], p: usize, kind: u8)
+// Marks that an instruction starts at p.
+fn mark(m: &mut [u16], p: usize)
     requires { ⌜ (3 * p < length (now m)) × (p < 4096) ⌝ }
-    ensures { λ _. ⌜ now (m .exit) ≡ markOf kind (now (m .entry)) p ⌝ }
+    ensures { λ _. ⌜ now (m .exit) ≡ set (now (m .entry)) (3 * p) 65534 ⌝ }
 {
-    if kind == HEAD {
-        return;
-    }
     m[3 * p] = UNREACHED;
 }
 
-// Refusal 3: the records in file order, the instructions among them marked.
-pub fn scan(file: &[u8], m: &mut [u16]) -> Found
-    requires { ⌜ (1 ≤ length (now file)) × (length (now file) ≤ 4096) × (length (now m) ≡ 3 * length (now file)) ⌝ }
-    ensures { λ r. ⌜ Scanned (now (file .entry)) (now (m .entry)) (now (m .exit)) r ⌝ }
+// Head k stands at p; the table has room for 64.
+fn list(table: &mut [usize; 64], k: usize, p: usize)
+    ensures { λ _. ⌜ now (table .exit) ≡ listIn (now (table .entry)) k p ⌝ }
+{
+    if k >= 64 {
+        return;
+    }
+    table[k] = p;
+}
+
+// The place of the head behind the first 64.
+fn last_of(last: usize, k: usize, p: usize) -> usize
+    ensures { λ r. ⌜ r ≡ lastIn last k p ⌝ }
+{
+    if k == 64 { p } else { last }
+}
+
+// Refusal 3: the records in file order, the instructions among them marked, the heads listed. The commonest lengths have branches of their
+// own, so that the processor need not wait for the length to know where the next record starts.
+pub fn scan(file: &[u8], m: &mut [u16], table: &mut [usize; 64]) -> Found
+    requires { ⌜ (1 ≤ length (now file)) × (length (now file) ≤ 4096) × (length (now m) ≡ 3 * length (now file)) × (now table ≡ replicate 64 0) ⌝ }
+    ensures { λ r. ⌜ Scanned (now (file .entry)) (now (m .entry)) (now (m .exit)) (now (table .exit)) r ⌝ }
 {
     let n = file.len();
     if file[0] != HEAD {
@@ -57,20 +72,33 @@ pub fn scan(file: &[u8], m: &mut [u16]) -> Found
     }
     let bodies = code::bodies();
     let mut p = 0;
+    let mut k = 0;
+    let mut last = 0;
     while p < n {
         let kind = file[p];
         let b = code::body(&bodies, kind);
         let next = p + 1 + b;
-        if b == UNKNOWN {
+        if b == 0 {
+            mark(m, p);
+            p += 1;
+        } else if n < next {
             return Found::Broken(p);
-        }
-        if n < next {
+        } else if b == 2 {
+            mark(m, p);
+            p += 3;
+        } else if b == UNKNOWN {
             return Found::Broken(p);
+        } else if kind == HEAD {
+            list(table, k, p);
+            last = last_of(last, k, p);
+            k += 1;
+            p = next;
+        } else {
+            mark(m, p);
+            p = next;
         }
-        mark(m, p, kind);
-        p = next;
     }
-    Found::Whole
+    Found::Whole(k, last)
 }
 
 // At most 64 procedures, and procedure 0 has no parameters.
@@ -140,41 +168,37 @@ pub enum Heads {
     Right(usize),
 }
 
-// Head k at p is right: its place goes into the table, its first instruction gets its state.
-fn place_head(m: &mut [u16], table: &mut [usize; 64], head: Head, k: usize, p: usize)
-    requires { ⌜ (3 * (p + 7) + 2 < length (now m)) × (p + 7 < 4096) × (k < 64) × (head .a < 256) × (head .b < 256) ⌝ }
-    ensures map { λ _. ⌜ now (m .exit) ≡ putIn (now (m .entry)) (p + 7) (state (head .a) (head .b) 65535) ⌝ }
-    ensures heads { λ _. ⌜ now (table .exit) ≡ set (now (table .entry)) k p ⌝ }
+// A head at p is right: its first instruction gets its state.
+fn place_head(m: &mut [u16], head: Head, p: usize)
+    requires { ⌜ (3 * (p + 7) + 2 < length (now m)) × (p + 7 < 4096) × (head .a < 256) × (head .b < 256) ⌝ }
+    ensures { λ _. ⌜ now (m .exit) ≡ putIn (now (m .entry)) (p + 7) (state (head .a) (head .b) 65535) ⌝ }
 {
     let a = head.a as u16;
     let b = head.b as u16;
     put(m, p + 7, a, b, NONE);
-    table[k] = p;
 }
 
-// Refusal 4: the heads in file order.
-pub fn heads_of(file: &[u8], m: &mut [u16], table: &mut [usize; 64]) -> Heads
-    requires { ⌜ Marked (now file) (now m) (now table) ⌝ }
-    ensures { λ r. ⌜ Headed (now (file .entry)) (now (m .exit)) (now (table .exit)) r ⌝ }
+// Refusal 4: the n heads in file order, as the scan listed them; the 65th stands at last.
+pub fn heads_of(file: &[u8], m: &mut [u16], table: &[usize; 64], n: usize, last: usize) -> Heads
+    requires { ⌜ Marked (now file) (now m) (now table) n last ⌝ }
+    ensures { λ r. ⌜ Headed (now (file .entry)) (now (m .exit)) (now (table .entry)) r ⌝ }
 {
-    let n = file.len();
-    let bodies = code::bodies();
-    let mut p = 0;
+    let size = file.len();
     let mut k = 0;
-    while p < n {
-        let next = code::after(&bodies, file, p);
-        if file[p] == HEAD {
-            let head = code::head_at(file, p);
-            let there = follows(m, n, p + 7);
-            let right = head_right(head, k, there);
-            if right {
-                place_head(m, table, head, k, p);
-                k += 1;
-            } else {
-                return Heads::Wrong(p);
-            }
+    while k < n {
+        if k == 64 {
+            return Heads::Wrong(last);
         }
-        p = next;
+        let p = table[k];
+        let head = code::head_at(file, p);
+        let there = follows(m, size, p + 7);
+        let right = head_right(head, k, there);
+        if right {
+            place_head(m, head, p);
+            k += 1;
+        } else {
+            return Heads::Wrong(p);
+        }
     }
     Heads::Right(k)
 }
