@@ -1,4 +1,5 @@
--- The scan of the records: what is still to be scanned decides what all the records come to (`Going`); at the end the marks are those of
+-- The scan of the records: what is still to be scanned decides what all the records come to (`Going`), unless a record is cut short by
+-- the file's end (`Behind`); at the end the marks are those of
 -- all the instructions (`marked-shows` in Marks.antt says what they show), and the table has the places of the heads (`Listed`).
 use Prim.Native.Nat.{ℕ, zero, suc, _+_, _-_, _*_, _<_, _≤_}
 use mathlib.Core.Bool.{Bool, true, false}
@@ -138,7 +139,7 @@ pub record Going (f m₀ m table : List ℕ) (p k last : ℕ) : Type 0 where
       (qs : List ℕ) × (restOf f 0 ≡ starts qs) × (marked f m₀ qs ≡ marked f m ps)
       × Listed table k last (select (isHead f) qs) (select (isHead f) ps)
 
-pub going-first : (f m table : List ℕ) → byteAt f 0 ≡ 240 → table ≡ replicate 64 0 → Going f m m table 0 0 0
+going-first : (f m table : List ℕ) → byteAt f 0 ≡ 240 → table ≡ replicate 64 0 → Going f m m table 0 0 0
 going-first f m table h t =
     record {
       first = records-first f h;
@@ -152,81 +153,98 @@ going-first f m table h t =
 pub scanned-other : (f m table : List ℕ) → (byteAt f 0 ≡ 240 → ⊥) → Scanned f m m table (Broken 0)
 scanned-other f m table h = record { long = refl; comes = records-other f h }
 
-pub going-end : (f m₀ m table : List ℕ) (p k last : ℕ) → Going f m₀ m table p k last → length f ≤ p → Scanned f m₀ m table (Whole k last)
-going-end f m₀ m table p k last G h =
+pub going-end : {f m₀ m table : List ℕ} {p k last : ℕ} → Going f m₀ m table p k last → length f ≤ p → Scanned f m₀ m table (Whole k last)
+going-end {f} {m₀} {m} {table} {p} G h =
     let g = G .went [] (rest-end f p h) in
     record { long = G .long; comes = (g .0, G .first ∙ g .1, sym (g .2 ∙ (unfold marked in refl)), g .3) }
 
--- the same as the code yields them: b is the body's length, q the place behind the record
-module _ (f m₀ m table : List ℕ) (p k last b : ℕ) (G : Going f m₀ m table p k last) (h : p < length f) (is : b ≡ bodyOf (getD f p 0)) where
-  going-broken : whole? f p ≡ false → Scanned f m₀ m table (Broken p)
-  going-broken w = record { long = G .long; comes = G .first ∙ G .broke p (rest-broken f p h w) }
+-- at p, behind the record at q: the scan goes on, or that record was cut short and decides
+pub record Behind (f m₀ m table : List ℕ) (p k last q : ℕ) : Type 0 where
+  pub long : length m ≡ length m₀
+  pub here : p ≤ length f → Going f m₀ m table p k last
+  pub cut : length f < p → Scanned f m₀ m table (Broken q)
+
+pub behind-first : (f m table : List ℕ) → byteAt f 0 ≡ 240 → table ≡ replicate 64 0 → Behind f m m table 0 0 0 0
+behind-first f m table h t = record { long = refl; here = λ l. going-first f m table h t; cut = λ l. absurd (omega arith) }
+
+-- the record at p as the code yields it: b is the body's length
+module _ {f m₀ m table : List ℕ} {p k last b : ℕ} (G : Going f m₀ m table p k last) (h : p < length f) (is : b ≡ bodyOf (getD f p 0)) where
+  going-broken : (m′ table′ : List ℕ) → length m′ ≡ length m₀ → whole? f p ≡ false → Scanned f m₀ m′ table′ (Broken p)
+  going-broken m′ table′ l w = record { long = l; comes = G .first ∙ G .broke p (rest-broken f p h w) }
 
   pub scan-unknown : b ≡ 255 → Scanned f m₀ m table (Broken p)
-  scan-unknown e = going-broken (whole-unknown f p (sym is ∙ e))
+  scan-unknown e = going-broken m table (G .long) (whole-unknown f p (sym is ∙ e))
 
-  after-is : after f p ≡ p + 1 + b
-  unfolding after
-  after-is = rw is
-
-  -- a head has six bytes behind its kind
-  pub scan-other : (b ≡ 6 → ⊥) → getD f p 0 ≡ 240 → ⊥
+  pub head-size : getD f p 0 ≡ 240 → b ≡ 6
   unfolding bodyOf bodies
-  scan-other z e = z (is ∙ ap bodyOf e)
+  head-size z = is ∙ ap bodyOf z
 
-  module _ (q : ℕ) (q-is : q ≡ p + 1 + b) where
+  module _ {q : ℕ} (u : b ≡ 255 → ⊥) (q-is : q ≡ p + 1 + b) where
     here : after f p ≡ q
-    here = after-is ∙ sym q-is
+    unfolding after
+    here = rw (← is) (sym q-is)
 
-    pub scan-cut : length f < q → Scanned f m₀ m table (Broken p)
-    scan-cut l = going-broken (whole-cut f p (rw here l))
+    cut-here : (m′ table′ : List ℕ) → length m′ ≡ length m₀ → length f < q → Scanned f m₀ m′ table′ (Broken p)
+    cut-here m′ table′ e l = going-broken m′ table′ e (whole-cut f p (rw here l))
 
-    module _ (u : b ≡ 255 → ⊥) (l : q ≤ length f) where
-      goes-on : restOf f p ≡ more p (restOf f q)
-      goes-on = rest-more f p h (whole-yes f p (λ z. u (is ∙ z)) (rw here l)) ∙ ap (λ (r : ℕ). more p (restOf f r)) here
+    goes-on : q ≤ length f → restOf f p ≡ more p (restOf f q)
+    goes-on l = rest-more f p h (whole-yes f p (λ z. u (is ∙ z)) (rw here l)) ∙ ap (λ (r : ℕ). more p (restOf f r)) here
 
-      pub scan-mark : (m′ : List ℕ) → (getD f p 0 ≡ 240 → ⊥) → m′ ≡ set m (3 * p) unreached → Going f m₀ m′ table q k last
-      unfolding marked isHead
-      scan-mark m′ other e =
-          let few = G .few in
-          record {
-            first = G .first;
-            long = rw e (length-set m (3 * p) unreached) ∙ G .long;
-            table-long = G .table-long;
-            few = omega arith;
-            broke = λ r w. G .broke r (goes-on ∙ ap (more p) w);
-            went = λ ps w.
-                let g = G .went (p ∷ ps) (goes-on ∙ ap (more p) w) in
-                (g .0, g .1, g .2 ∙ marks ps, passed ps (select (isHead f) (g .0)) (g .3));
-          }
-        where
-          marks : (ps : List ℕ) → marked f m (p ∷ ps) ≡ marked f m′ ps
-          marks ps = rw (ne-eqb (byteAt f p) 240 other, e)
+    pub scan-mark : {m′ : List ℕ} → (getD f p 0 ≡ 240 → ⊥) → m′ ≡ set m (3 * p) unreached → Behind f m₀ m′ table q k last p
+    unfolding marked isHead
+    scan-mark {m′} other e = record { long = long; here = on; cut = cut-here m′ table long }
+      where
+        long : length m′ ≡ length m₀
+        long = rw e (length-set m (3 * p) unreached) ∙ G .long
 
-          passed : (ps hs : List ℕ) → Listed table k last hs (select (isHead f) (p ∷ ps)) → Listed table k last hs (select (isHead f) ps)
-          passed ps hs L = rw (ne-eqb (byteAt f p) 240 other) at L
+        marks : (ps : List ℕ) → marked f m (p ∷ ps) ≡ marked f m′ ps
+        marks ps = rw (ne-eqb (byteAt f p) 240 other, e)
 
-      pub scan-head : (table′ : List ℕ) (last′ : ℕ) → getD f p 0 ≡ 240 → table′ ≡ listIn table k p → last′ ≡ lastIn last k p →
-          Going f m₀ m table′ q (k + 1) last′
-      unfolding marked isHead
-      scan-head table′ last′ is-head te le =
-          let few = G .few in
-          record {
-            first = G .first;
-            long = G .long;
-            table-long = rw te (list-long table k p ∙ G .table-long);
-            few = omega arith;
-            broke = λ r w. G .broke r (goes-on ∙ ap (more p) w);
-            went = λ ps w.
-                let g = G .went (p ∷ ps) (goes-on ∙ ap (more p) w) in
-                (g .0, g .1, g .2 ∙ marks ps, noted ps (select (isHead f) (g .0)) (g .3));
-          }
-        where
-          marks : (ps : List ℕ) → marked f m (p ∷ ps) ≡ marked f m ps
-          marks ps = rw (eq-eqb (byteAt f p) 240 is-head)
+        passed : (ps hs : List ℕ) → Listed table k last hs (select (isHead f) (p ∷ ps)) → Listed table k last hs (select (isHead f) ps)
+        passed ps hs L = rw (ne-eqb (byteAt f p) 240 other) at L
 
-          noted : (ps hs : List ℕ) → Listed table k last hs (select (isHead f) (p ∷ ps)) → Listed table′ (k + 1) last′ hs (select (isHead f) ps)
-          noted ps hs L =
-              let s : k + 1 ≡ suc k = omega arith in
-              let M : Listed table k last hs (p ∷ select (isHead f) ps) = rw (eq-eqb (byteAt f p) 240 is-head) at L in
-              rw (te, le, s) (listed-more table hs (select (isHead f) ps) k last p M (G .table-long))
+        on : q ≤ length f → Going f m₀ m′ table q k last
+        on l =
+            let few = G .few in
+            record {
+              first = G .first;
+              long = long;
+              table-long = G .table-long;
+              few = omega arith;
+              broke = λ r w. G .broke r (goes-on l ∙ ap (more p) w);
+              went = λ ps w.
+                  let g = G .went (p ∷ ps) (goes-on l ∙ ap (more p) w) in
+                  (g .0, g .1, g .2 ∙ marks ps, passed ps (select (isHead f) (g .0)) (g .3));
+            }
+
+    pub scan-head : {table′ : List ℕ} {last′ : ℕ} → getD f p 0 ≡ 240 → table′ ≡ listIn table k p → last′ ≡ lastIn last k p →
+        Behind f m₀ m table′ q (k + 1) last′ p
+    unfolding marked isHead
+    scan-head {table′} {last′} is-head te le = record { long = G .long; here = on; cut = cut-here m table′ (G .long) }
+      where
+        marks : (ps : List ℕ) → marked f m (p ∷ ps) ≡ marked f m ps
+        marks ps = rw (eq-eqb (byteAt f p) 240 is-head)
+
+        noted : (ps hs : List ℕ) → Listed table k last hs (select (isHead f) (p ∷ ps)) → Listed table′ (k + 1) last′ hs (select (isHead f) ps)
+        noted ps hs L =
+            let s : k + 1 ≡ suc k = omega arith in
+            let M : Listed table k last hs (p ∷ select (isHead f) ps) = rw (eq-eqb (byteAt f p) 240 is-head) at L in
+            rw (te, le, s) (listed-more table hs (select (isHead f) ps) k last p M (G .table-long))
+
+        on : q ≤ length f → Going f m₀ m table′ q (k + 1) last′
+        on l =
+            let few = G .few in
+            record {
+              first = G .first;
+              long = G .long;
+              table-long = rw te (list-long table k p ∙ G .table-long);
+              few = omega arith;
+              broke = λ r w. G .broke r (goes-on l ∙ ap (more p) w);
+              went = λ ps w.
+                  let g = G .went (p ∷ ps) (goes-on l ∙ ap (more p) w) in
+                  (g .0, g .1, g .2 ∙ marks ps, noted ps (select (isHead f) (g .0)) (g .3));
+            }
+
+  -- a short body is no head's, and no unknown kind's
+  pub scan-short : {q : ℕ} {m′ : List ℕ} → b < 5 → q ≡ p + 1 + b → m′ ≡ set m (3 * p) unreached → Behind f m₀ m′ table q k last p
+  scan-short s q-is e = scan-mark (λ z. omega arith) q-is (λ z. let w = head-size z in omega arith) e

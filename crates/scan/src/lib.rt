@@ -35,33 +35,31 @@ pub fn fill(m: &mut [u16])
     }
 }
 
-// Marks that an instruction starts at p.
-fn mark(m: &mut [u16], p: usize)
-    requires { ⌜ (3 * p < length (now m)) × (p < 4096) ⌝ }
-    ensures { λ _. ⌜ now (m .exit) ≡ set (now (m .entry)) (3 * p) 65534 ⌝ }
+// An instruction with b bytes behind its kind starts at p: it is marked. The place behind it.
+fn mark(m: &mut [u16], p: usize, b: usize) -> usize
+    requires { ⌜ (3 * p < length (now m)) × (p < 4096) × (b < 256) ⌝ }
+    ensures map { λ _. ⌜ now (m .exit) ≡ set (now (m .entry)) (3 * p) 65534 ⌝ }
+    ensures place { λ r. ⌜ r ≡ p + 1 + b ⌝ }
 {
     m[3 * p] = UNREACHED;
+    p + 1 + b
 }
 
-// Head k stands at p; the table has room for 64.
-fn list(table: &mut [usize; 64], k: usize, p: usize)
-    ensures { λ _. ⌜ now (table .exit) ≡ listIn (now (table .entry)) k p ⌝ }
+// Head k stands at p: the table has room for 64, and the place of the 65th is kept by itself.
+fn list(table: &mut [usize; 64], k: usize, last: usize, p: usize) -> usize
+    ensures heads { λ _. ⌜ now (table .exit) ≡ listIn (now (table .entry)) k p ⌝ }
+    ensures later { λ r. ⌜ r ≡ lastIn last k p ⌝ }
 {
-    if k >= 64 {
-        return;
+    if k < 64 {
+        table[k] = p;
+        return last;
     }
-    table[k] = p;
-}
-
-// The place of the head behind the first 64.
-fn last_of(last: usize, k: usize, p: usize) -> usize
-    ensures { λ r. ⌜ r ≡ lastIn last k p ⌝ }
-{
     if k == 64 { p } else { last }
 }
 
-// Refusal 3: the records in file order, the instructions among them marked, the heads listed. The commonest lengths have branches of their
-// own, so that the processor need not wait for the length to know where the next record starts.
+// Refusal 3: the records in file order, the instructions among them marked, the heads listed. Each common length has a branch of its own:
+// the processor foresees where the next record starts, and does not wait for the length. The tests are `<`, for the compiler would make
+// one jump by a table of equal tests. Only the last record can be cut short, so that is asked once, behind the loop.
 pub fn scan(file: &[u8], m: &mut [u16], table: &mut [usize; 64]) -> Found
     requires { ⌜ (1 ≤ length (now file)) × (length (now file) ≤ 4096) × (length (now m) ≡ 3 * length (now file)) × (now table ≡ replicate 64 0) ⌝ }
     ensures { λ r. ⌜ Scanned (now (file .entry)) (now (m .entry)) (now (m .exit)) (now (table .exit)) r ⌝ }
@@ -74,31 +72,34 @@ pub fn scan(file: &[u8], m: &mut [u16], table: &mut [usize; 64]) -> Found
     let mut p = 0;
     let mut k = 0;
     let mut last = 0;
+    let mut from = 0;
     while p < n {
+        from = p;
         let kind = file[p];
         let b = code::body(&bodies, kind);
-        let next = p + 1 + b;
-        if b == 0 {
-            mark(m, p);
-            p += 1;
-        } else if n < next {
-            return Found::Broken(p);
-        } else if b == 2 {
-            mark(m, p);
-            p += 3;
+        if b < 1 {
+            p = mark(m, p, 0);
+        } else if b < 2 {
+            p = mark(m, p, 1);
+        } else if b < 3 {
+            p = mark(m, p, 2);
+        } else if b == 4 {
+            p = mark(m, p, 4);
+        } else if kind == HEAD {
+            last = list(table, k, last, p);
+            k += 1;
+            p += 7;
         } else if b == UNKNOWN {
             return Found::Broken(p);
-        } else if kind == HEAD {
-            list(table, k, p);
-            last = last_of(last, k, p);
-            k += 1;
-            p = next;
         } else {
-            mark(m, p);
-            p = next;
+            p = mark(m, p, b);
         }
     }
-    Found::Whole(k, last)
+    if n < p {
+        Found::Broken(from)
+    } else {
+        Found::Whole(k, last)
+    }
 }
 
 // At most 64 procedures, and procedure 0 has no parameters.
