@@ -1,7 +1,7 @@
 -- The heads of a file in file order, as the scan listed them: what is still to come decides what all of them come to (`Heading`); at the
 -- end the map shows the first instruction of each procedure.
 use Prim.Native.Nat.{ℕ, suc, _+_, _-_, _*_, _<_, _≤_}
-use mathlib.Core.Bool.{Bool, true, false, not}
+use mathlib.Core.Bool.{Bool, true, false, true≢false, not}
 use mathlib.Core.List.{List, [], _∷_}
 use mathlib.Core.Path.{_≡_, refl, ap, sym, _∙_}
 use native.Mathlib.Decide.{decLt}
@@ -20,10 +20,10 @@ use Rattle.scan.specs.declared.Heads.{Heads as HeadsFound}
 use Rattle.scan.specs.declared.Heads.the-variants.{Wrong, Right}
 
 -- the rules of head k on its numbers, as the model's headTests has them
-abbrev pub numberList : Head → ℕ → List Test
+abbrev numberList : Head → ℕ → List Test
 numberList h k = most (suc k) 64 ∷ same (if eqb k 0 then h .a else 0) 0 ∷ same (if eqb k 0 then h .b else 0) 0 ∷ []
 
-abbrev pub headList : Head → ℕ → Bool → List Test
+abbrev headList : Head → ℕ → Bool → List Test
 headList h k t =
     most (h .a) (h .x) ∷ most (h .r) (h .x) ∷ most (h .b) (h .y) ∷ most (h .s) (h .y) ∷ yes? t ∷ numberList h k
 
@@ -51,8 +51,9 @@ module _ (h : Head) (k : ℕ) where
   unfolding numberOk
   number-last l z a = rw (z, eq-eqb (h .a) 0 a) (if-self (eqb (h .b) 0))
 
-unfoldable pub headOk : Head → ℕ → Bool → Bool
-headOk h k t = all (headList h k t)
+-- head k is right where an instruction starts behind it
+unfoldable pub headOk : Head → ℕ → Bool
+headOk h k = all (headList h k true)
 
 unfoldable pub startsAt : List ℕ → ℕ → ℕ → Bool
 startsAt m n q = if ltb q n then not (eqb (getD m (3 * q) 0) 65535) else false
@@ -86,7 +87,7 @@ pub record Heading (f m : List ℕ) (k : ℕ) : Type 0 where
   pub so-far : headsOf f ≡ headsFrom f (procs f - k) k
   pub shows : Shows f (firsts f k) m
 
-module _ (f m₀ table : List ℕ) (n last : ℕ) (M : Marked f m₀ table n last) where
+module _ {f m₀ table : List ℕ} {n last : ℕ} (M : Marked f m₀ table n last) where
   pub heading-start : Heading f m₀ 0
   unfolding headsOf firsts
   heading-start =
@@ -97,7 +98,7 @@ module _ (f m₀ table : List ℕ) (n last : ℕ) (M : Marked f m₀ table n las
         shows = M .shows;
       }
 
-  module _ (m : List ℕ) (k : ℕ) (H : Heading f m k) where
+  module _ {m : List ℕ} {k : ℕ} (H : Heading f m k) where
     -- all are done
     pub heading-end : n ≤ k → Headed f m table (Right k)
     unfolding headsFrom
@@ -118,22 +119,23 @@ module _ (f m₀ table : List ℕ) (n last : ℕ) (M : Marked f m₀ table n las
           let z : (procs f - k) ≡ suc (procs f - suc k) = omega arith in
           H .so-far ∙ rw z
 
-      too-many : 64 ≤ k → all (headTests f k) ≡ false
-      unfolding headTests
-      too-many l = go (all (headTests f k)) refl
+      -- a head that does not pass all its tests is the first at fault
+      at-fault : (p : ℕ) → headOf f k ≡ p → (All (headTests f k) → ⊥) → Headed f m table (Wrong p)
+      at-fault p is fails = (come ∙ rw (go (all (headTests f k)) refl, is), H .shows .long)
         where
           go : (t : Bool) → all (headTests f k) ≡ t → all (headTests f k) ≡ false
-          go true e = absurd (omega (arith, all-true (headTests f k) e .1 .1 .1 .1 .1 .0))
+          go true e = absurd (fails (all-true (headTests f k) e))
           go false e = e
 
       -- the 65th is one too many
       pub heading-many : 64 ≤ k → Headed f m table (Wrong last)
+      unfolding headTests
       heading-many l =
           let few = H .few in
-          let z : k ≡ 64 = omega arith in
-          (come ∙ rw (too-many l, z) (ap wrong (sym (M .later (omega arith)))), H .shows .long)
+          let z : 64 ≡ k = omega arith in
+          at-fault last (rw z at (sym (M .later (omega arith)))) (λ A. omega (arith, A .1 .1 .1 .1 .1 .0))
 
-      module _ (p : ℕ) (p-is : p ≡ getD table k 0) (low : k < 64) where
+      module _ {p : ℕ} (p-is : p ≡ getD table k 0) (low : k < 64) where
         head-is : headOf f k ≡ p
         head-is = sym (M .listed k low) ∙ sym p-is
 
@@ -168,48 +170,51 @@ module _ (f m₀ table : List ℕ) (n last : ℕ) (M : Marked f m₀ table n las
             go (yes l) = rw (lt-ltb (p + 7) (length f) l, starts-here f (firsts f k) m (H .shows) (p + 7) l) (flip (member (p + 7) (instructions f)))
             go (no l) = rw (le-ltb (p + 7) (length f) (omega arith)) (far (member (p + 7) (instructions f)) refl (omega arith))
 
-        module _ (head : Head) (t ok : Bool) (h-is : HeadIs f p head) (t-is : t ≡ startsAt m (length f) (p + 7)) (ok-is : ok ≡ headOk head k t) where
-          tests-are : headList head k t ≡ headTests f k
-          unfolding headTests procHead
-          tests-are =
-              let e : head ≡ procHead f k = h-is .is ∙ head-of f k p (sym head-is) in
-              let u : t ≡ member (entry f k) (instructions f) = t-is ∙ starts-are ∙ ap (λ (q : ℕ). member q (instructions f)) (sym entry-is) in
-              λ i. headList (e i) k (u i)
+        -- no instruction starts behind it
+        pub heading-alone : {t : Bool} → t ≡ startsAt m (length f) (p + 7) → t ≡ false → Headed f m table (Wrong p)
+        unfolding headTests
+        heading-alone t-is e =
+            let n : member (p + 7) (instructions f) ≡ false = sym starts-are ∙ sym t-is ∙ e in
+            at-fault p head-is (λ A. let y = A .1 .1 .1 .1 .0 in true≢false (sym (rw entry-is at y) ∙ n))
 
-          ok-all : ok ≡ all (headTests f k)
-          unfolding headOk
-          ok-all = ok-is ∙ ap all tests-are
+        -- one does
+        module _ {t : Bool} (t-is : t ≡ startsAt m (length f) (p + 7)) (there : t ≡ true) where
+          in-file : member (p + 7) (instructions f) ≡ true
+          in-file = sym starts-are ∙ sym t-is ∙ there
 
-          pub heading-wrong : ok ≡ false → Headed f m table (Wrong p)
-          heading-wrong e = (come ∙ rw (sym ok-all ∙ e, head-is), H .shows .long)
-
-          right-all : ok ≡ true → All (headTests f k)
-          right-all e = all-true (headTests f k) (sym ok-all ∙ e)
-
-          in-file : ok ≡ true → member (p + 7) (instructions f) ≡ true
-          unfolding headTests
-          in-file e = rw (← entry-is) (right-all e .1 .1 .1 .1 .0)
-
-          pub heading-fits : ok ≡ true → (p + 7 < length f) × (3 * (p + 7) + 2 < length m)
-          heading-fits e =
-              let a = instruction-below f (M .places) (M .whole) (p + 7) (member-in (p + 7) (instructions f) (in-file e)) in
+          pub heading-fits : (p + 7 < length f) × (3 * (p + 7) + 2 < length m)
+          heading-fits =
+              let a = instruction-below f (M .places) (M .whole) (p + 7) (member-in (p + 7) (instructions f) in-file) in
               let l = H .shows .long in
               (a, omega arith)
 
-          pub heading-right : (m′ : List ℕ) → ok ≡ true → m′ ≡ putIn m (p + 7) (state (head .a) (head .b) 65535) → Heading f m′ (k + 1)
-          unfolding firsts procHead
-          heading-right m′ e me =
-              let s : k + 1 ≡ suc k = omega arith in
-              let fits = heading-fits e in
-              let one = one-more in
-              let same-head : state (head .a) (head .b) none ≡ state (paramsMain f k) (paramsPtr f k) none =
-              ap (λ (v : Head). state (v .a) (v .b) none) (h-is .is ∙ head-of f k p (sym head-is)) in
-              rw s
-              (record {
-                few = omega arith;
-                most-k = omega arith;
-                so-far = come ∙ rw (sym ok-all ∙ e);
-                shows = rw (me, entry-is, ← same-head)
-                    (put-shows f (firsts f k) m (H .shows) (p + 7) (state (head .a) (head .b) none)
-                    (rw (ne-eqb (head .a) none (let a = h-is .a-small in omega arith))) (in-file e) (fits .0));
-              })
+          module _ {head : Head} {ok : Bool} (h-is : HeadIs f p head) (ok-is : ok ≡ headOk head k) where
+            same-head : head ≡ procHead f k
+            same-head = h-is .is ∙ head-of f k p (sym head-is)
+
+            ok-all : ok ≡ all (headTests f k)
+            unfolding headOk headTests procHead
+            ok-all =
+                let u : true ≡ member (entry f k) (instructions f) = sym in-file ∙ ap (λ (q : ℕ). member q (instructions f)) (sym entry-is) in
+                let e = same-head in
+                ok-is ∙ ap all (λ i. headList (e i) k (u i))
+
+            pub heading-wrong : ok ≡ false → Headed f m table (Wrong p)
+            heading-wrong e = (come ∙ rw (sym ok-all ∙ e, head-is), H .shows .long)
+
+            pub heading-right : {m′ : List ℕ} → ok ≡ true → m′ ≡ putIn m (p + 7) (state (head .a) (head .b) 65535) → Heading f m′ (k + 1)
+            unfolding firsts procHead
+            heading-right e me =
+                let s : k + 1 ≡ suc k = omega arith in
+                let one = one-more in
+                let same-state : state (head .a) (head .b) none ≡ state (paramsMain f k) (paramsPtr f k) none =
+                ap (λ (v : Head). state (v .a) (v .b) none) same-head in
+                rw s
+                (record {
+                  few = omega arith;
+                  most-k = omega arith;
+                  so-far = come ∙ rw (sym ok-all ∙ e);
+                  shows = rw (me, entry-is, ← same-state)
+                      (put-shows f (firsts f k) m (H .shows) (p + 7) (state (head .a) (head .b) none)
+                      (rw (ne-eqb (head .a) none (let a = h-is .a-small in omega arith))) in-file (heading-fits .0));
+                })

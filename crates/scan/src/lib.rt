@@ -58,8 +58,8 @@ fn list(table: &mut [usize; 64], k: usize, last: usize, p: usize) -> usize
 }
 
 // Refusal 3: the records in file order, the instructions among them marked, the heads listed. Each common length has a branch of its own:
-// the processor foresees where the next record starts, and does not wait for the length. The tests are `<`, for the compiler would make
-// one jump by a table of equal tests. Only the last record can be cut short, so that is asked once, behind the loop.
+// the processor foresees where the next record starts, and does not wait for the length. The tests are mostly `<`: of equal tests the
+// compiler would make one jump by a table. Only the last record can be cut short, so that is asked once, behind the loop.
 pub fn scan(file: &[u8], m: &mut [u16], table: &mut [usize; 64]) -> Found
     requires { ⌜ (1 ≤ length (now file)) × (length (now file) ≤ 4096) × (length (now m) ≡ 3 * length (now file)) × (now table ≡ replicate 64 0) ⌝ }
     ensures { λ r. ⌜ Scanned (now (file .entry)) (now (m .entry)) (now (m .exit)) (now (table .exit)) r ⌝ }
@@ -120,9 +120,9 @@ fn number_right(head: Head, k: usize) -> bool
     head.b == 0
 }
 
-// The rules of head k; `follows` tells whether an instruction is behind it.
-fn head_right(head: Head, k: usize, follows: bool) -> bool
-    ensures { λ r. ⌜ r ≡ headOk head k follows ⌝ }
+// The rules of head k, behind which an instruction starts.
+fn head_right(head: Head, k: usize) -> bool
+    ensures { λ r. ⌜ r ≡ headOk head k ⌝ }
 {
     if head.x < head.a {
         return false;
@@ -136,11 +136,7 @@ fn head_right(head: Head, k: usize, follows: bool) -> bool
     if head.y < head.s {
         return false;
     }
-    if follows {
-        number_right(head, k)
-    } else {
-        false
-    }
+    number_right(head, k)
 }
 
 // An instruction starts at q, in a file of n bytes.
@@ -193,12 +189,16 @@ pub fn heads_of(file: &[u8], m: &mut [u16], table: &[usize; 64], n: usize, last:
             return Heads::Wrong(last);
         }
         let p = table[k];
-        let head = code::head_at(file, p);
         let there = follows(m, size, p + 7);
-        let right = head_right(head, k, there);
-        if right {
-            place_head(m, head, p);
-            k += 1;
+        if there {
+            let head = code::head_at(file, p);
+            let right = head_right(head, k);
+            if right {
+                place_head(m, head, p);
+                k += 1;
+            } else {
+                return Heads::Wrong(p);
+            }
         } else {
             return Heads::Wrong(p);
         }

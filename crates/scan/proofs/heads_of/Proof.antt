@@ -4,7 +4,7 @@ use Prim.Native.Nat.{_-_}
 use native.Mathlib.Omega.{arith}
 use lib.ListN.{length}
 use borrow.Author.Needs.{needs}
-use Rattle.scan.specs.Heading.{Heading, heading-start, heading-whole, heading-many, heading-wrong, heading-fits, heading-right, heading-end}
+use Rattle.scan.specs.Heading.{Heading, heading-start, heading-whole, heading-many, heading-alone, heading-wrong, heading-fits, heading-right, heading-end}
 use Rattle.scan.proofs.heads_of.Statement.{statement}
 use Rattle.scan.proofs.heads_of.Tie as tie
 
@@ -15,18 +15,19 @@ abbrev μ-loop : tie.MeasureT-loop
 μ-loop file m₀ table n last size k₀ m k = n - k
 
 loop-holds : tie.Need-loop-holds Inv-loop μ-loop
-loop-holds c = (refl, heading-start _ _ _ _ _ (c .before .before .pre))
+loop-holds c = (refl, heading-start (c .before .before .pre))
 
 same-length : tie.Need-same-length Inv-loop μ-loop
 same-length c =
-    let entry = c .before .before .before .before .before in
-    c .before .before .loop .inv .1 .shows .long ∙ sym (entry .pre .shows .long)
+    let at-loop = c .before .before in
+    let entry = at-loop .before .before .before in
+    at-loop .loop .inv .1 .shows .long ∙ sym (entry .pre .shows .long)
 
 returns : tie.Need-returns Inv-loop μ-loop
 returns c =
-    let entry = c .before .before .before .before .before in
-    heading-many (entry .args .file .now) (entry .args .m .now) (entry .args .table .now) (entry .args .n) (entry .args .last) (entry .pre) (c .before .before .loop .m)
-    (c .before .before .loop .k) (c .before .before .loop .inv .1) (omega arith) (omega arith)
+    let at-loop = c .before .before in
+    let entry = at-loop .before .before .before in
+    heading-many (entry .pre) (at-loop .loop .inv .1) (omega arith) (omega arith)
 
 mul-p : tie.Need-mul-p Inv-loop μ-loop
 mul-p c = omega arith
@@ -34,38 +35,37 @@ mul-p c = omega arith
 element-copy-out-p : tie.Need-element-copy-out-p Inv-loop μ-loop
 element-copy-out-p c = omega arith
 
-head-at-requires : tie.Need-head-at-requires Inv-loop μ-loop
-head-at-requires c κs =
-    let at-loop = c .before .before .before in
-    let entry = at-loop .before .before .before in
-    heading-whole (entry .args .file .now) (entry .args .m .now) (entry .args .table .now) (entry .args .n) (entry .args .last) (entry .pre) (at-loop .loop .m)
-    (at-loop .loop .k) (at-loop .loop .inv .1) (omega arith) _ refl (omega arith)
-
 add-follows : tie.Need-add-follows Inv-loop μ-loop
 add-follows c =
-    let at-loop = c .before .before .before .before .before in
+    let at-loop = c .before .before .before .before in
     let entry = at-loop .before .before .before in
-    let w = heading-whole (entry .args .file .now) (entry .args .m .now) (entry .args .table .now) (entry .args .n) (entry .args .last) (entry .pre) (at-loop .loop .m)
-    (at-loop .loop .k) (at-loop .loop .inv .1) (omega arith) _ refl (omega arith) in let g = entry .pre .few in omega (arith, w, g)
+    let w = heading-whole (entry .pre) (at-loop .loop .inv .1) (omega arith) refl (omega arith) in
+    let g = entry .pre .few in
+    omega (arith, w, g)
 
 follows-requires : tie.Need-follows-requires Inv-loop μ-loop
 follows-requires c κs =
-    let at-loop = c .before .before .before .before .before in
+    let at-loop = c .before .before .before .before in
     let entry = at-loop .before .before .before in
     (at-loop .loop .inv .1 .shows .long, entry .pre .few)
+
+head-at-requires : tie.Need-head-at-requires Inv-loop μ-loop
+head-at-requires c κs =
+    let at-loop = c .before .before .before .before .before .before in
+    let entry = at-loop .before .before .before in
+    heading-whole (entry .pre) (at-loop .loop .inv .1) (omega arith) refl (omega arith)
 
 head-right-requires : tie.Need-head-right-requires Inv-loop μ-loop
 head-right-requires c κs = search needs
 
 place-head-requires : tie.Need-place-head-requires Inv-loop μ-loop
 place-head-requires c κs =
-    let at-head-at = c .before .before .before .before .before in
-    let at-loop = at-head-at .before .before .before .before in
+    let at-follows = c .before .before .before .before .before in
+    let at-loop = at-follows .before .before .before .before .before in
     let entry = at-loop .before .before .before in
-    let w = heading-fits (entry .args .file .now) (entry .args .m .now) (entry .args .table .now) (entry .args .n) (entry .args .last) (entry .pre) (at-loop .loop .m)
-    (at-loop .loop .k) (at-loop .loop .inv .1) (omega arith) _ refl (omega arith) _ _ _ (at-head-at .head-at .ensures) (c .before .before .before .follows .ensures)
-    (c .before .before .head-right .ensures) (c .before .if2 .taken) in let g = entry .pre .few in
-    (w .1, omega arith, at-head-at .head-at .ensures .a-small, at-head-at .head-at .ensures .b-small)
+    let w = heading-fits (entry .pre) (at-loop .loop .inv .1) (omega arith) refl (omega arith) (at-follows .follows .ensures) (c .before .before .before .before .if2 .taken) in
+    let g = entry .pre .few in
+    (w .1, omega arith, c .before .before .before .head-at .ensures .a-small, c .before .before .before .head-at .ensures .b-small)
 
 add-k : tie.Need-add-k Inv-loop μ-loop
 add-k c = omega arith
@@ -75,39 +75,52 @@ loop-less c = omega arith
 
 loop-again : tie.Need-loop-again Inv-loop μ-loop
 loop-again c =
-    let at-head-right = c .before .before .before .before .before in
-    let at-follows = at-head-right .before in
-    let at-head-at = at-follows .before .before in
-    let at-loop = at-head-at .before .before .before .before in
-    let entry = at-loop .before .before .before in (
+    let at-follows = c .before .before .before .before .before .before .before .before in
+    let at-loop = at-follows .before .before .before .before .before in
+    let entry = at-loop .before .before .before in
+    let at-head-right = c .before .before .before .before .before in (
       refl,
-      heading-right (entry .args .file .now) (entry .args .m .now) (entry .args .table .now) (entry .args .n) (entry .args .last) (entry .pre) (at-loop .loop .m)
-          (at-loop .loop .k) (at-loop .loop .inv .1) (omega arith) _ refl (omega arith) _ _ _ (at-head-at .head-at .ensures) (at-follows .follows .ensures)
-          (at-head-right .head-right .ensures) _ (c .before .before .before .before .if2 .taken) (c .before .before .place-head .ensures),
+      heading-right (entry .pre) (at-loop .loop .inv .1) (omega arith) refl (omega arith) (at-follows .follows .ensures) (c .before .before .before .before .before .before .before .if2 .taken) (at-head-right .before .head-at .ensures) (at-head-right .head-right .ensures)
+          (c .before .before .before .before .if3 .taken) (c .before .before .place-head .ensures),
     )
 
 same-length-2 : tie.Need-same-length-2 Inv-loop μ-loop
 same-length-2 c =
-    let at-loop = c .before .before .before .before .before .before .before .before in
+    let at-loop = c .before .before .before .before .before .before .before .before .before in
     let entry = at-loop .before .before .before in
     at-loop .loop .inv .1 .shows .long ∙ sym (entry .pre .shows .long)
 
 returns-2 : tie.Need-returns-2 Inv-loop μ-loop
 returns-2 c =
-    let at-loop = c .before .before .before .before .before .before .before .before in
+    let at-follows = c .before .before .before .before in
+    let at-loop = at-follows .before .before .before .before .before in
     let entry = at-loop .before .before .before in
-    heading-wrong (entry .args .file .now) (entry .args .m .now) (entry .args .table .now) (entry .args .n) (entry .args .last) (entry .pre) (at-loop .loop .m)
-    (at-loop .loop .k) (at-loop .loop .inv .1) (omega arith) _ refl (omega arith) _ _ _ (c .before .before .before .before .head-at .ensures)
-    (c .before .before .follows .ensures) (c .before .head-right .ensures) (c .if2 .left)
+    heading-wrong (entry .pre) (at-loop .loop .inv .1) (omega arith) refl (omega arith) (at-follows .follows .ensures) (c .before .before .before .if2 .taken) (c .before .before .head-at .ensures) (c .before .head-right .ensures) (c .if3 .left)
 
 same-length-3 : tie.Need-same-length-3 Inv-loop μ-loop
-same-length-3 c = c .before .loop .inv .1 .shows .long ∙ sym (c .before .before .before .before .pre .shows .long)
+same-length-3 c =
+    let at-loop = c .before .before .before .before .before .before in
+    let entry = at-loop .before .before .before in
+    at-loop .loop .inv .1 .shows .long ∙ sym (entry .pre .shows .long)
 
 returns-3 : tie.Need-returns-3 Inv-loop μ-loop
 returns-3 c =
-    let entry = c .before .before .before .before in
-    heading-end (entry .args .file .now) (entry .args .m .now) (entry .args .table .now) (entry .args .n) (entry .args .last) (entry .pre) (c .before .loop .m)
-    (c .before .loop .k) (c .before .loop .inv .1) (omega arith)
+    let at-follows = c .before in
+    let at-loop = at-follows .before .before .before .before .before in
+    let entry = at-loop .before .before .before in
+    heading-alone (entry .pre) (at-loop .loop .inv .1) (omega arith) refl (omega arith) (at-follows .follows .ensures) (c .if2 .left)
+
+same-length-4 : tie.Need-same-length-4 Inv-loop μ-loop
+same-length-4 c =
+    let at-loop = c .before in
+    let entry = at-loop .before .before .before in
+    at-loop .loop .inv .1 .shows .long ∙ sym (entry .pre .shows .long)
+
+returns-4 : tie.Need-returns-4 Inv-loop μ-loop
+returns-4 c =
+    let at-loop = c .before in
+    let entry = at-loop .before .before .before in
+    heading-end (entry .pre) (at-loop .loop .inv .1) (omega arith)
 
 pub heads-of-spec : {M : Type 1} → statement M
 heads-of-spec =
@@ -120,9 +133,9 @@ heads-of-spec =
     returns
     mul-p
     element-copy-out-p
-    head-at-requires
     add-follows
     follows-requires
+    head-at-requires
     head-right-requires
     place-head-requires
     add-k
@@ -131,4 +144,6 @@ heads-of-spec =
     same-length-2
     returns-2
     same-length-3
-    returns-3)
+    returns-3
+    same-length-4
+    returns-4)
