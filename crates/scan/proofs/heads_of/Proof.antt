@@ -80,7 +80,8 @@ loop-again c =
     let entry = at-loop .before .before .before in
     let at-head-right = c .before .before .before .before .before in (
       refl,
-      heading-right (entry .pre) (at-loop .loop .inv .1) (omega arith) refl (omega arith) (at-follows .follows .ensures) (c .before .before .before .before .before .before .before .if2 .taken) (at-head-right .before .head-at .ensures) (at-head-right .head-right .ensures)
+      heading-right (entry .pre) (at-loop .loop .inv .1) (omega arith) refl (omega arith) (at-follows .follows .ensures)
+          (c .before .before .before .before .before .before .before .if2 .taken) (at-head-right .before .head-at .ensures) (at-head-right .head-right .ensures)
           (c .before .before .before .before .if3 .taken) (c .before .before .place-head .ensures),
     )
 
@@ -95,7 +96,8 @@ returns-2 c =
     let at-follows = c .before .before .before .before in
     let at-loop = at-follows .before .before .before .before .before in
     let entry = at-loop .before .before .before in
-    heading-wrong (entry .pre) (at-loop .loop .inv .1) (omega arith) refl (omega arith) (at-follows .follows .ensures) (c .before .before .before .if2 .taken) (c .before .before .head-at .ensures) (c .before .head-right .ensures) (c .if3 .left)
+    heading-wrong (entry .pre) (at-loop .loop .inv .1) (omega arith) refl (omega arith) (at-follows .follows .ensures) (c .before .before .before .if2 .taken)
+    (c .before .before .head-at .ensures) (c .before .head-right .ensures) (c .if3 .left)
 
 same-length-3 : tie.Need-same-length-3 Inv-loop μ-loop
 same-length-3 c =
