@@ -77,20 +77,18 @@ pub fn scan(file: &[u8], m: &mut [u16], table: &mut [usize; 64]) -> Found
         from = p;
         let kind = file[p];
         let b = code::body(&bodies, kind);
-        if b < 3 {
-            if b < 1 {
-                p = mark(m, p, 0);
-            } else if b < 2 {
-                p = mark(m, p, 1);
-            } else {
-                p = mark(m, p, 2);
-            }
+        if b < 1 {
+            p = mark(m, p, 0);
+        } else if b < 2 {
+            p = mark(m, p, 1);
+        } else if b < 3 {
+            p = mark(m, p, 2);
+        } else if b == 4 {
+            p = mark(m, p, 4);
         } else if kind == HEAD {
             last = list(table, k, last, p);
             k += 1;
             p += 7;
-        } else if b == 4 {
-            p = mark(m, p, 4);
         } else if b == UNKNOWN {
             return Found::Broken(p);
         } else {

@@ -43,7 +43,7 @@ loop-less c = omega arith
 
 loop-again : tie.Need-loop-again Inv-loop μ-loop
 loop-again c =
-    let at-body = c .before .before .before .before .before .before in
+    let at-body = c .before .before .before .before .before in
     let at-loop = at-body .before .before .before .before in
     (refl, scan-short (at-loop .loop .inv .1 .here (omega arith)) (omega arith) (at-body .body .ensures .is) (omega arith) (omega arith) (c .before .before .mark .ensures .0))
 
@@ -55,7 +55,7 @@ loop-less-2 c = omega arith
 
 loop-again-2 : tie.Need-loop-again-2 Inv-loop μ-loop
 loop-again-2 c =
-    let at-body = c .before .before .before .before .before .before .before in
+    let at-body = c .before .before .before .before .before .before in
     let at-loop = at-body .before .before .before .before in
     (refl, scan-short (at-loop .loop .inv .1 .here (omega arith)) (omega arith) (at-body .body .ensures .is) (omega arith) (omega arith) (c .before .before .mark2 .ensures .0))
 
@@ -71,31 +71,29 @@ loop-again-3 c =
     let at-loop = at-body .before .before .before .before in
     (refl, scan-short (at-loop .loop .inv .1 .here (omega arith)) (omega arith) (at-body .body .ensures .is) (omega arith) (omega arith) (c .before .before .mark3 .ensures .0))
 
-list-requires : tie.Need-list-requires Inv-loop μ-loop
-list-requires c κs = search needs
-
-add-k : tie.Need-add-k Inv-loop μ-loop
-add-k c =
-    let at-loop = c .before .before .before .before .before .before .before .before in
-    let w = at-loop .loop .inv .1 .here (omega arith) .few in
-    omega arith
-
-add-p : tie.Need-add-p Inv-loop μ-loop
-add-p c = omega arith
+mark-requires-4 : tie.Need-mark-requires-4 Inv-loop μ-loop
+mark-requires-4 c κs = (omega arith, omega arith, omega arith)
 
 loop-less-4 : tie.Need-loop-less-4 Inv-loop μ-loop
 loop-less-4 c = omega arith
 
 loop-again-4 : tie.Need-loop-again-4 Inv-loop μ-loop
 loop-again-4 c =
-    let at-body = c .before .before .before .before in
+    let at-body = c .before .before .before .before .before .before .before .before in
     let at-loop = at-body .before .before .before .before in
-    let is-head = c .before .before .if5 .taken in
-    let size = head-size (at-loop .loop .inv .1 .here (omega arith)) (omega arith) (at-body .body .ensures .is) is-head in
-    (refl, scan-head (at-loop .loop .inv .1 .here (omega arith)) (omega arith) (at-body .body .ensures .is) (λ z. omega arith) (omega arith) is-head (c .list .ensures .0) (c .list .ensures .1))
+    (refl, scan-short (at-loop .loop .inv .1 .here (omega arith)) (omega arith) (at-body .body .ensures .is) (omega arith) (omega arith) (c .before .before .mark4 .ensures .0))
 
-mark-requires-4 : tie.Need-mark-requires-4 Inv-loop μ-loop
-mark-requires-4 c κs = (omega arith, omega arith, omega arith)
+list-requires : tie.Need-list-requires Inv-loop μ-loop
+list-requires c κs = search needs
+
+add-k : tie.Need-add-k Inv-loop μ-loop
+add-k c =
+    let at-loop = c .before .before .before .before .before .before .before .before .before .before .before in
+    let w = at-loop .loop .inv .1 .here (omega arith) .few in
+    omega arith
+
+add-p : tie.Need-add-p Inv-loop μ-loop
+add-p c = omega arith
 
 loop-less-5 : tie.Need-loop-less-5 Inv-loop μ-loop
 loop-less-5 c = omega arith
@@ -104,16 +102,18 @@ loop-again-5 : tie.Need-loop-again-5 Inv-loop μ-loop
 loop-again-5 c =
     let at-body = c .before .before .before .before .before .before .before in
     let at-loop = at-body .before .before .before .before in
-    (refl, scan-short (at-loop .loop .inv .1 .here (omega arith)) (omega arith) (at-body .body .ensures .is) (omega arith) (omega arith) (c .before .before .mark4 .ensures .0))
+    let is-head = c .before .before .if6 .taken in
+    let size = head-size (at-loop .loop .inv .1 .here (omega arith)) (omega arith) (at-body .body .ensures .is) is-head in
+    (refl, scan-head (at-loop .loop .inv .1 .here (omega arith)) (omega arith) (at-body .body .ensures .is) (λ z. omega arith) (omega arith) is-head (c .list .ensures .0) (c .list .ensures .1))
 
 same-length : tie.Need-same-length Inv-loop μ-loop
 same-length c =
-    let at-loop = c .before .before .before .before .before .before .before .before in
+    let at-loop = c .before .before .before .before .before .before .before .before .before .before in
     at-loop .loop .inv .1 .long
 
 returns-2 : tie.Need-returns-2 Inv-loop μ-loop
 returns-2 c =
-    let at-body = c .before .before .before .before in
+    let at-body = c .before .before .before .before .before .before in
     let at-loop = at-body .before .before .before .before in
     scan-unknown (at-loop .loop .inv .1 .here (omega arith)) (omega arith) (at-body .body .ensures .is) (c .if7 .taken)
 
@@ -125,12 +125,11 @@ loop-less-6 c = omega arith
 
 loop-again-6 : tie.Need-loop-again-6 Inv-loop μ-loop
 loop-again-6 c =
-    let at-unknown = c .before .before .before .before in
-    let at-body = at-unknown .before .before .before .before in
+    let at-body = c .before .before .before .before .before .before .before .before .before .before in
     let at-loop = at-body .before .before .before .before in (
       refl,
-      scan-mark (at-loop .loop .inv .1 .here (omega arith)) (omega arith) (at-body .body .ensures .is) (at-unknown .if7 .left) (omega arith) (at-unknown .before .before .if5 .left)
-          (c .before .before .mark5 .ensures .0),
+      scan-mark (at-loop .loop .inv .1 .here (omega arith)) (omega arith) (at-body .body .ensures .is) (c .before .before .before .before .if7 .left) (omega arith)
+          (c .before .before .before .before .before .if6 .left) (c .before .before .mark5 .ensures .0),
     )
 
 same-length-2 : tie.Need-same-length-2 Inv-loop μ-loop
@@ -166,12 +165,12 @@ scan-spec =
     mark-requires-3
     loop-less-3
     loop-again-3
+    mark-requires-4
+    loop-less-4
+    loop-again-4
     list-requires
     add-k
     add-p
-    loop-less-4
-    loop-again-4
-    mark-requires-4
     loop-less-5
     loop-again-5
     same-length
