@@ -33,6 +33,10 @@ pub fn cut_to(l: &mut [u32], new: usize, old: usize)
     if old <= new {
         return;
     }
+    if old - new <= 8 {
+        pop_eight(l, new, old);
+        return;
+    }
     clear(l, new, old);
 }
 
@@ -44,6 +48,14 @@ fn pop_one(l: &mut [u32], new: usize, old: usize)
     if old <= new {
         return;
     }
+    l[new] = 0;
+}
+
+// Where exactly one goes: no test.
+fn pop_last(l: &mut [u32], new: usize, old: usize)
+    requires { ⌜ Topped old (now l) × (old ≡ new + 1) ⌝ }
+    ensures { λ _. ⌜ now (l .exit) ≡ cut new (now (l .entry)) ⌝ }
+{
     l[new] = 0;
 }
 
@@ -72,6 +84,20 @@ fn pop_four(l: &mut [u32], new: usize, old: usize)
     let middle = old - 2;
     pop_two(l, middle, old);
     pop_two(l, new, middle);
+}
+
+// Where at most eight go.
+fn pop_eight(l: &mut [u32], new: usize, old: usize)
+    requires { ⌜ Topped old (now l) × (new ≤ old) × (old ≤ new + 8) ⌝ }
+    ensures { λ _. ⌜ now (l .exit) ≡ cut new (now (l .entry)) ⌝ }
+{
+    if old - new <= 4 {
+        pop_four(l, new, old);
+        return;
+    }
+    let middle = old - 4;
+    pop_four(l, middle, old);
+    pop_four(l, new, middle);
 }
 
 // 73 in the first frame: the run is finished.
@@ -157,8 +183,13 @@ pub fn plain(main: &mut [u32], ptr: &mut [u32], heap: &mut [u32], regs: Regs, pu
     let into = put.into;
     let at = put.at;
     match into {
-        Into::Nothing => {
-            pop_one(main, put.mtop, regs.mtop);
+        Into::Nothing => true,
+        Into::Pop => {
+            pop_last(main, put.mtop, regs.mtop);
+            true
+        }
+        Into::Push => {
+            main[at] = put.word;
             true
         }
         Into::Main => {
