@@ -25,22 +25,7 @@ fn clear(l: &mut [u32], new: usize, old: usize)
     }
 }
 
-// The stack cut to its new top, however many words go.
-pub fn cut_to(l: &mut [u32], new: usize, old: usize)
-    requires { ⌜ Topped old (now l) ⌝ }
-    ensures { λ _. ⌜ now (l .exit) ≡ cut new (now (l .entry)) ⌝ }
-{
-    if old <= new {
-        return;
-    }
-    if old - new <= 8 {
-        pop_eight(l, new, old);
-        return;
-    }
-    clear(l, new, old);
-}
-
-// The same where at most one word goes, with no loop: a loop among the steps of a run takes the registers that these need.
+// The stack cut to its new top where at most one word goes, with no loop: a loop among the steps of a run takes the registers that these need.
 fn pop_one(l: &mut [u32], new: usize, old: usize)
     requires { ⌜ Topped old (now l) × (old ≤ new + 1) ⌝ }
     ensures { λ _. ⌜ now (l .exit) ≡ cut new (now (l .entry)) ⌝ }
@@ -98,6 +83,21 @@ fn pop_eight(l: &mut [u32], new: usize, old: usize)
     let middle = old - 4;
     pop_four(l, middle, old);
     pop_four(l, new, middle);
+}
+
+// The same however many words go; few of them without a loop.
+pub fn cut_to(l: &mut [u32], new: usize, old: usize)
+    requires { ⌜ Topped old (now l) ⌝ }
+    ensures { λ _. ⌜ now (l .exit) ≡ cut new (now (l .entry)) ⌝ }
+{
+    if old <= new {
+        return;
+    }
+    if old - new <= 8 {
+        pop_eight(l, new, old);
+        return;
+    }
+    clear(l, new, old);
 }
 
 // 73 in the first frame: the run is finished.
