@@ -15,7 +15,7 @@ use Rattle.flow.specs.declared.Verdict.{Verdict}
 use Rattle.flow.specs.declared.Verdict.the-variants.{Pass, Refuse}
 use Rattle.heap.specs.Table.{Marks}
 use Rattle.places.specs.Places.{Ready, passed-ready}
-use Rattle.admit.specs.Admit.{Shown, Admitted, tested-refused, tested-on}
+use Rattle.admit.specs.Admit.{Shown, Marked, tested-refused, tested-on}
 use Rattle.admit.specs.declared.Tested.{Tested}
 use Rattle.admit.specs.declared.Tested.the-variants.{Sound, Unfit}
 use Rattle.model.specs.declared.Regs.{Regs}
@@ -26,30 +26,30 @@ judged (Sound k r) rest l = rest l
 judged (Unfit n p) rest l = answers (Refused n p) l
 
 -- a state that was let through: the file has k procedures, and these are the registers
-pub record Through (l : Lent) (map table : List ℕ) (marks : List Bool) (k : ℕ) (r : Regs) : Type 0 where
-  pub shown : Shown l map table marks k
+pub record Through (l : Lent) (map table : List ℕ) (k : ℕ) (r : Regs) : Type 0 where
+  pub shown : Shown l map table k
   pub regs-are : r ≡ regsFrom (l .bytes)
   pub sound : sound? (l .file) map (machineOf (withMap map l)) ≡ true
 
-pub record TestedAs (l : Lent) (map table : List ℕ) (marks : List Bool) (t : Tested) : Type 0 where
+pub record TestedAs (l : Lent) (map table : List ℕ) (t : Tested) : Type 0 where
   pub is : (rest : Lent → After) → testedForRun l rest ≡ judged t rest (withMap map l)
-  pub through : (k : ℕ) (r : Regs) → t ≡ Sound k r → Through l map table marks k r
+  pub through : (k : ℕ) (r : Regs) → t ≡ Sound k r → Through l map table k r
 
 unfit-sound : {A : Type 0} (n p k : ℕ) (r : Regs) → Unfit n p ≡ Sound k r → A
 unfit-sound n p k r e = let y : _≡_ {A = ℕ} 0 1 = cc in absurd (omega arith)
 
-module _ (l : Lent) (map table : List ℕ) (marks : List Bool) (v : Verdict) (A : Admitted l map table marks v) where
+module _ (l : Lent) (map table : List ℕ) (marks : List Bool) (v : Verdict) (A : Marked l map table marks v) where
   -- the tests on the state, then the rest
   abbrev then : (Lent → After) → Lent → After
   then rest l′ = demand (soundTests l′) 12 l′ (rest l′)
 
-  pub test-refused : (n p : ℕ) → v ≡ Refuse n p → TestedAs l map table marks (Unfit n p)
+  pub test-refused : (n p : ℕ) → v ≡ Refuse n p → TestedAs l map table (Unfit n p)
   test-refused n p e =
-      record { is = λ rest. sym (tested-refused l map table marks v A (then rest) n p e); through = λ k r z. unfit-sound n p k r z }
+      record { is = λ rest. sym (tested-refused l map table v (A .found) (then rest) n p e); through = λ k r z. unfit-sound n p k r z }
 
   module _ (k : ℕ) (e : v ≡ Pass k) where
-    S : Shown l map table marks k
-    S = A .shown k e
+    S : Shown l map table k
+    S = A .found .shown k e
 
     pub test-ready : Bytes (l .file) → Ready (l .file) map table k
     test-ready B = passed-ready (l .file) (l .map) map table k B (S .passes) (S .placed)
@@ -62,30 +62,30 @@ module _ (l : Lent) (map table : List ℕ) (marks : List Bool) (v : Verdict) (A 
         (t-is : (h : List ℕ) → Marks (objectsOf h) marks →
         t ≡ sound? (l .file) map (record { regs = r; main = l .main; ptr = l .ptr; ctl = l .ctl; heap = h })) where
       sound-is : t ≡ sound? (l .file) map (machineOf (withMap map l))
-      sound-is = t-is (l .heap) (S .marked) ∙ rw r-is
+      sound-is = t-is (l .heap) (A .marks-are k e) ∙ rw r-is
 
-      pub test-unsound : t ≡ false → TestedAs l map table marks (Unfit 12 0)
+      pub test-unsound : t ≡ false → TestedAs l map table (Unfit 12 0)
       test-unsound w =
           record {
-            is = λ rest. sym (tested-on l map table marks v A (then rest) k e) ∙ rw (sym sound-is ∙ w);
+            is = λ rest. sym (tested-on l map table v (A .found) (then rest) k e) ∙ rw (sym sound-is ∙ w);
             through = λ j s z. unfit-sound 12 0 j s z;
           }
 
-      pub test-sound : t ≡ true → TestedAs l map table marks (Sound k r)
+      pub test-sound : t ≡ true → TestedAs l map table (Sound k r)
       test-sound w =
           record {
-            is = λ rest. sym (tested-on l map table marks v A (then rest) k e) ∙ rw (sym sound-is ∙ w);
+            is = λ rest. sym (tested-on l map table v (A .found) (then rest) k e) ∙ rw (sym sound-is ∙ w);
             through = λ j s z. go j s z;
           }
         where
-          go : (j : ℕ) (s : Regs) → Sound k r ≡ Sound j s → Through l map table marks j s
+          go : (j : ℕ) (s : Regs) → Sound k r ≡ Sound j s → Through l map table j s
           go j s z =
               let a : k ≡ j = cc in
               let b : r ≡ s = cc in
               record { shown = rw a at S; regs-are = sym b ∙ r-is; sound = sym sound-is ∙ w }
 
 -- what a call comes to that begins with these tests
-module _ (l : Lent) (map table : List ℕ) (marks : List Bool) (t : Tested) (T : TestedAs l map table marks t) (rest : Lent → After) where
+module _ (l : Lent) (map table : List ℕ) (t : Tested) (T : TestedAs l map table t) (rest : Lent → After) where
   pub for-run-refused : (n p : ℕ) → t ≡ Unfit n p → answers (Refused n p) (withMap map l) ≡ testedForRun l rest
   for-run-refused n p e = sym (T .is rest ∙ ap (λ (x : Tested). judged x rest (withMap map l)) e)
 

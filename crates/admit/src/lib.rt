@@ -1,12 +1,19 @@
 // What start and run test: refusals 1 to 11 and 12 for the length of the register list; then, for run, the state.
 ghost use mathlib.Core.Path.{_≡_};
 ghost use Rattle.model.specs.Choice.{all};
-ghost use Rattle.admit.specs.Admit.{lengthList, Tables, Admitted};
+ghost use lib.ListN.{replicate};
+ghost use Rattle.admit.specs.Admit.{lengthList, Tables, Admitted, Marked};
 ghost use Rattle.admit.specs.Tested.{TestedAs};
 use code::Head;
 use flow::Verdict;
 use heap::HeapAudit;
 use model::Regs;
+
+// A heap of so many words at most is short.
+const FEW: usize = 2048;
+
+// No heap has more words.
+const MOST: usize = 16384;
 
 // Refusal 10: the lent lengths, with the head of procedure 0.
 fn lengths_right(head: Head, main: usize, ptr: usize, ctl: usize, heap: usize) -> bool
@@ -44,19 +51,19 @@ fn lengths_right(head: Head, main: usize, ptr: usize, ctl: usize, heap: usize) -
 
 // Refusals 1 to 11, and 12 for the length of the register list. Where there is none, the table has the heads of so many procedures, and the
 // heap's objects are marked.
-pub fn admit(
+fn admit_with(
     file: &[u8],
     map: &mut [u16],
     table: &mut [usize; 64],
-    marks: &mut [bool; 16384],
+    marks: &mut [bool],
     main: &[u32],
     ptr: &[u32],
     ctl: &[u32],
     heap: &[u32],
     bytes: &[u8],
 ) -> Verdict
-    requires { ⌜ Tables (now table) (now marks) ⌝ }
-    ensures { λ r. ⌜ Admitted (record {
+    requires { ⌜ Tables (now table) (now marks) (now heap) ⌝ }
+    ensures { λ r. ⌜ Marked (record {
       file = now (file .entry);
       map = now (map .entry);
       main = now (main .entry);
@@ -88,6 +95,36 @@ pub fn admit(
     }
 }
 
+// The same with marks of its own. A short heap is given a short table: to clear the long one takes longer than to test a short heap.
+pub fn admit(
+    file: &[u8],
+    map: &mut [u16],
+    table: &mut [usize; 64],
+    main: &[u32],
+    ptr: &[u32],
+    ctl: &[u32],
+    heap: &[u32],
+    bytes: &[u8],
+) -> Verdict
+    requires { ⌜ now table ≡ replicate 64 0 ⌝ }
+    ensures { λ r. ⌜ Admitted (record {
+      file = now (file .entry);
+      map = now (map .entry);
+      main = now (main .entry);
+      ptr = now (ptr .entry);
+      ctl = now (ctl .entry);
+      heap = now (heap .entry);
+      bytes = now (bytes .entry);
+    }) (now (map .exit)) (now (table .exit)) r ⌝ }
+{
+    if heap.len() <= FEW {
+        let mut few = [false; FEW];
+        return admit_with(file, map, table, &mut few, main, ptr, ctl, heap, bytes);
+    }
+    let mut marks = [false; MOST];
+    admit_with(file, map, table, &mut marks, main, ptr, ctl, heap, bytes)
+}
+
 // What the tests of a run find: a sound state of a file with so many procedures, and its registers; or a refusal, its number and its place.
 pub enum Tested {
     Sound(usize, Regs),
@@ -95,18 +132,18 @@ pub enum Tested {
 }
 
 // All that run tests, 1 to 12.
-pub fn test_for_run(
+fn test_with(
     file: &[u8],
     map: &mut [u16],
     table: &mut [usize; 64],
-    marks: &mut [bool; 16384],
+    marks: &mut [bool],
     main: &[u32],
     ptr: &[u32],
     ctl: &[u32],
     heap: &[u32],
     bytes: &[u8],
 ) -> Tested
-    requires { ⌜ Tables (now table) (now marks) ⌝ }
+    requires { ⌜ Tables (now table) (now marks) (now heap) ⌝ }
     ensures { λ r. ⌜ TestedAs (record {
       file = now (file .entry);
       map = now (map .entry);
@@ -115,9 +152,9 @@ pub fn test_for_run(
       ctl = now (ctl .entry);
       heap = now (heap .entry);
       bytes = now (bytes .entry);
-    }) (now (map .exit)) (now (table .exit)) (now (marks .exit)) r ⌝ }
+    }) (now (map .exit)) (now (table .exit)) r ⌝ }
 {
-    let v = admit(file, map, table, marks, main, ptr, ctl, heap, bytes);
+    let v = admit_with(file, map, table, marks, main, ptr, ctl, heap, bytes);
     match v {
         Verdict::Refuse(n, p) => Tested::Unfit(n, p),
         Verdict::Pass(k) => {
@@ -128,4 +165,34 @@ pub fn test_for_run(
             Tested::Unfit(12, 0)
         }
     }
+}
+
+// The same with marks of its own.
+pub fn test_for_run(
+    file: &[u8],
+    map: &mut [u16],
+    table: &mut [usize; 64],
+    main: &[u32],
+    ptr: &[u32],
+    ctl: &[u32],
+    heap: &[u32],
+    bytes: &[u8],
+) -> Tested
+    requires { ⌜ now table ≡ replicate 64 0 ⌝ }
+    ensures { λ r. ⌜ TestedAs (record {
+      file = now (file .entry);
+      map = now (map .entry);
+      main = now (main .entry);
+      ptr = now (ptr .entry);
+      ctl = now (ctl .entry);
+      heap = now (heap .entry);
+      bytes = now (bytes .entry);
+    }) (now (map .exit)) (now (table .exit)) r ⌝ }
+{
+    if heap.len() <= FEW {
+        let mut few = [false; FEW];
+        return test_with(file, map, table, &mut few, main, ptr, ctl, heap, bytes);
+    }
+    let mut marks = [false; MOST];
+    test_with(file, map, table, &mut marks, main, ptr, ctl, heap, bytes)
 }

@@ -23,7 +23,7 @@ use Rattle.model.specs.Step.{next, outcome, instruct, step}
 use Rattle.model.specs.declared.Value.{Value}
 use Rattle.model.specs.declared.Value.the-variants.{Word, Outside}
 use Rattle.code.specs.Codes.{call-byte, callee-is, call-after}
-use Rattle.bridge.specs.declared.Into.the-variants.{Nothing, View}
+use Rattle.bridge.specs.declared.Into.the-variants.{Nothing, Pop, View}
 use Rattle.bridge.specs.declared.Put.{Put}
 use Rattle.bridge.specs.declared.Plan.{Plan}
 use Rattle.bridge.specs.declared.Plan.the-variants.{NilObject, NoSuchWord, HeapFull}
@@ -240,9 +240,9 @@ module _ (f : List ℕ) (m : Machine) (q : ℕ) where
 
   -- the two ways of a branch: the word popped, or nothing changed
   module _ (x : Ins) (A : Apt f m x) (t : ℕ) where
-    popped : Comes (plan.write Nothing t (mtop m - 1) (ptop m) 0 0) (done (goTo t (popMain 1 m)))
+    popped : 1 ≤ mtop m → Comes (plan.write Pop t (mtop m - 1) (ptop m) 0 0) (done (goTo t (popMain 1 m)))
     unfolding settle applied applyInto
-    popped = comes (same refl refl refl (ptr-same x A)) (gone (omega arith) (omega arith))
+    popped h = comes (same refl refl refl (ptr-same x A)) (omega arith, gone (omega arith) (omega arith))
 
     stayed : Comes (plan.write Nothing t (mtop m) (ptop m) 0 0) (done (goTo t m))
     unfolding settle applied applyInto
@@ -252,19 +252,19 @@ module _ (f : List ℕ) (m : Machine) (q : ℕ) where
   unfolding planOf rule settle applied applyInto effectOf
   agrees (basic b) d e A = basic-comes b A
   agrees (jump t) d e A = stayed _ A t
-  agrees (branch false t) d e A = popped _ A _
-  agrees (branch true t) d e A = popped _ A _
+  agrees (branch false t) d e A = popped _ A _ (A .pop-main)
+  agrees (branch true t) d e A = popped _ A _ (A .pop-main)
   agrees (branchKeep false t) d e A =
-      both (λ u. if u then plan.write Nothing q (mtop m - 1) (ptop m) 0 0 else plan.write Nothing t (mtop m) (ptop m) 0 0)
+      both (λ u. if u then plan.write Pop q (mtop m - 1) (ptop m) 0 0 else plan.write Nothing t (mtop m) (ptop m) 0 0)
       (λ u. if u then goTo q (popMain 1 m) else goTo t m)
-      (popped _ A q)
+      (popped _ A q (A .pop-main))
       (stayed _ A t)
       (truth (mainWord m 1))
   agrees (branchKeep true t) d e A =
-      both (λ u. if u then plan.write Nothing t (mtop m) (ptop m) 0 0 else plan.write Nothing q (mtop m - 1) (ptop m) 0 0)
+      both (λ u. if u then plan.write Nothing t (mtop m) (ptop m) 0 0 else plan.write Pop q (mtop m - 1) (ptop m) 0 0)
       (λ u. if u then goTo t m else goTo q (popMain 1 m))
       (stayed _ A t)
-      (popped _ A q)
+      (popped _ A q (A .pop-main))
       (truth (mainWord m 1))
   agrees (call n) d e A =
       let b = call-after f (m .regs .place) (call-byte f (m .regs .place) n e) in

@@ -14,7 +14,7 @@ use Rattle.model.specs.Instructions.{callTests}
 use Rattle.model.specs.declared.Value.{Value}
 use Rattle.model.specs.declared.Value.the-variants.{Word, Outside}
 use Rattle.bridge.specs.declared.Into.{Into}
-use Rattle.bridge.specs.declared.Into.the-variants.{Nothing, Main, Pointer, Heap, Read, Drop, DropMain, DropPointer, View, Frame, Return, Handler, Close}
+use Rattle.bridge.specs.declared.Into.the-variants.{Nothing, Pop, Push, Main, Pointer, Heap, Read, Drop, DropMain, DropPointer, View, Frame, Return, Handler, Close}
 use Rattle.bridge.specs.declared.Put.{Put}
 use Rattle.bridge.specs.declared.Plan.{Plan}
 use Rattle.bridge.specs.declared.Plan.the-variants.{Write, OutOfRange, NilObject, NoSuchWord, HeapFull, NoRoom, Thrown}
@@ -38,7 +38,7 @@ onValue Outside plan = OutOfRange
 -- 58 "push heap word 1", 59 "pop into it"; 60, 62, 64 "set the top aside (not 64), drop main and pointer words, put it back";
 -- 140 to 143, 145 "pop B, pop A, push A op B"; 130, 195 to 204 push 1 or 0; 144, 146 on one word; 131 compares two pointers
 unfoldable pub basicPlan : Machine → ℕ → Basic → Plan
-basicPlan m q (local onMain s) = write Main q (mtop m + 1) (ptop m) (mtop m) (wordAt (m .main) (running m .mainBase + s))
+basicPlan m q (local onMain s) = write Push q (mtop m + 1) (ptop m) (mtop m) (wordAt (m .main) (running m .mainBase + s))
 basicPlan m q (local onPtr s) = write Pointer q (mtop m) (ptop m + 1) (ptop m) (wordAt (m .ptr) (running m .ptrBase + s))
 basicPlan m q (assign onMain s) = write Main q (mtop m - 1) (ptop m) (running m .mainBase + s) (mainWord m 1)
 basicPlan m q (assign onPtr s) = write Pointer q (mtop m) (ptop m - 1) (running m .ptrBase + s) (ptrWord m 1)
@@ -58,7 +58,7 @@ basicPlan m q (make (form k n)) =
     if leb (markOf (m .heap) + (2 + k + n)) (length (m .heap))
     then write View q (mtop m - k) (ptop m - n + 1) (ptop m - n) (markOf (m .heap))
     else HeapFull
-basicPlan m q (literal w) = write Main q (mtop m + 1) (ptop m) (mtop m) w
+basicPlan m q (literal w) = write Push q (mtop m + 1) (ptop m) (mtop m) w
 basicPlan m q nil = write Pointer q (mtop m) (ptop m + 1) (ptop m) 0
 basicPlan m q root = write Pointer q (mtop m) (ptop m + 1) (ptop m) (rootOf (m .heap))
 basicPlan m q setRoot = write Heap q (mtop m) (ptop m - 1) 1 (ptrWord m 1)
@@ -75,12 +75,12 @@ basicPlan m q (unary o) = onValue (operate1 o (mainWord m 1)) (λ w. write Main 
 unfoldable pub planOf : List ℕ → Machine → ℕ → Ins → Plan
 planOf f m q (basic b) = basicPlan m q b
 planOf f m q (jump t) = write Nothing t (mtop m) (ptop m) 0 0
-planOf f m q (branch false t) = write Nothing (if truth (mainWord m 1) then q else t) (mtop m - 1) (ptop m) 0 0
-planOf f m q (branch true t) = write Nothing (if truth (mainWord m 1) then t else q) (mtop m - 1) (ptop m) 0 0
+planOf f m q (branch false t) = write Pop (if truth (mainWord m 1) then q else t) (mtop m - 1) (ptop m) 0 0
+planOf f m q (branch true t) = write Pop (if truth (mainWord m 1) then t else q) (mtop m - 1) (ptop m) 0 0
 planOf f m q (branchKeep false t) =
-    if truth (mainWord m 1) then write Nothing q (mtop m - 1) (ptop m) 0 0 else write Nothing t (mtop m) (ptop m) 0 0
+    if truth (mainWord m 1) then write Pop q (mtop m - 1) (ptop m) 0 0 else write Nothing t (mtop m) (ptop m) 0 0
 planOf f m q (branchKeep true t) =
-    if truth (mainWord m 1) then write Nothing t (mtop m) (ptop m) 0 0 else write Nothing q (mtop m - 1) (ptop m) 0 0
+    if truth (mainWord m 1) then write Nothing t (mtop m) (ptop m) 0 0 else write Pop q (mtop m - 1) (ptop m) 0 0
 planOf f m q (call n) =
     if all (callTests f m n)
     then write Frame (entry f n) (mtop m) (ptop m) (mtop m - paramsMain f n) (ptop m - paramsPtr f n)

@@ -13,7 +13,7 @@ use Rattle.model.specs.Moves.{mtop, ptop, mainWord, goTo, inFrame, inHandler, c
 use Rattle.model.specs.Instructions.{codeOf, outOfRange, nilObject, noSuchWord, heapFull, noRoom}
 use Rattle.model.specs.Step.{Stepped, next, raised}
 use Rattle.bridge.specs.declared.Into.{Into}
-use Rattle.bridge.specs.declared.Into.the-variants.{Nothing, Main, Pointer, Heap, Read, Drop, DropMain, DropPointer, View, Frame, Return, Handler, Close}
+use Rattle.bridge.specs.declared.Into.the-variants.{Nothing, Pop, Push, Main, Pointer, Heap, Read, Drop, DropMain, DropPointer, View, Frame, Return, Handler, Close}
 use Rattle.bridge.specs.declared.Put.{Put}
 use Rattle.bridge.specs.declared.Plan.{Plan}
 use Rattle.bridge.specs.declared.Plan.the-variants.{Write, OutOfRange, NilObject, NoSuchWord, HeapFull, NoRoom, Thrown}
@@ -82,6 +82,8 @@ closed p m = goTo (p .place) (inHandler (handlerOf (m .ctl) (m .regs .handler) .
 -- what a plan writes
 unfoldable pub applyInto : List ℕ → Into → Put → Machine → Machine
 applyInto f Nothing p m = cutOnly p m
+applyInto f Pop p m = cutOnly p m
+applyInto f Push p m = mainSet p m
 applyInto f Main p m = mainSet p m
 applyInto f Pointer p m = ptrSet p m
 applyInto f Heap p m = heapSet p m

@@ -9,7 +9,7 @@ use Rattle.model.specs.Control.{Machine, recordWords}
 use Rattle.model.specs.Moves.{mtop, ptop}
 use Rattle.model.specs.declared.Regs.{Regs}
 use Rattle.bridge.specs.declared.Into.{Into}
-use Rattle.bridge.specs.declared.Into.the-variants.{Nothing, Main, Pointer, Heap, Read, Drop, DropMain, DropPointer, View, Frame, Return, Handler, Close}
+use Rattle.bridge.specs.declared.Into.the-variants.{Nothing, Pop, Push, Main, Pointer, Heap, Read, Drop, DropMain, DropPointer, View, Frame, Return, Handler, Close}
 use Rattle.bridge.specs.declared.Put.{Put}
 use Rattle.bridge.specs.declared.Plan.{Plan}
 use Rattle.bridge.specs.declared.Plan.the-variants.{Write, OutOfRange, NilObject, NoSuchWord, HeapFull, NoRoom, Thrown}
@@ -24,10 +24,12 @@ pub record Drops (r : Regs) (put : Put) : Type 0 where
   pub main : put .mtop ≤ r .mtop
   pub ptr : put .ptop ≤ r .ptop
 
--- a write into a list of the stacks or the heap, whose lengths are lm, lp and lh: the word lies in it, and so many words go at most;
--- of a retract only that none is added
+-- a write into a list of the stacks or the heap, whose lengths are lm, lp and lh: the word lies in it, and so many words go at most, at `Pop`
+-- exactly one; of a retract only that none is added
 abbrev pub Fits : Into → ℕ → ℕ → ℕ → Regs → Put → Type 0
-Fits Nothing lm lp lh r put = Pops 1 0 r put
+Fits Nothing lm lp lh r put = Pops 0 0 r put
+Fits Pop lm lp lh r put = (put .mtop < r .mtop) × Pops 1 0 r put
+Fits Push lm lp lh r put = (put .at < lm) × Pops 0 0 r put
 Fits Main lm lp lh r put = (put .at < lm) × Pops 1 0 r put
 Fits Pointer lm lp lh r put = (put .at < lp) × Pops 0 1 r put
 Fits Heap lm lp lh r put = (put .at < lh) × Pops 1 2 r put
@@ -61,6 +63,8 @@ pub record Calls (f : List ℕ) (put : Put) (m : Machine) : Type 0 where
 -- a plan's writes, by where they go
 abbrev pub Suits : List ℕ → Into → Put → Machine → Type 0
 Suits f Nothing put m = FitsIn Nothing put m
+Suits f Pop put m = FitsIn Pop put m
+Suits f Push put m = FitsIn Push put m
 Suits f Main put m = FitsIn Main put m
 Suits f Pointer put m = FitsIn Pointer put m
 Suits f Heap put m = FitsIn Heap put m

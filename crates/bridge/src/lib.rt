@@ -3,7 +3,9 @@
 // What an instruction writes, beside the tops and the place.
 pub enum Into {
     Nothing,
-    Main, // a word of the main stack
+    Pop, // nothing; the topmost word of the main stack goes
+    Push, // a word of the main stack, of which none goes
+    Main, // a word of the main stack, of which at most one goes
     Pointer, // a word of the pointer stack
     Heap, // a word of the heap
     Read, // a word of the main stack, had from one or two pointers, which go: 30, 131

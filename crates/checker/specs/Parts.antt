@@ -2,19 +2,19 @@
 use Prim.Native.Nat.{ℕ, zero, suc, _+_, _*_, _<_, _≤_}
 use mathlib.Core.Bool.{Bool, true, false, true≢false}
 use mathlib.Core.Logic.{inl}
-use mathlib.Core.List.{List, [], _++_}
-use mathlib.Core.Path.{_≡_, refl, sym, _∙_}
+use mathlib.Core.List.{List, _++_}
+use mathlib.Core.Path.{_≡_, refl, ap, sym, _∙_}
 use native.Mathlib.Omega.{arith}
 use lib.Dec.{eqb}
-use lib.ListN.{length, drop, replicate}
+use lib.ListN.{length, getD, drop, replicate}
 use borrow.Author.Tests.{eq-eqb, le-leb, lt-leb}
 use Rattle.model.specs.Choice.{if_then_else_}
-use Rattle.model.specs.File.{byteAt, Records, broken, starts, recordsOf, wrong, right, headsOf, headOf, entry, paramsMain, paramsPtr}
+use Rattle.model.specs.File.{byteAt, Records, recordsOf, startsIn, isHead, select, heads, wrong, right, headsOf, headOf, entry, procs, paramsMain, paramsPtr}
 use Rattle.model.specs.Checker.{none, Known, stateAt, isSet, firsts, first, mapFrom}
 use Rattle.model.specs.Calls.{overMap, wiped, pass, refuse, scanned, verdictOf, checked, answered, checkOf}
 use Rattle.exact.specs.Walk.{heads-right, walk, walk-above, after-above}
 use Rattle.scan.specs.Marks.{Shows, marked, marked-shows}
-use Rattle.scan.specs.Scanning.{foundOf, Scanned}
+use Rattle.scan.specs.Scanning.{Comes, Scanned, listed-count, listed-all}
 use Rattle.scan.specs.Heading.{Marked, Placed}
 use Rattle.flow.specs.Takes.{Fit}
 use Rattle.flow.specs.Flowing.{Begun, Flowed}
@@ -55,35 +55,34 @@ pub record Checks (f map map′ table : List ℕ) (v : Verdict) : Type 0 where
   pub placed : (n : ℕ) → v ≡ Pass n → Placed f table n
 
 -- refusal 3, and what the marked part shows
-module _ (f m m₁ m₂ table : List ℕ) (L : Lengths f m table) (one : m₁ ≡ replicate (length m) 65535) where
-  pub look-broken : (p : ℕ) (r : Found) → Scanned f m₁ m₂ r → r ≡ Broken p → Looked f m₂ table (Refuse 3 p)
-  look-broken p r S e map = go (recordsOf f) (sym (S .found) ∙ e)
-    where
-      go : (s : Records) → foundOf s ≡ Broken p → scanned f map s ≡ refuse 3 p (wiped f map)
-      go (broken q) z = let w : Broken q ≡ Broken p = z in let v : q ≡ p = cc in rw v
-      go (starts ps) z = let w : Whole ≡ Broken p = z in let v : _≡_ {A = ℕ} 0 1 = cc in absurd (omega arith)
+module _ (f m m₁ m₂ table table₂ : List ℕ) (L : Lengths f m table) (one : m₁ ≡ replicate (length m) 65535) (r : Found) (S : Scanned f m₁ m₂ table₂ r) where
+  pub look-broken : (p : ℕ) → r ≡ Broken p → Looked f m₂ table₂ (Refuse 3 p)
+  look-broken p e map = let w : Comes f m₁ m₂ table₂ (Broken p) = rw e at (S .comes) in rw w
 
-  pub look-whole : (r : Found) → Scanned f m₁ m₂ r → r ≡ Whole → Marked f m₂ table
-  look-whole r S e =
-      record { some = L .some; few = L .few; bytes = L .bytes; whole = sym (S .found) ∙ e; shows = go (recordsOf f) refl (sym (S .found) ∙ e); empty = L .empty }
-    where
-      go : (s : Records) → recordsOf f ≡ s → foundOf s ≡ Whole → Shows f [] m₂
-      go (broken q) w z = let x : Broken q ≡ Whole = z in let v : _≡_ {A = ℕ} 0 1 = cc in absurd (omega arith)
-      go (starts ps) w z =
-          let a : m₂ ≡ marked f (replicate (3 * length f) none) ps = S .marks e ∙ rw (w, one, L .part) in
-          rw a (marked-shows f ps w (λ p i. let b = walk-above f 0 ps (walk f ps w) p i .1 in let c = after-above f p in omega arith))
+  pub look-whole : (n last : ℕ) → r ≡ Whole n last → Marked f m₂ table₂ n last
+  unfolding procs headOf heads
+  look-whole n last e =
+      let C : Comes f m₁ m₂ table₂ (Whole n last) = rw e at (S .comes) in
+      let hs = select (isHead f) (C .0) in
+      let same : heads f ≡ hs = ap (λ (s : Records). select (isHead f) (startsIn s)) (C .1) in
+      let a : m₂ ≡ marked f (replicate (3 * length f) none) (C .0) = C .2 ∙ ap (λ (x : List ℕ). marked f x (C .0)) (one ∙ ap (λ (k : ℕ). replicate k none) (L .part)) in
+      record {
+        some = L .some;
+        few = L .few;
+        bytes = L .bytes;
+        places = C .0;
+        whole = C .1;
+        shows = rw a
+            (marked-shows f (C .0) (C .1) (λ p i. let b = walk-above f 0 (C .0) (walk f (C .0) (C .1)) p i .1 in let c = after-above f p in omega arith));
+        count = listed-count table₂ hs n last (C .3) ∙ ap length (sym same);
+        listed = λ i l. listed-all table₂ hs n last (C .3) i l ∙ ap (λ (h : List ℕ). getD h i 0) (sym same);
+        later = λ l. C .3 .later l ∙ ap (λ (h : List ℕ). getD h 64 0) (sym same);
+      }
 
 -- refusal 4, and what the flow begins with
-module _ (f m table : List ℕ) (M : Marked f m table) where
-  whole-starts : (ps : List ℕ) × (recordsOf f ≡ starts ps)
-  whole-starts = go (recordsOf f) refl (M .whole)
-    where
-      go : (s : Records) → recordsOf f ≡ s → foundOf s ≡ Whole → (ps : List ℕ) × (recordsOf f ≡ starts ps)
-      go (broken q) w z = let x : Broken q ≡ Whole = z in let v : _≡_ {A = ℕ} 0 1 = cc in absurd (omega arith)
-      go (starts ps) w z = (ps, w)
-
-  pub look-wrong : (m₁ table₁ : List ℕ) (p : ℕ) → headsOf f ≡ wrong p → Looked f m₁ table₁ (Refuse 4 p)
-  look-wrong m₁ table₁ p e map = rw (whole-starts .1, e)
+module _ (f m table : List ℕ) (n last : ℕ) (M : Marked f m table n last) where
+  pub look-wrong : (m₁ : List ℕ) (p : ℕ) → headsOf f ≡ wrong p → Looked f m₁ table (Refuse 4 p)
+  look-wrong m₁ p e map = rw (M .whole, e)
 
   -- the first states fit the map
   abbrev Small : Known → ℕ → Type 0
@@ -106,25 +105,25 @@ module _ (f m table : List ℕ) (M : Marked f m table) where
       let z = eq-eqb (stateAt (firsts f n) q .inner) none (w .2) in
       record { main-byte = w .0; ptr-byte = w .1; held = inl (w .2); main-above = rw z (omega arith); ptr-above = rw z (omega arith) }
 
-  pub look-begun : (m₁ table₁ : List ℕ) (k : ℕ) → (headsOf f ≡ right) × Placed f table₁ k × Shows f (firsts f k) m₁ → Begun f m₁ table₁ k
-  look-begun m₁ table₁ k H =
+  pub look-begun : (m₁ : List ℕ) (k : ℕ) → (headsOf f ≡ right) × Placed f table k × Shows f (firsts f k) m₁ → Begun f m₁ table k
+  look-begun m₁ k H =
       record {
         some = M .some;
         few = M .few;
         bytes = M .bytes;
-        places = whole-starts .0;
-        records = whole-starts .1;
+        places = M .places;
+        records = M .whole;
         heads-hold = heads-right f (H .0);
         placed = H .1;
         good = record { shows = H .2; fits = firsts-fit k };
       }
 
   -- the heads are right, and what the flow comes to decides
-  pub look-flow : (m₁ m₂ table₁ : List ℕ) (k : ℕ) (v : Verdict) → (headsOf f ≡ right) × Placed f table₁ k × Shows f (firsts f k) m₁ →
-      Flowed f m₂ k v → Looked f m₂ table₁ v
-  look-flow m₁ m₂ table₁ k (Pass n) H F =
-      (F .1 .0, (λ map. rw (whole-starts .1, H .0, F .1 .1)), F .1 .2, rw (F .0) (H .1))
-  look-flow m₁ m₂ table₁ k (Refuse n p) H F = λ map. rw (whole-starts .1, H .0, F)
+  pub look-flow : (m₁ m₂ : List ℕ) (k : ℕ) (v : Verdict) → (headsOf f ≡ right) × Placed f table k × Shows f (firsts f k) m₁ →
+      Flowed f m₂ k v → Looked f m₂ table v
+  look-flow m₁ m₂ k (Pass j) H F =
+      (F .1 .0, (λ map. rw (M .whole, H .0, F .1 .1)), F .1 .2, rw (F .0) (H .1))
+  look-flow m₁ m₂ k (Refuse j p) H F = λ map. rw (M .whole, H .0, F)
 
 -- a passed file keeps its part, a refused one has it filled
 pub fill-kept : (f m table : List ℕ) (v : Verdict) → ((n p : ℕ) → v ≡ Refuse n p → ⊥) → Looked f m table v → Filled f m table v

@@ -10,12 +10,12 @@ use model::Answer;
 use scan::Found;
 use scan::Heads;
 
-// Refusals 4 to 9, of a file whose records are marked in its part of the map.
-fn look(file: &[u8], m: &mut [u16], table: &mut [usize; 64]) -> Verdict
-    requires { ⌜ Marked (now file) (now m) (now table) ⌝ }
-    ensures { λ r. ⌜ Looked (now (file .entry)) (now (m .exit)) (now (table .exit)) r ⌝ }
+// Refusals 4 to 9, of a file whose records are marked in its part of the map; n heads are in the table, and the 65th stands at last.
+fn look(file: &[u8], m: &mut [u16], table: &[usize; 64], n: usize, last: usize) -> Verdict
+    requires { ⌜ Marked (now file) (now m) (now table) n last ⌝ }
+    ensures { λ r. ⌜ Looked (now (file .entry)) (now (m .exit)) (now (table .entry)) r ⌝ }
 {
-    let heads = scan::heads_of(file, m, table);
+    let heads = scan::heads_of(file, m, table, n, last);
     match heads {
         Heads::Wrong(p) => Verdict::Refuse(4, p),
         Heads::Right(k) => flow::flow(file, m, table, k),
@@ -28,10 +28,10 @@ fn passes(file: &[u8], m: &mut [u16], table: &mut [usize; 64]) -> Verdict
     ensures { λ r. ⌜ Looked (now (file .entry)) (now (m .exit)) (now (table .exit)) r ⌝ }
 {
     scan::fill(m);
-    let found = scan::scan(file, m);
+    let found = scan::scan(file, m, table);
     match found {
         Found::Broken(p) => Verdict::Refuse(3, p),
-        Found::Whole => look(file, m, table),
+        Found::Whole(n, last) => look(file, m, table, n, last),
     }
 }
 

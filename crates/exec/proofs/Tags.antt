@@ -26,12 +26,14 @@ apart i j u e = u (ap (tagOf made.the-type) e)
 
 -- the writes into the stacks and the heap
 abbrev noRecord : List ℕ
-noRecord = 0 ∷ 1 ∷ 2 ∷ 3 ∷ 4 ∷ 5 ∷ 6 ∷ 7 ∷ []
+noRecord = 0 ∷ 1 ∷ 2 ∷ 3 ∷ 4 ∷ 5 ∷ 6 ∷ 7 ∷ 8 ∷ 9 ∷ []
 
 pub plain-write : (f : List ℕ) (i : Into) (put : Put) (m : Machine) → OneOf noRecord (tagOf made.the-type i) → Suits f i put m →
     FitsIn i put m × (plainly i put m ≡ applyInto f i put m)
 unfolding applyInto
 plain-write f into.Nothing put m k s = (s, refl)
+plain-write f into.Pop put m k s = (s, refl)
+plain-write f into.Push put m k s = (s, refl)
 plain-write f into.Main put m k s = (s, refl)
 plain-write f into.Pointer put m k s = (s, refl)
 plain-write f into.Heap put m k s = (s, refl)
@@ -39,15 +41,15 @@ plain-write f into.Read put m k s = (s, refl)
 plain-write f into.Drop put m k s = (s, refl)
 plain-write f into.DropMain put m k s = (s, refl)
 plain-write f into.DropPointer put m k s = (s, refl)
-plain-write f into.View put m k s = absurd (miss noRecord 8 tt k)
-plain-write f into.Frame put m k s = absurd (miss noRecord 9 tt k)
-plain-write f into.Return put m k s = absurd (miss noRecord 10 tt k)
-plain-write f into.Handler put m k s = absurd (miss noRecord 11 tt k)
-plain-write f into.Close put m k s = absurd (miss noRecord 12 tt k)
+plain-write f into.View put m k s = absurd (miss noRecord 10 tt k)
+plain-write f into.Frame put m k s = absurd (miss noRecord 11 tt k)
+plain-write f into.Return put m k s = absurd (miss noRecord 12 tt k)
+plain-write f into.Handler put m k s = absurd (miss noRecord 13 tt k)
+plain-write f into.Close put m k s = absurd (miss noRecord 14 tt k)
 
 -- of the late ones: a return is the first frame's; all but a view and a return are retracts
 abbrev noReturn : List ℕ
-noReturn = 0 ∷ 1 ∷ 2 ∷ 3 ∷ 4 ∷ 5 ∷ 6 ∷ 7 ∷ 9 ∷ 11 ∷ 12 ∷ []
+noReturn = 0 ∷ 1 ∷ 2 ∷ 3 ∷ 4 ∷ 5 ∷ 6 ∷ 7 ∷ 8 ∷ 9 ∷ 11 ∷ 13 ∷ 14 ∷ []
 
 pub late-return : (i : Into) (r : Regs) → Late i r → i ≡ into.Return → r .frame ≡ 1
 late-return i r (inl (inl e)) u = absurd (apart into.Drop into.Return (λ t. omega arith) (sym e ∙ u))
@@ -58,8 +60,8 @@ late-return i r (inr (inr e)) u = e .1
 
 pub late-retract : (i : Into) (r : Regs) → Late i r → OneOf noReturn (tagOf made.the-type i) → Retract i
 late-retract i r (inl e) k = e
-late-retract i r (inr (inl e)) k = absurd (miss noReturn 8 tt (rw e at k))
-late-retract i r (inr (inr e)) k = absurd (miss noReturn 10 tt (rw (e .0) at k))
+late-retract i r (inr (inl e)) k = absurd (miss noReturn 10 tt (rw e at k))
+late-retract i r (inr (inr e)) k = absurd (miss noReturn 12 tt (rw (e .0) at k))
 
 -- all plans but writes
 abbrev raising : List ℕ

@@ -166,6 +166,8 @@ module _ (put : Put) (m : Machine) (main ptr heap : List ℕ) where
 -- a plain write leaves the registers on
 pub plainly-state : (i : Into) (put : Put) (m : Machine) → plainly i put m .regs .state ≡ m .regs .state
 plainly-state into.Nothing put m = refl
+plainly-state into.Pop put m = refl
+plainly-state into.Push put m = refl
 plainly-state into.Main put m = refl
 plainly-state into.Pointer put m = refl
 plainly-state into.Heap put m = refl

@@ -5,9 +5,11 @@ ghost use mathlib.Core.List.{List};
 ghost use Prim.Native.Nat.{ℕ, _+_, _*_, _<_, _≤_};
 ghost use lib.ListN.{length};
 ghost use Rattle.model.specs.File.{operand, headOf};
+ghost use Rattle.model.specs.Words.{cut};
 ghost use Rattle.model.specs.Control.{frameOf};
 ghost use Rattle.model.specs.Step.{raised};
 ghost use Rattle.bridge.specs.Settled.{applied, settle};
+ghost use Rattle.sound.specs.Lists.{Topped};
 ghost use Rattle.writes.specs.Asks.{onwards};
 ghost use Rattle.exec.specs.Applies.{Applies, Late, Lately, Later, tried, appliedIf};
 ghost use Rattle.exec.specs.Ended.{Targets, Raises, Settles, endedOf, resumed, raisedBy};
@@ -160,6 +162,16 @@ fn resume(guard: Handler, place: usize, handler: usize, state: usize) -> Regs
     }
 }
 
+// A handler's record and those above it go. The topmost goes by itself: often it is the only one, and needs no loop.
+fn unwind(ctl: &mut [u32], under: usize, top: usize)
+    requires { ⌜ Topped top (now ctl) × (under + 5 ≤ top) ⌝ }
+    ensures { λ _. ⌜ now (ctl .exit) ≡ cut under (now (ctl .entry)) ⌝ }
+{
+    let rest = top - RECORD;
+    layout::clear_record(ctl, rest);
+    writes::cut_to(ctl, under, rest);
+}
+
 // Raises an exception, all in one step: frames and the handler's record go, both stacks are cut to its tops, the code is pushed.
 pub fn raise(
     file: &[u8],
@@ -203,7 +215,7 @@ pub fn raise(
     let under = RECORD * (handler - 1);
     writes::cut_to(main, top, regs.mtop);
     writes::cut_to(ptr, guard.ptr_top, regs.ptop);
-    writes::cut_to(ctl, under, regs.ctop);
+    unwind(ctl, under, regs.ctop);
     main[top] = code;
     let next = resume(guard, place, handler, regs.state);
     Outcome {

@@ -1,14 +1,11 @@
--- The audit in parts: the tests of the registers, the records, and the words of the three stacks are `sound?`; and zeros above a top,
--- read from the top on.
-use Prim.Native.Nat.{ℕ, _+_, _*_, _/_, _<_, _≤_}
+-- The audit in parts: the tests of the registers, the records, and the words of the three stacks are `sound?`.
+use Prim.Native.Nat.{ℕ, _*_, _/_, _≤_}
 use mathlib.Core.Bool.{Bool, true, false}
 use mathlib.Core.List.{List, [], _∷_}
-use mathlib.Core.Path.{_≡_, refl, ap, sym, _∙_}
-use native.Mathlib.Numerals.{add-one}
+use mathlib.Core.Path.{_≡_, ap, sym, _∙_}
 use native.Mathlib.Omega.{arith}
 use lib.Dec.{leb, eqb}
-use lib.ListN.{length, getD, drop}
-use lib.Seq.{drop-cons}
+use lib.ListN.{length, drop}
 use borrow.Author.Tests.{eq-eqb, ne-eqb}
 use Rattle.model.specs.Choice.{if_then_else_, Test, same, most, yes?, all, All, all-true}
 use Rattle.model.specs.File.{resultsMain, resultsPtr}
@@ -16,7 +13,6 @@ use Rattle.model.specs.Heap.{objectsOf}
 use Rattle.model.specs.Control.{Machine, recordWords, down, records, rootWords}
 use Rattle.model.specs.Sound.{mainAt, ptrAt, zeros, pointers, stack?, stackTests, topmost, runningTests, finishedTests, sound?}
 use Rattle.model.specs.declared.Regs.{Regs}
-use Rattle.heap.specs.Zeros.{Zeros, none, more}
 use Rattle.records.specs.declared.Look.{Look}
 use Rattle.code.specs.declared.Head.{Head}
 use Rattle.places.specs.Places.{HeadFor}
@@ -131,15 +127,3 @@ module _ (f map : List ℕ) (m : Machine) where
 
       pub sound-rest : (r : Bool) → b ≡ true → r ≡ all (stackTests m) → r ≡ sound? f map m
       sound-rest r e h = h ∙ sym (records-are true e)
-
--- zeros from i on
-module _ (l : List ℕ) (i : ℕ) where
-  pub zeros-bad : i < length l → (getD l i 0 ≡ 0 → ⊥) → zeros (drop i l) ≡ false
-  zeros-bad h z = rw (drop-cons l i 0 h, ne-eqb (getD l i 0) 0 z)
-
-  pub zeros-more : i < length l → getD l i 0 ≡ 0 → zeros (drop i l) ≡ zeros (drop (i + 1) l)
-  zeros-more h z = rw (drop-cons l i 0 h, eq-eqb (getD l i 0) 0 z, add-one i)
-
-pub zeros-skipped : (l : List ℕ) (from i : ℕ) → Zeros l from i → zeros (drop from l) ≡ zeros (drop i l)
-zeros-skipped l from i none = refl
-zeros-skipped l from i (more j Z b z) = zeros-skipped l from j Z ∙ zeros-more l j b z

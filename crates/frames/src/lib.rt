@@ -55,18 +55,11 @@ fn records_right(
 fn zeros_from(words: &[u32], top: usize) -> bool
     ensures { λ r. ⌜ r ≡ zeros (drop top (now (words .entry))) ⌝ }
 {
-    let mut i = heap::skip_zeros(words, top);
-    while i < words.len() {
-        if words[i] != 0 {
-            return false;
-        }
-        i += 1;
-    }
-    true
+    heap::all_zero(words, top, words.len())
 }
 
 // The words of the stacks: 0 above the tops, pointers on the pointer stack.
-fn words_right(main: &[u32], ptr: &[u32], ctl: &[u32], marks: &[bool; 16384], regs: Regs) -> bool
+fn words_right(main: &[u32], ptr: &[u32], ctl: &[u32], marks: &[bool], regs: Regs) -> bool
     ensures { λ r. ⌜ ((heap : List ℕ) → Marks (objectsOf heap) (now (marks .entry)) →
         r ≡ all (stackTests (record { regs = regs; main = now (main .entry); ptr = now (ptr .entry); ctl = now (ctl .entry); heap = heap }))) ⌝ }
 {
@@ -148,7 +141,7 @@ pub fn sound_state(
     main: &[u32],
     ptr: &[u32],
     ctl: &[u32],
-    marks: &[bool; 16384],
+    marks: &[bool],
     regs: Regs,
 ) -> bool
     requires { ⌜ Ready (now file) (now map) (now table) k × Words regs × (length (now main) ≤ 4096) × (length (now ptr) ≤ 4096) ⌝ }

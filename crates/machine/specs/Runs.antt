@@ -1,6 +1,5 @@
 -- Run: what its tests let through is a sound state, and the answer and every list are the model's.
 use Prim.Native.Nat.{ℕ}
-use mathlib.Core.Bool.{Bool}
 use mathlib.Core.List.{List}
 use mathlib.Core.Path.{_≡_, sym, _∙_}
 use Rattle.model.specs.Heap.{objectsOf}
@@ -17,13 +16,13 @@ use Rattle.model.specs.declared.Regs.{Regs}
 use Rattle.model.specs.declared.Answer.{Answer}
 use Rattle.model.specs.declared.Answer.the-variants.{Refused}
 
-module _ (l : Lent) (map table : List ℕ) (marks : List Bool) (t : Tested) (T : TestedAs l map table marks t) (budget : ℕ) where
+module _ (l : Lent) (map table : List ℕ) (t : Tested) (T : TestedAs l map table t) (budget : ℕ) where
   pub run-refused : (n p : ℕ) → t ≡ Unfit n p → answers (Refused n p) (withMap map l) ≡ runOf budget l
   unfolding runOf
-  run-refused n p e = for-run-refused l map table marks t T (ranFrom budget) n p e
+  run-refused n p e = for-run-refused l map table t T (ranFrom budget) n p e
 
   module _ (k : ℕ) (r : Regs) (e : t ≡ Sound k r) where
-    S : Through l map table marks k r
+    S : Through l map table k r
     S = T .through k r e
 
     pub run-runs : Bytes (l .file) → Runs (l .file) table (setRegs r (machineOf l))
@@ -45,7 +44,7 @@ module _ (l : Lent) (map table : List ℕ) (marks : List Bool) (t : Tested) (T :
     unfolding runOf
     run-ran answer m bytes g eb =
         let g′ : runOn (l .file) budget 0 (machineOf (withMap map l)) ≡ ran answer m = rw (← S .regs-are) (sym g) in
-        rw eb (at g′ ∙ for-run-on l map table marks t T (ranFrom budget) k r e)
+        rw eb (at g′ ∙ for-run-on l map table t T (ranFrom budget) k r e)
       where
         at : runOn (l .file) budget 0 (machineOf (withMap map l)) ≡ ran answer m →
             answers answer (leaving (withMap map l) m) ≡ ranFrom budget (withMap map l)

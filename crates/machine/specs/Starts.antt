@@ -1,6 +1,5 @@
 -- Start: a refusal is the model's, and zeroed stacks with the first registers are the state that it begins with.
 use Prim.Native.Nat.{ℕ, zero, suc}
-use mathlib.Core.Bool.{Bool}
 use mathlib.Core.List.{List, [], _∷_}
 use mathlib.Core.Path.{_≡_, refl, ap, sym, _∙_}
 use lib.ListN.{length, getD, set, replicate}
@@ -37,10 +36,10 @@ first-record n = rw (set-zero n 0, set-zero n 1, set-zero n 2, set-zero n 3, set
 abbrev pub firstRegs : Regs
 firstRegs = record { place = 7; frame = 1; handler = 0; mtop = 0; ptop = 0; ctop = 5; state = 0 }
 
-module _ (l : Lent) (map table : List ℕ) (marks : List Bool) (v : Verdict) (A : Admitted l map table marks v) where
+module _ (l : Lent) (map table : List ℕ) (v : Verdict) (A : Admitted l map table v) where
   pub start-refused : (n p : ℕ) → v ≡ Refuse n p → answers (Refused n p) (withMap map l) ≡ startOf l
   unfolding startOf
-  start-refused n p e = tested-refused l map table marks v A _ n p e
+  start-refused n p e = tested-refused l map table v A _ n p e
 
   pub start-ready : (k : ℕ) → v ≡ Pass k → (main ptr ctl bytes : List ℕ) → main ≡ replicate (length (l .main)) 0 →
       ptr ≡ replicate (length (l .ptr)) 0 → ctl ≡ replicate (length (l .ctl)) 0 → bytes ≡ regBytes firstRegs →
@@ -51,7 +50,7 @@ module _ (l : Lent) (map table : List ℕ) (marks : List Bool) (v : Verdict) (A 
       let z = first-whole (l .file) (l .map) map (A .shown k e .passes) .0 in
       rw (em, ep, ec, eb)
       (rw (
-        ← tested-on l map table marks v A (λ l′. answers Ready (leaving l′ (started l′))) k e,
+        ← tested-on l map table v A (λ l′. answers Ready (leaving l′ (started l′))) k e,
         z,
         cut-all (l .main),
         cut-all (l .ptr),

@@ -64,18 +64,7 @@ pub fn start(
     }) ⌝ }
 {
     let mut table = [0usize; 64];
-    let mut marks = [false; 16384];
-    let v = admit::admit(
-        file,
-        map,
-        &mut table,
-        &mut marks,
-        main,
-        ptr,
-        ctl,
-        heap,
-        bytes,
-    );
+    let v = admit::admit(file, map, &mut table, main, ptr, ctl, heap, bytes);
     match v {
         Verdict::Refuse(n, p) => Answer::Refused(n, p),
         Verdict::Pass(_) => {
@@ -118,18 +107,7 @@ pub fn run(
     }) ⌝ }
 {
     let mut table = [0usize; 64];
-    let mut marks = [false; 16384];
-    let t = admit::test_for_run(
-        file,
-        map,
-        &mut table,
-        &mut marks,
-        main,
-        ptr,
-        ctl,
-        heap,
-        bytes,
-    );
+    let t = admit::test_for_run(file, map, &mut table, main, ptr, ctl, heap, bytes);
     match t {
         Tested::Unfit(n, p) => Answer::Refused(n, p),
         Tested::Sound(_, regs) => {

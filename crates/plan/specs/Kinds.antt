@@ -11,7 +11,7 @@ abbrev pub atArms : List (List ℕ)
 atArms = (161 ∷ []) ∷ (160 ∷ []) ∷ (73 ∷ []) ∷ (72 ∷ []) ∷ (4 ∷ 6 ∷ []) ∷ (2 ∷ 5 ∷ []) ∷ (1 ∷ 3 ∷ []) ∷ []
 
 abbrev pub localArms : List (List ℕ)
-localArms = (54 ∷ 56 ∷ []) ∷ (21 ∷ 23 ∷ []) ∷ (20 ∷ 22 ∷ []) ∷ []
+localArms = (54 ∷ 56 ∷ []) ∷ (21 ∷ 23 ∷ []) ∷ (22 ∷ []) ∷ (20 ∷ []) ∷ []
 
 abbrev pub wordArms : List (List ℕ)
 wordArms = (144 ∷ 146 ∷ []) ∷ (141 ∷ 143 ∷ 145 ∷ []) ∷ (140 ∷ 142 ∷ []) ∷ (130 ∷ 195 ∷ 198 ∷ 201 ∷ 204 ∷ []) ∷ []

@@ -1,6 +1,7 @@
 // Document 01, the table of codes with their effects: what the instruction at the machine's place is about to do. Nothing is written
 // here. Codes of one family share a function and an arm. Inside its arm the code is chosen again, so that the family's function gets
-// it as a constant; the compiler makes one jump table of all the matches.
+// it as a constant; the compiler makes one jump table of all the matches. 20 and 22 have arms of their own: their plans differ in `Into`, and
+// in one arm the compiler joins the two and asks for it again, with a second jump table.
 use bridge::Into;
 use bridge::Plan;
 use model::Regs;
@@ -30,7 +31,7 @@ fn main_locals(file: &[u8], main: &[u32], ctl: &[u32], regs: Regs, kind: u8) -> 
     let top = regs.mtop;
     let at = layout::main_base_of(ctl, regs.frame) + code::operand(file, place);
     if kind == 20 {
-        return plans::writes(Into::Main, place + 3, top + 1, regs.ptop, top, main[at]);
+        return plans::writes(Into::Push, place + 3, top + 1, regs.ptop, top, main[at]);
     }
     let rest = top - 1;
     plans::writes(Into::Main, place + 3, rest, regs.ptop, at, main[rest])
@@ -143,10 +144,10 @@ fn literals(file: &[u8], regs: Regs, kind: u8) -> Plan
     if kind == 54 {
         let at = place + 1;
         let word = code::signed_byte(file[at]);
-        return plans::writes(Into::Main, place + 2, top + 1, regs.ptop, top, word);
+        return plans::writes(Into::Push, place + 2, top + 1, regs.ptop, top, word);
     }
     plans::writes(
-        Into::Main,
+        Into::Push,
         place + 5,
         top + 1,
         regs.ptop,
@@ -300,10 +301,8 @@ fn plan_locals(
     ensures { λ r. ⌜ r ≡ planAt (now (file .entry)) (record { regs = regs; main = now (main .entry); ptr = now (ptr .entry); ctl = now (ctl .entry); heap = now (heap .entry) }) ⌝ }
 {
     match kind {
-        20 | 22 => match kind {
-            20 => main_locals(file, main, ctl, regs, 20),
-            _ => main_locals(file, main, ctl, regs, 22),
-        },
+        20 => main_locals(file, main, ctl, regs, 20),
+        22 => main_locals(file, main, ctl, regs, 22),
         21 | 23 => match kind {
             21 => ptr_locals(file, ptr, ctl, regs, 21),
             _ => ptr_locals(file, ptr, ctl, regs, 23),

@@ -105,11 +105,11 @@ pub fn on_false(file: &[u8], main: &[u32], regs: Regs, kind: u8) -> Plan
     let place = regs.place;
     let top = regs.mtop - 1;
     if main[top] != 0 {
-        return writes(Into::Nothing, place + 3, top, regs.ptop, 0, 0);
+        return writes(Into::Pop, place + 3, top, regs.ptop, 0, 0);
     }
     let target = code::forwards(file, place);
     if kind == 2 {
-        return writes(Into::Nothing, target, top, regs.ptop, 0, 0);
+        return writes(Into::Pop, target, top, regs.ptop, 0, 0);
     }
     writes(Into::Nothing, target, regs.mtop, regs.ptop, 0, 0)
 }
@@ -122,11 +122,11 @@ pub fn on_true(file: &[u8], main: &[u32], regs: Regs, kind: u8) -> Plan
     let place = regs.place;
     let top = regs.mtop - 1;
     if main[top] == 0 {
-        return writes(Into::Nothing, place + 3, top, regs.ptop, 0, 0);
+        return writes(Into::Pop, place + 3, top, regs.ptop, 0, 0);
     }
     if kind == 4 {
         return writes(
-            Into::Nothing,
+            Into::Pop,
             code::backwards(file, place),
             top,
             regs.ptop,

@@ -99,7 +99,7 @@ unfoldable pub marked : List ℕ → List ℕ → List ℕ → List ℕ
 marked f m [] = m
 marked f m (p ∷ ps) = marked f (if isHead f p then m else set m (3 * p) unreached) ps
 
-pub length-mark : (t : Bool) (m : List ℕ) (p v : ℕ) → length (if t then m else set m p v) ≡ length m
+length-mark : (t : Bool) (m : List ℕ) (p v : ℕ) → length (if t then m else set m p v) ≡ length m
 length-mark true m p v = refl
 length-mark false m p v = length-set m p v
 

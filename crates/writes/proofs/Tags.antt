@@ -19,16 +19,16 @@ use Rattle.writes.specs.Asks.{Plain, Retract, Dropping, plainly}
 
 -- all but DropMain and DropPointer: no word is put back
 abbrev noneAside : List ℕ
-noneAside = 0 ∷ 1 ∷ 2 ∷ 3 ∷ 4 ∷ 5 ∷ 8 ∷ 9 ∷ 10 ∷ 11 ∷ 12 ∷ []
+noneAside = 0 ∷ 1 ∷ 2 ∷ 3 ∷ 4 ∷ 5 ∷ 6 ∷ 7 ∷ 10 ∷ 11 ∷ 12 ∷ 13 ∷ 14 ∷ []
 
 pub none-aside : (i : Into) (put : Put) (m : Machine) → OneOf noneAside (tagOf made.the-type i) → Retract i → cutOnly put m ≡ plainly i put m
 none-aside i put m k (inl e) = rw e
-none-aside i put m k (inr (inl e)) = absurd (miss noneAside 6 tt (rw e at k))
-none-aside i put m k (inr (inr e)) = absurd (miss noneAside 7 tt (rw e at k))
+none-aside i put m k (inr (inl e)) = absurd (miss noneAside 8 tt (rw e at k))
+none-aside i put m k (inr (inr e)) = absurd (miss noneAside 9 tt (rw e at k))
 
--- all but Nothing, Main, Pointer, Heap and Read: of these only the retracts are plain writes
+-- all but Nothing, Pop, Push, Main, Pointer, Heap and Read: of these only the retracts are plain writes
 abbrev others : List ℕ
-others = 5 ∷ 6 ∷ 7 ∷ 8 ∷ 9 ∷ 10 ∷ 11 ∷ 12 ∷ []
+others = 7 ∷ 8 ∷ 9 ∷ 10 ∷ 11 ∷ 12 ∷ 13 ∷ 14 ∷ []
 
 record Drop (i : Into) (lm lp : ℕ) (r : Regs) (put : Put) : Type 0 where
   retract : Retract i
@@ -42,10 +42,12 @@ apart i j u e = u (ap (tagOf made.the-type) e)
 
 drop : (i : Into) (lm lp lh : ℕ) (r : Regs) (put : Put) → OneOf others (tagOf made.the-type i) → Fits i lm lp lh r put → Drop i lm lp r put
 drop into.Nothing lm lp lh r put k F = absurd (miss others 0 tt k)
-drop into.Main lm lp lh r put k F = absurd (miss others 1 tt k)
-drop into.Pointer lm lp lh r put k F = absurd (miss others 2 tt k)
-drop into.Heap lm lp lh r put k F = absurd (miss others 3 tt k)
-drop into.Read lm lp lh r put k F = absurd (miss others 4 tt k)
+drop into.Pop lm lp lh r put k F = absurd (miss others 1 tt k)
+drop into.Push lm lp lh r put k F = absurd (miss others 2 tt k)
+drop into.Main lm lp lh r put k F = absurd (miss others 3 tt k)
+drop into.Pointer lm lp lh r put k F = absurd (miss others 4 tt k)
+drop into.Heap lm lp lh r put k F = absurd (miss others 5 tt k)
+drop into.Read lm lp lh r put k F = absurd (miss others 6 tt k)
 drop into.Drop lm lp lh r put k F =
     record {
       retract = inl refl;

@@ -53,6 +53,8 @@ onwards p r =
 
 abbrev pub plainly : Into → Put → Machine → Machine
 plainly into.Nothing p m = cutOnly p m
+plainly into.Pop p m = cutOnly p m
+plainly into.Push p m = mainSet p m
 plainly into.Main p m = mainSet p m
 plainly into.Pointer p m = ptrSet p m
 plainly into.Heap p m = heapSet p m

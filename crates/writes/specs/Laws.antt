@@ -18,6 +18,14 @@ module _ (put : Put) (m : Machine) (main ptr : List ℕ) (em : main ≡ cut (put
       record { regs = onwards put (m .regs); main = main; ptr = ptr; ctl = m .ctl; heap = m .heap } ≡ plainly (put .into) put m
   nothing-plainly e = rw (e, em, ep)
 
+  pub pop-plainly : put .into ≡ into.Pop →
+      record { regs = onwards put (m .regs); main = main; ptr = ptr; ctl = m .ctl; heap = m .heap } ≡ plainly (put .into) put m
+  pop-plainly e = rw (e, em, ep)
+
+  pub push-plainly : put .into ≡ into.Push →
+      record { regs = onwards put (m .regs); main = set main (put .at) (put .word); ptr = ptr; ctl = m .ctl; heap = m .heap } ≡ plainly (put .into) put m
+  push-plainly e = rw (e, em, ep)
+
   pub main-plainly : put .into ≡ into.Main →
       record { regs = onwards put (m .regs); main = set main (put .at) (put .word); ptr = ptr; ctl = m .ctl; heap = m .heap } ≡ plainly (put .into) put m
   main-plainly e = rw (e, em, ep)

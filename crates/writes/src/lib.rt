@@ -25,18 +25,7 @@ fn clear(l: &mut [u32], new: usize, old: usize)
     }
 }
 
-// The stack cut to its new top, however many words go.
-pub fn cut_to(l: &mut [u32], new: usize, old: usize)
-    requires { ⌜ Topped old (now l) ⌝ }
-    ensures { λ _. ⌜ now (l .exit) ≡ cut new (now (l .entry)) ⌝ }
-{
-    if old <= new {
-        return;
-    }
-    clear(l, new, old);
-}
-
-// The same where at most one word goes, with no loop: a loop among the steps of a run takes the registers that these need.
+// The stack cut to its new top where at most one word goes, with no loop: a loop among the steps of a run takes the registers that these need.
 fn pop_one(l: &mut [u32], new: usize, old: usize)
     requires { ⌜ Topped old (now l) × (old ≤ new + 1) ⌝ }
     ensures { λ _. ⌜ now (l .exit) ≡ cut new (now (l .entry)) ⌝ }
@@ -44,6 +33,14 @@ fn pop_one(l: &mut [u32], new: usize, old: usize)
     if old <= new {
         return;
     }
+    l[new] = 0;
+}
+
+// Where exactly one goes: no test.
+fn pop_last(l: &mut [u32], new: usize, old: usize)
+    requires { ⌜ Topped old (now l) × (old ≡ new + 1) ⌝ }
+    ensures { λ _. ⌜ now (l .exit) ≡ cut new (now (l .entry)) ⌝ }
+{
     l[new] = 0;
 }
 
@@ -72,6 +69,35 @@ fn pop_four(l: &mut [u32], new: usize, old: usize)
     let middle = old - 2;
     pop_two(l, middle, old);
     pop_two(l, new, middle);
+}
+
+// Where at most eight go.
+fn pop_eight(l: &mut [u32], new: usize, old: usize)
+    requires { ⌜ Topped old (now l) × (new ≤ old) × (old ≤ new + 8) ⌝ }
+    ensures { λ _. ⌜ now (l .exit) ≡ cut new (now (l .entry)) ⌝ }
+{
+    if old - new <= 4 {
+        pop_four(l, new, old);
+        return;
+    }
+    let middle = old - 4;
+    pop_four(l, middle, old);
+    pop_four(l, new, middle);
+}
+
+// The same however many words go; few of them without a loop.
+pub fn cut_to(l: &mut [u32], new: usize, old: usize)
+    requires { ⌜ Topped old (now l) ⌝ }
+    ensures { λ _. ⌜ now (l .exit) ≡ cut new (now (l .entry)) ⌝ }
+{
+    if old <= new {
+        return;
+    }
+    if old - new <= 8 {
+        pop_eight(l, new, old);
+        return;
+    }
+    clear(l, new, old);
 }
 
 // 73 in the first frame: the run is finished.
@@ -143,6 +169,7 @@ fn drop_few(main: &mut [u32], ptr: &mut [u32], regs: Regs, put: Put) -> bool
 
 // The stacks are cut, and a word, or none, is written into one of them or into the heap; or nothing is done, where many words would be dropped.
 // Each arm pops by itself: a plan made with a known `into` then jumps to its arm, which looks at no stack that its instructions leave alone.
+// `Push` and `Pop` ask nothing: how many words go is known.
 pub fn plain(main: &mut [u32], ptr: &mut [u32], heap: &mut [u32], regs: Regs, put: Put) -> bool
     requires { ⌜ Plain (length (now heap)) (now main) (now ptr) regs put ⌝ }
     ensures state { λ r. ⌜ ((ctl : List ℕ) → record {
@@ -157,8 +184,13 @@ pub fn plain(main: &mut [u32], ptr: &mut [u32], heap: &mut [u32], regs: Regs, pu
     let into = put.into;
     let at = put.at;
     match into {
-        Into::Nothing => {
-            pop_one(main, put.mtop, regs.mtop);
+        Into::Nothing => true,
+        Into::Pop => {
+            pop_last(main, put.mtop, regs.mtop);
+            true
+        }
+        Into::Push => {
+            main[at] = put.word;
             true
         }
         Into::Main => {

@@ -15,10 +15,10 @@ enum-known-heads-2 c = search needs
 
 flow-requires : tie.Need-flow-requires
 flow-requires c κs =
-    let at-heads-of = c .before .before .before .before .before .before .before in
-    let entry = at-heads-of .before .before .before .before .before in
-    look-begun (entry .args .file .now) (entry .args .m .now) (entry .args .table .now) (entry .pre) (at-heads-of .heads-of .last .1 .0) (at-heads-of .heads-of .last .1 .1 .0) _
-    (rw (c .before .before .before .heads2 .given .1) at (at-heads-of .heads-of .ensures))
+    let at-heads-of = c .before .before .before .before .before .before in
+    let entry = at-heads-of .before .before .before .before in
+    look-begun (entry .args .file .now) (entry .args .m .now) (entry .args .table .now) (entry .args .n) (entry .args .last) (entry .pre)
+    (at-heads-of .heads-of .last .1 .0) _ (rw (c .before .before .heads2 .given .1) at (at-heads-of .heads-of .ensures))
 
 same-length : tie.Need-same-length
 same-length c = search needs
@@ -26,21 +26,21 @@ same-length c = search needs
 returns : tie.Need-returns
 returns c =
     let at-heads-of = c .before .before .before .before .before in
-    let entry = at-heads-of .before .before .before .before .before in
-    look-wrong (entry .args .file .now) (entry .args .m .now) (entry .args .table .now) (entry .pre) (at-heads-of .heads-of .last .1 .0) (at-heads-of .heads-of .last .1 .1 .0) _
-    (rw (c .before .heads .given .1) at (at-heads-of .heads-of .ensures) .0)
+    let entry = at-heads-of .before .before .before .before in
+    look-wrong (entry .args .file .now) (entry .args .m .now) (entry .args .table .now) (entry .args .n) (entry .args .last) (entry .pre)
+    (at-heads-of .heads-of .last .1 .0) _ (rw (c .before .heads .given .1) at (at-heads-of .heads-of .ensures) .0)
 
 same-length-2 : tie.Need-same-length-2
 same-length-2 c = search needs
 
 returns-2 : tie.Need-returns-2
 returns-2 c =
-    let at-heads2 = c .before .before .before .before .before .before in
+    let at-heads2 = c .before .before .before .before .before in
     let at-heads-of = at-heads2 .before .before .before .before in
-    let entry = at-heads-of .before .before .before .before .before in
-    look-flow (entry .args .file .now) (entry .args .m .now) (entry .args .table .now) (entry .pre) (at-heads-of .heads-of .last .1 .0) (c .before .before .flow .last .1 .0)
-    (at-heads-of .heads-of .last .1 .1 .0) _ (c .before .before .flow .result) (rw (at-heads2 .heads2 .given .1) at (at-heads-of .heads-of .ensures))
-    (c .before .before .flow .ensures)
+    let entry = at-heads-of .before .before .before .before in
+    look-flow (entry .args .file .now) (entry .args .m .now) (entry .args .table .now) (entry .args .n) (entry .args .last) (entry .pre)
+    (at-heads-of .heads-of .last .1 .0) (c .before .before .flow .last .1 .0) _ (c .before .before .flow .result)
+    (rw (at-heads2 .heads2 .given .1) at (at-heads-of .heads-of .ensures)) (c .before .before .flow .ensures)
 
 pub look-spec : {M : Type 1} → statement M
 look-spec =

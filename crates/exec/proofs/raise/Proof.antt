@@ -39,8 +39,8 @@ cut-to-requires c κs = search needs
 cut-to-requires-2 : tie.Need-cut-to-requires-2
 cut-to-requires-2 c κs = search needs
 
-cut-to-requires-3 : tie.Need-cut-to-requires-3
-cut-to-requires-3 c κs = search needs
+unwind-requires : tie.Need-unwind-requires
+unwind-requires c κs = search needs
 
 mul-main : tie.Need-mul-main
 mul-main c =
@@ -102,7 +102,7 @@ returns-2 c heap =
     (c .resume .ensures)
     (c .before .before .before .before .before .before .before .before .before .before .before .cut-to .ensures)
     (c .before .before .before .before .before .before .before .cut-to2 .ensures)
-    (c .before .before .before .cut-to3 .ensures)
+    (c .before .before .before .unwind .ensures)
 
 pub raise-spec : {M : Type 1} → statement M
 raise-spec =
@@ -116,7 +116,7 @@ raise-spec =
     mul-under
     cut-to-requires
     cut-to-requires-2
-    cut-to-requires-3
+    unwind-requires
     mul-main
     slice-write-main
     resume-requires

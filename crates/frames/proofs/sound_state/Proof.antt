@@ -10,7 +10,7 @@ use Rattle.frames.proofs.sound_state.Statement.{statement}
 use Rattle.frames.proofs.sound_state.Tie as tie
 
 head-of-requires : tie.Need-head-of-requires
-head-of-requires c κs = let heads = c .before .before .before .before .before .before .before .pre .0 .heads in (heads, some-proc _ _ _ heads)
+head-of-requires c κs = let heads = c .before .before .before .before .before .before .before .before .pre .0 .heads in (heads, some-proc _ _ _ heads)
 
 done-right-requires : tie.Need-done-right-requires
 done-right-requires c κs = search needs
@@ -40,7 +40,7 @@ top-frame-requires c κs = search needs
 records-right-requires : tie.Need-records-right-requires
 records-right-requires c κs =
     let l = tops-room _ _ _ (sym (c .before .before .before .tops-right .ensures) ∙ not-false _ (c .before .before .if3 .left)) in
-    let pre = c .before .before .before .before .before .before .before .before .before .before .before .pre in
+    let pre = c .before .before .before .before .before .before .before .before .before .before .before .before .pre in
     let w = pre .1 .ctop in
     (pre .0, c .top-frame .ensures .1, l, omega arith, pre .2, pre .3)
 
@@ -48,7 +48,7 @@ returns-4 : tie.Need-returns-4
 returns-4 c =
     let tops = sym (c .before .before .before .before .before .tops-right .ensures) ∙ not-false _ (c .before .before .before .before .if3 .left) in
     let top = c .before .before .top-frame in
-    let a = c .before .before .before .before .before .before .before .before .before .before .before .before .before .args in
+    let a = c .before .before .before .before .before .before .before .before .before .before .before .before .before .before .args in
     λ heap K.
     let m : Machine = record { regs = a .regs; main = a .main .now; ptr = a .ptr .now; ctl = a .ctl .now; heap = heap } in
     sound-records _ _ m (c .before .before .before .before .before .before .if1 .left) tops (top .result) (top .ensures .0 m) _ (c .before .records-right .ensures) (not-true _ (c .if4 .taken))
@@ -60,7 +60,7 @@ returns-5 : tie.Need-returns-5
 returns-5 c =
     let tops = sym (c .before .before .before .before .before .before .tops-right .ensures) ∙ not-false _ (c .before .before .before .before .before .if3 .left) in
     let top = c .before .before .before .top-frame in
-    let a = c .before .before .before .before .before .before .before .before .before .before .before .before .before .before .args in
+    let a = c .before .before .before .before .before .before .before .before .before .before .before .before .before .before .before .args in
     λ heap K.
     let m : Machine = record { regs = a .regs; main = a .main .now; ptr = a .ptr .now; ctl = a .ctl .now; heap = heap } in
     sound-rest _ _ m (c .before .before .before .before .before .before .before .if1 .left) tops (top .result) (top .ensures .0 m) _ (c .before .before .records-right .ensures) _

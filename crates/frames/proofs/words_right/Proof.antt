@@ -14,7 +14,7 @@ zeros-from-requires c κs = search needs
 
 returns : tie.Need-returns
 returns c =
-    let a = c .before .before .before .before .before .args in
+    let a = c .before .before .before .before .before .before .args in
     λ heap K.
     let m : Machine = record { regs = a .regs; main = a .main .now; ptr = a .ptr .now; ctl = a .ctl .now; heap = heap } in
     fails 0 (stackTests m) (sym (c .before .zeros-from .ensures) ∙ not-true _ (c .if1 .taken))
@@ -24,7 +24,7 @@ zeros-from-requires-2 c κs = search needs
 
 returns-2 : tie.Need-returns-2
 returns-2 c =
-    let a = c .before .before .before .before .before .before .before .args in
+    let a = c .before .before .before .before .before .before .before .before .args in
     λ heap K.
     let m : Machine = record { regs = a .regs; main = a .main .now; ptr = a .ptr .now; ctl = a .ctl .now; heap = heap } in
     fails 1 (stackTests m) (sym (c .before .zeros-from2 .ensures) ∙ not-true _ (c .if2 .taken))
@@ -34,7 +34,7 @@ zeros-from-requires-3 c κs = search needs
 
 returns-3 : tie.Need-returns-3
 returns-3 c =
-    let a = c .before .before .before .before .before .before .before .before .before .args in
+    let a = c .before .before .before .before .before .before .before .before .before .before .args in
     λ heap K.
     let m : Machine = record { regs = a .regs; main = a .main .now; ptr = a .ptr .now; ctl = a .ctl .now; heap = heap } in
     fails 2 (stackTests m) (sym (c .before .zeros-from3 .ensures) ∙ not-true _ (c .if3 .taken))
@@ -47,7 +47,7 @@ returns-4 c =
     let c₃ = c .before in
     let c₂ = c₃ .before .before in
     let c₁ = c₂ .before .before in
-    let a = c₁ .before .before .before .before .before .args in
+    let a = c₁ .before .before .before .before .before .before .args in
     let above = sym (c₂ .before .zeros-from2 .ensures) ∙ not-false _ (c₂ .if2 .left) in
     λ heap K.
     let m : Machine = record { regs = a .regs; main = a .main .now; ptr = a .ptr .now; ctl = a .ctl .now; heap = heap } in

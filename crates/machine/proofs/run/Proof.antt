@@ -18,7 +18,7 @@ run-on-requires : tie.Need-run-on-requires
 run-on-requires c κs =
     let at-t2 = c .before .before .before .before .before .before in
     let at-test-for-run = at-t2 .before .before .before .before in
-    let at-shared-slice-known = at-test-for-run .before .before .before .before .before .before .before .before .before .before .before .before .before .before .before in
+    let at-shared-slice-known = at-test-for-run .before .before .before .before .before .before .before .before .before .before .before .before .before .before in
     let entry = at-shared-slice-known .before in
     run-runs (record {
       file = entry .args .file .now;
@@ -29,7 +29,7 @@ run-on-requires c κs =
       heap = entry .args .heap .now;
       bytes = entry .args .bytes .now;
     }) (at-test-for-run .test-for-run .last .1 .0) (at-test-for-run .test-for-run .last .1 .1 .0)
-    (at-test-for-run .test-for-run .last .1 .1 .1 .0) (at-test-for-run .test-for-run .result) (at-test-for-run .test-for-run .ensures) (entry .args .budget) _ _
+    (at-test-for-run .test-for-run .result) (at-test-for-run .test-for-run .ensures) (entry .args .budget) _ _
     (at-t2 .t2 .given .1) (λ i. omega (arith, at-shared-slice-known .shared-slice-known .given i))
 
 put-regs-requires : tie.Need-put-regs-requires
@@ -59,7 +59,7 @@ same-length-6 c = search needs
 returns : tie.Need-returns
 returns c =
     let at-test-for-run = c .before .before .before .before .before in
-    let entry = at-test-for-run .before .before .before .before .before .before .before .before .before .before .before .before .before .before .before .before in
+    let entry = at-test-for-run .before .before .before .before .before .before .before .before .before .before .before .before .before .before .before in
     run-refused (record {
       file = entry .args .file .now;
       map = entry .args .map .now;
@@ -70,7 +70,7 @@ returns c =
           .args .heap .now;
       bytes = entry .args .bytes .now;
     }) (at-test-for-run .test-for-run .last .1 .0) (at-test-for-run .test-for-run .last .1 .1 .0)
-    (at-test-for-run .test-for-run .last .1 .1 .1 .0) (at-test-for-run .test-for-run .result) (at-test-for-run .test-for-run .ensures) (entry .args .budget) _ _
+    (at-test-for-run .test-for-run .result) (at-test-for-run .test-for-run .ensures) (entry .args .budget) _ _
     (c .before .t .given .1)
 
 same-length-7 : tie.Need-same-length-7
@@ -96,7 +96,7 @@ returns-2 c =
     let at-run-on = c .before .before .before .before .before .before .before .before .before .before .before .before .before in
     let at-t2 = at-run-on .before .before .before .before .before .before .before in
     let at-test-for-run = at-t2 .before .before .before .before in
-    let entry = at-test-for-run .before .before .before .before .before .before .before .before .before .before .before .before .before .before .before .before in
+    let entry = at-test-for-run .before .before .before .before .before .before .before .before .before .before .before .before .before .before .before in
     run-ran (record {
       file = entry .args .file .now;
       map = entry .args .map .now;
@@ -106,7 +106,7 @@ returns-2 c =
       heap = entry .args .heap .now;
       bytes = entry .args .bytes .now;
     }) (at-test-for-run .test-for-run .last .1 .0) (at-test-for-run .test-for-run .last .1 .1 .0)
-    (at-test-for-run .test-for-run .last .1 .1 .1 .0) (at-test-for-run .test-for-run .result) (at-test-for-run .test-for-run .ensures) (entry .args .budget) _ _
+    (at-test-for-run .test-for-run .result) (at-test-for-run .test-for-run .ensures) (entry .args .budget) _ _
     (at-t2 .t2 .given .1) (at-run-on .run-on .result .answer) _ _ (at-run-on .run-on .ensures) (c .before .before .put-regs .ensures)
 
 pub run-spec : {M : Type 1} → statement M
