@@ -7,12 +7,13 @@ use mathlib.Core.Path.{_≡_, refl, ap, sym, _∙_}
 use native.Mathlib.Omega.{arith}
 use lib.Dec.{eqb}
 use lib.ListN.{length, getD, drop, replicate}
-use borrow.Author.Tests.{eq-eqb, le-leb, lt-leb}
+use borrow.Author.Tests.{eq-eqb, eqb-true, le-leb, lt-leb}
 use Rattle.model.specs.Choice.{if_then_else_}
-use Rattle.model.specs.File.{byteAt, Records, recordsOf, startsIn, isHead, select, heads, wrong, right, headsOf, headOf, entry, procs, paramsMain, paramsPtr}
+use Rattle.model.specs.File.{byteAt, Records, recordsOf, startsIn, isHead, select, heads, wrong, right, headsOf, headOf, entry, procs, paramsMain, paramsPtr, headTests}
 use Rattle.model.specs.Checker.{none, Known, stateAt, isSet, firsts, first, mapFrom}
 use Rattle.model.specs.Calls.{overMap, wiped, pass, refuse, scanned, verdictOf, checked, answered, checkOf}
-use Rattle.exact.specs.Walk.{heads-right, walk, walk-above, after-above}
+use Rattle.exact.specs.Flow.{Within}
+use Rattle.exact.specs.Walk.{HeadsHold, heads-right, entry-proc, walk, walk-above, after-above}
 use Rattle.scan.specs.Marks.{Shows, marked, marked-shows}
 use Rattle.scan.specs.Scanning.{Comes, Scanned, listed-count, listed-all}
 use Rattle.scan.specs.Heading.{Marked, Placed}
@@ -105,6 +106,20 @@ module _ (f m table : List ℕ) (n last : ℕ) (M : Marked f m table n last) whe
       let z = eq-eqb (stateAt (firsts f n) q .inner) none (w .2) in
       record { main-byte = w .0; ptr-byte = w .1; held = inl (w .2); main-above = rw z (omega arith); ptr-above = rw z (omega arith) }
 
+  -- and have depths within their procedures'
+  firsts-within : HeadsHold f → (n q : ℕ) → n ≤ procs f → isSet (stateAt (firsts f n) q) ≡ true → Within f q (stateAt (firsts f n) q)
+  unfolding firsts headTests
+  firsts-within hs zero q l h = absurd (true≢false (sym h))
+  firsts-within hs (suc n) q l h = go (eqb q (entry f n)) refl h (firsts-within hs n q (omega arith))
+    where
+      go : (t : Bool) → eqb q (entry f n) ≡ t → isSet (if t then first f n .1 else stateAt (firsts f n) q) ≡ true →
+          (isSet (stateAt (firsts f n) q) ≡ true → Within f q (stateAt (firsts f n) q)) →
+          Within f q (if t then first f n .1 else stateAt (firsts f n) q)
+      go true e z r =
+          let w = hs n (omega arith) in
+          rw (eqb-true q (entry f n) e, entry-proc f (M .places) (M .whole) n (omega arith) w) (w .0, w .1 .1 .0)
+      go false e z r = r z
+
   pub look-begun : (m₁ : List ℕ) (k : ℕ) → (headsOf f ≡ right) × Placed f table k × Shows f (firsts f k) m₁ → Begun f m₁ table k
   look-begun m₁ k H =
       record {
@@ -115,7 +130,7 @@ module _ (f m table : List ℕ) (n last : ℕ) (M : Marked f m table n last) whe
         records = M .whole;
         heads-hold = heads-right f (H .0);
         placed = H .1;
-        good = record { shows = H .2; fits = firsts-fit k };
+        good = record { shows = H .2; within = λ q. firsts-within (heads-right f (H .0)) k q (let z = H .1 .count in omega arith); fits = firsts-fit k };
       }
 
   -- the heads are right, and what the flow comes to decides

@@ -392,7 +392,7 @@ module _ {f m : List ℕ} {h e p : ℕ} (H : Here f m h e p) where
 
   pub here-place : (3 * p + 2 < length m) × (p < 4096)
   here-place =
-      let a = site.low f p (H .site) in
+      let a = site.low (H .site) in
       let d = H .site .inside in
       let b = H .long in
       let u = after-above f p in

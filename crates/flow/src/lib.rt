@@ -124,7 +124,15 @@ fn jump(file: &[u8], m: &mut [u16], head: usize, limits: Limits, p: usize, targe
 }
 
 // 2, 4, 5 and 6: a word is popped, and the state passes to the next instruction and to the target; 5 and 6 keep the word there.
-fn branch(file: &[u8], m: &mut [u16], head: usize, limits: Limits, p: usize, target: usize, keep: bool) -> u32
+fn branch(
+    file: &[u8],
+    m: &mut [u16],
+    head: usize,
+    limits: Limits,
+    p: usize,
+    target: usize,
+    keep: bool,
+) -> u32
     requires { ⌜ Led (now file) (now m) head p 3 limits (leads (branchWay keep) 1 target) ⌝ }
     ensures { λ r. ⌜ takeAns r (now (m .exit)) ≡ takeIn (now (file .entry)) p (now (m .entry)) ⌝ }
 {
@@ -316,7 +324,10 @@ fn take(
     match kind {
         1..=6 => done(jumps(file, m, head, limits, p, kind), p + 3),
         73 => done(leave(file, m, head, limits, p), p + 1),
-        160 => done(open(file, m, head, limits, p, head + code::operand(file, p)), p + 3),
+        160 => done(
+            open(file, m, head, limits, p, head + code::operand(file, p)),
+            p + 3,
+        ),
         161 => done(close(file, m, head, limits, p), p + 1),
         _ => plain(file, table, m, k, head, limits, p, kind),
     }

@@ -9,12 +9,12 @@ use Rattle.model.specs.Checker.{Effect, effect, basicEffect, effectOf, handlerA
 
 -- where an instruction passes its state
 pub data Way : Type 0 where
-  Next : Way -- to the next instruction
-  Jump : Way -- to its target
-  Branch : Way -- to both, after the pop
-  Keep : Way -- to the next after the pop, to its target before it
-  Open : Way -- opens a handler
-  Close : Way -- closes the innermost handler
+  Next : Way  -- to the next instruction
+  Jump : Way  -- to its target
+  Branch : Way  -- to both, after the pop
+  Keep : Way  -- to the next after the pop, to its target before it
+  Open : Way  -- opens a handler
+  Close : Way  -- closes the innermost handler
   Return : Way
   Raise : Way
 
@@ -27,7 +27,7 @@ pub record Shape : Type 0 where
   pub wordm : ℕ
   pub wordp : ℕ
   pub target : ℕ
-  pub known : Bool -- the procedure that a call names is there
+  pub known : Bool  -- the procedure that a call names is there
 
 abbrev pub shape : Way → Effect → ℕ → ℕ → ℕ → Bool → Shape
 shape w e wm wp q t =

@@ -25,6 +25,6 @@ pub room : {f : List ℕ} {p : ℕ} → Site f p → (n : ℕ) → bodyOf (byteA
 unfolding after
 room s n e = omega (arith, s .inside)
 
-pub low : (f : List ℕ) (p : ℕ) → Site f p → p < 4096
+pub low : {f : List ℕ} {p : ℕ} → Site f p → p < 4096
 unfolding after
-low f p s = omega (arith, s .inside, s .small)
+low s = omega (arith, s .inside, s .small)

@@ -215,7 +215,15 @@ fn blocks(file: &[u8], p: usize, kind: u8, s: State, o: State, limits: Limits) -
 }
 
 // 72, of k procedures
-fn calls(file: &[u8], table: &[usize; 64], k: usize, p: usize, s: State, o: State, limits: Limits) -> Onward
+fn calls(
+    file: &[u8],
+    table: &[usize; 64],
+    k: usize,
+    p: usize,
+    s: State,
+    o: State,
+    limits: Limits,
+) -> Onward
     requires { ⌜ Table (now file) (now table) k × (p + 2 < length (now file)) × (p < 4096) × Bounded (asState s) (asState o) limits ⌝ }
     ensures { λ r. ⌜ r ≡ plainly (asState s) (asState o) limits (p + 3) (shapeOf (now (file .entry)) p (model.call (model.operand (now (file .entry)) p))) ⌝ }
 {

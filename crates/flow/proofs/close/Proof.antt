@@ -18,47 +18,85 @@ same-length : tie.Need-same-length
 same-length c = search needs
 
 returns : tie.Need-returns
-returns c = stops (on-close (c .before .before .before .before .before .before .pre) (c .before .before .state-in .ensures)) (le-ltb _ _ (c .if1 .taken))
+returns c =
+    let back6 = c .before .before .before .before .before .before in
+    let back6 = back6 in
+    let entry = back6 in
+    stops (on-close (entry .pre) (c .before .before .state-in .ensures)) (le-ltb _ _ (c .if1 .taken))
 
 same-length-2 : tie.Need-same-length-2
 same-length-2 c = search needs
 
 returns-2 : tie.Need-returns-2
-returns-2 c = stops (passes (on-close (c .before .before .before .before .before .before .before .before .pre) (c .before .before .before .before .state-in .ensures)) (lt-ltb _ _ (c .before .before .if1 .left))) (le-ltb _ _ (c .if2 .taken))
+returns-2 c =
+    let back8 = c .before .before .before .before .before .before .before .before in
+    let back8 = back8 in
+    let entry = back8 in
+    stops (passes (on-close (entry .pre) (c .before .before .before .before .state-in .ensures)) (lt-ltb _ _ (c .before .before .if1 .left))) (le-ltb _ _ (c .if2 .taken))
 
 same-length-3 : tie.Need-same-length-3
 same-length-3 c = search needs
 
 returns-3 : tie.Need-returns-3
-returns-3 c = 
-    let J = passes (passes (on-close (c .before .before .before .before .before .before .before .before .before .before .pre) (c .before .before .before .before .before .before .state-in .ensures)) (lt-ltb _ _ (c .before .before .before .before .if1 .left))) (lt-ltb _ _ (c .before .before .if2 .left)) in
+returns-3 c =
+    let back6 = c .before .before .before .before .before .before in
+    let back6 = back6 in
+    let at-state-in = back6 in
+    let entry = at-state-in .before .before .before .before in
+    let J = passes (passes (on-close (entry .pre) (at-state-in .state-in .ensures)) (lt-ltb _ _ (c .before .before .before .before .if1 .left))) (lt-ltb _ _ (c .before .before .if2 .left)) in
     stops J (ap not (eq-eqb _ _ (c .if3 .taken)))
 
 outer-of-requires : tie.Need-outer-of-requires
-outer-of-requires c κs = held-here (c .before .before .before .before .before .before .before .before .before .before .before .pre .here) (c .before .before .before .before .before .before .before .before .before .before .before .pre .bounds) (c .before .before .before .before .before .before .before .state-in .ensures)
+outer-of-requires c κs =
+    let back7 = c .before .before .before .before .before .before .before in
+    let back7 = back7 in
+    let at-state-in = back7 in
+    let entry = at-state-in .before .before .before .before in
+    held-here (entry .pre .here) (entry .pre .bounds) (at-state-in .state-in .ensures)
 
 pass-one-requires : tie.Need-pass-one-requires
-pass-one-requires c κs = 
-    let S = (c .before .before .before .before .before .before .before .before .before .state-in .ensures) in
-    let w = next-place (c .before .before .before .before .before .before .before .before .before .before .before .before .before .pre .here) _ (c .before .before .before .before .before .if2 .left) in (w .0, w .1, S .main-small, S .ptr-small, (c .before .outer-of .ensures .inner-small))
+pass-one-requires c κs =
+    let back5 = c .before .before .before .before .before in
+    let back5 = back5 in
+    let at-if2 = back5 in
+    let at-state-in = at-if2 .before .before .before .before in
+    let entry = at-state-in .before .before .before .before in
+    let S = at-state-in .state-in .ensures in
+    let w = next-place (entry .pre .here) _ (at-if2 .if2 .left) in (w .0, w .1, S .main-small, S .ptr-small, c .before .outer-of .ensures .inner-small)
 
 same-length-4 : tie.Need-same-length-4
 same-length-4 c = search needs
 
 returns-4 : tie.Need-returns-4
-returns-4 c = 
-    let J = passes (passes (on-close (c .before .before .before .before .before .before .before .before .before .before .before .before .before .before .before .before .before .pre) (c .before .before .before .before .before .before .before .before .before .before .before .before .before .state-in .ensures)) (lt-ltb _ _ (c .before .before .before .before .before .before .before .before .before .before .before .if1 .left))) (lt-ltb _ _ (c .before .before .before .before .before .before .before .before .before .if2 .left)) in
-    let o = ap (λ (u : State). u .inner) (c .before .before .before .before .before .outer-of .ensures .is) in
-    (rw ((c .if4 .taken), o) at (c .before .before .before .pass-one .ensures)) ∙ sym (all-passed (passes J (ap not (ne-eqb _ _ (c .before .before .before .before .before .before .before .if3 .left)))))
+returns-4 c =
+    let back5 = c .before .before .before .before .before in
+    let back5 = back5 in
+    let at-outer-of = back5 in
+    let at-if3 = at-outer-of .before .before in
+    let at-if2 = at-if3 .before .before in
+    let at-if1 = at-if2 .before .before in
+    let at-state-in = at-if1 .before .before in
+    let entry = at-state-in .before .before .before .before in
+    let J = passes (passes (on-close (entry .pre) (at-state-in .state-in .ensures)) (lt-ltb _ _ (at-if1 .if1 .left))) (lt-ltb _ _ (at-if2 .if2 .left)) in
+    let o = ap (λ (u : State). u .inner) (at-outer-of .outer-of .ensures .is) in
+    (rw (c .if4 .taken, o) at (c .before .before .before .pass-one .ensures)) ∙ sym (all-passed (passes J (ap not (ne-eqb _ _ (at-if3 .if3 .left)))))
 
 same-length-5 : tie.Need-same-length-5
 same-length-5 c = search needs
 
 returns-5 : tie.Need-returns-5
-returns-5 c = 
-    let J = passes (passes (on-close (c .before .before .before .before .before .before .before .before .before .before .before .before .before .before .before .before .before .pre) (c .before .before .before .before .before .before .before .before .before .before .before .before .before .state-in .ensures)) (lt-ltb _ _ (c .before .before .before .before .before .before .before .before .before .before .before .if1 .left))) (lt-ltb _ _ (c .before .before .before .before .before .before .before .before .before .if2 .left)) in
-    let o = ap (λ (u : State). u .inner) (c .before .before .before .before .before .outer-of .ensures .is) in
-    (rw ((c .if4 .left), o) at (c .before .before .before .pass-one .ensures)) ∙ sym (all-passed (passes J (ap not (ne-eqb _ _ (c .before .before .before .before .before .before .before .if3 .left)))))
+returns-5 c =
+    let back5 = c .before .before .before .before .before in
+    let back5 = back5 in
+    let at-outer-of = back5 in
+    let at-if3 = at-outer-of .before .before in
+    let at-if2 = at-if3 .before .before in
+    let at-if1 = at-if2 .before .before in
+    let at-state-in = at-if1 .before .before in
+    let entry = at-state-in .before .before .before .before in
+    let J = passes (passes (on-close (entry .pre) (at-state-in .state-in .ensures)) (lt-ltb _ _ (at-if1 .if1 .left))) (lt-ltb _ _ (at-if2 .if2 .left)) in
+    let o = ap (λ (u : State). u .inner) (at-outer-of .outer-of .ensures .is) in
+    (rw (c .if4 .left, o) at (c .before .before .before .pass-one .ensures)) ∙ sym (all-passed (passes J (ap not (ne-eqb _ _ (at-if3 .if3 .left)))))
 
 pub close-spec : {M : Type 1} → statement M
 close-spec =

@@ -17,56 +17,77 @@ abbrev μ-loop : tie.MeasureT-loop
 μ-loop file m₀ table k n p₀ c₀ head₀ limits₀ m p c head limits = length file - p
 
 limits-of-requires : tie.Need-limits-of-requires Inv-loop μ-loop
-limits-of-requires c κs = let a = (c .before .before .args) in first-whole (a .file .now) (a .m .now) (a .table .now) (a .k) (c .before .before .pre)
+limits-of-requires c κs = let a = c .before .before .args in first-whole (a .file .now) (a .m .now) (a .table .now) (a .k) (c .before .before .pre)
 
 loop-holds : tie.Need-loop-holds Inv-loop μ-loop
-loop-holds c = 
-    let a = (c .before .before .before .args) in
-    (refl, rw (c .limits-of .ensures .0) (flowing-start (a .file .now) (a .m .now) (a .table .now) (a .k) (c .before .before .before .pre)), (c .limits-of .ensures .1))
+loop-holds c =
+    let entry = c .before .before .before in
+    let a = entry .args in
+    (refl, rw (c .limits-of .ensures .0) (flowing-start (a .file .now) (a .m .now) (a .table .now) (a .k) (entry .pre)), c .limits-of .ensures .1)
 
 shared-slice-read-kind : tie.Need-shared-slice-read-kind Inv-loop μ-loop
 shared-slice-read-kind c = omega arith
 
 add-c : tie.Need-add-c Inv-loop μ-loop
-add-c c = let w = (c .before .before .before .loop .inv .1 .most-c) in let v = (c .before .before .before .before .before .before .before .pre .placed .count) in let u = (c .before .before .before .before .before .before .before .pre .placed .few) in omega arith
+add-c c =
+    let back7 = c .before .before .before .before .before .before .before in
+    let back7 = back7 in
+    let entry = back7 in
+    let w = c .before .before .before .loop .inv .1 .most-c in let v = entry .pre .placed .count in let u = entry .pre .placed .few in omega arith
 
 end-of-requires : tie.Need-end-of-requires Inv-loop μ-loop
-end-of-requires c κs = (c .before .before .before .before .before .before .before .pre .placed .few)
+end-of-requires c κs =
+    let back7 = c .before .before .before .before .before .before .before in
+    let back7 = back7 in
+    let entry = back7 in
+    (entry .pre .placed .few)
 
 limits-of-requires-2 : tie.Need-limits-of-requires-2 Inv-loop μ-loop
-limits-of-requires-2 c κs = 
-    let a = (c .before .before .before .before .before .before .before .before .args) in
-    let o = (c .before .before .before .before .loop) in
-    let w = flowing-inside (a .file .now) (a .m .now) (a .table .now) (a .k) (c .before .before .before .before .before .before .before .before .pre) (o .m) (o .p) (o .c) (o .head) (o .limits .end) (o .inv .1) (omega arith) in
+limits-of-requires-2 c κs =
+    let back8 = c .before .before .before .before .before .before .before .before in
+    let back8 = back8 in
+    let entry = back8 in
+    let a = entry .args in
+    let o = c .before .before .before .before .loop in
+    let w = flowing-inside (a .file .now) (a .m .now) (a .table .now) (a .k) (entry .pre) (o .m) (o .p) (o .c) (o .head) (o .limits .end) (o .inv .1) (omega arith) in
     let z = head-size (a .file .now) (o .p) (c .before .if1 .taken) in
     omega arith
 
 add-p : tie.Need-add-p Inv-loop μ-loop
-add-p c = let b = (c .before .before .before .before .before .before .before .before .before .pre .few) in omega arith
+add-p c =
+    let back9 = c .before .before .before .before .before .before .before .before .before in
+    let back9 = back9 in
+    let entry = back9 in
+    let b = entry .pre .few in omega arith
 
 loop-less : tie.Need-loop-less Inv-loop μ-loop
 loop-less c = omega arith
 
 loop-again : tie.Need-loop-again Inv-loop μ-loop
-loop-again c = 
-    let a = (c .before .before .before .before .before .before .before .before .before .args) in
-    let o = (c .before .before .before .before .before .loop) in
-    (
+loop-again c =
+    let back5 = c .before .before .before .before .before in
+    let back5 = back5 in
+    let at-loop = back5 in
+    let entry = at-loop .before .before .before .before in
+    let a = entry .args in
+    let o = at-loop .loop in (
       o .inv .0,
-      rw ((c .limits-of2 .ensures .0), sym (head-size (a .file .now) (o .p) (c .before .before .if1 .taken)))
-      (flowing-head (a .file .now) (a .m .now) (a .table .now) (a .k) (c .before .before .before .before .before .before .before .before .before .pre) (o .m) (o .p) (o .c) (o .head) (o .limits .end) (o .inv .1)
-      (omega arith) (c .before .before .if1 .taken) _ (c .before .end-of .ensures)),
+      rw (c .limits-of2 .ensures .0, sym (head-size (a .file .now) (o .p) (c .before .before .if1 .taken)))
+          (flowing-head (a .file .now) (a .m .now) (a .table .now) (a .k) (entry .pre) (o .m) (o .p) (o .c) (o .head) (o .limits .end) (o .inv .1)
+          (omega arith) (c .before .before .if1 .taken) _ (c .before .end-of .ensures)),
       (c .limits-of2 .ensures .1),
     )
 
 take-requires : tie.Need-take-requires Inv-loop μ-loop
-take-requires c κs = 
-    let a = (c .before .before .before .before .before .before .before .before .args) in
-    let o = (c .before .before .before .before .loop) in
-    (
-      begun-table (a .file .now) (a .m .now) (a .table .now) (a .k) (c .before .before .before .before .before .before .before .before .pre),
+take-requires c κs =
+    let back8 = c .before .before .before .before .before .before .before .before in
+    let back8 = back8 in
+    let entry = back8 in
+    let a = entry .args in
+    let o = c .before .before .before .before .loop in (
+      begun-table (a .file .now) (a .m .now) (a .table .now) (a .k) (entry .pre),
       record {
-        here = flowing-here (a .file .now) (a .m .now) (a .table .now) (a .k) (c .before .before .before .before .before .before .before .before .pre) (o .m) (o .p) (o .c) (o .head) (o .limits .end) (o .inv .1)
+        here = flowing-here (a .file .now) (a .m .now) (a .table .now) (a .k) (entry .pre) (o .m) (o .p) (o .c) (o .head) (o .limits .end) (o .inv .1)
             (omega arith) (c .before .if1 .left);
         bounds = o .inv .2;
         kind-is = refl;
@@ -75,38 +96,62 @@ take-requires c κs =
     )
 
 same-length : tie.Need-same-length Inv-loop μ-loop
-same-length c = omega (arith, (c .before .before .before .before .take .kept .1 .1 .0), (c .before .before .before .before .before .before .before .before .before .loop .inv .1 .good .shows .long), (c .before .before .before .before .before .before .before .before .before .before .before .before .before .pre .good .shows .long))
+same-length c =
+    let back9 = c .before .before .before .before .before .before .before .before .before in
+    let back9 = back9 in
+    let at-loop = back9 in
+    let entry = at-loop .before .before .before .before in
+    omega (arith, c .before .before .before .before .take .kept .1 .1 .0, at-loop .loop .inv .1 .good .shows .long, entry .pre .good .shows .long)
 
 returns : tie.Need-returns Inv-loop μ-loop
-returns c = 
-    let a = (c .before .before .before .before .before .before .before .before .before .before .before .before .before .args) in
-    let o = (c .before .before .before .before .before .before .before .before .before .loop) in
-    flowing-fault (a .file .now) (a .m .now) (a .table .now) (a .k) (c .before .before .before .before .before .before .before .before .before .before .before .before .before .pre) (o .m) (o .p) (o .c) (o .head) (o .limits .end) (o .inv .1)
-    (omega arith) (c .before .before .before .before .before .before .if1 .left) _ (c .before .before .before .before .take .last .1 .1 .0) (c .before .before .before .before .take .ensures .is) (c .if2 .taken)
+returns c =
+    let at-take = c .before .before .before .before in
+    let at-if1 = at-take .before .before in
+    let at-loop = at-if1 .before .before .before in
+    let entry = at-loop .before .before .before .before in
+    let a = entry .args in
+    let o = at-loop .loop in
+    flowing-fault (a .file .now) (a .m .now) (a .table .now) (a .k) (entry .pre) (o .m) (o .p) (o .c) (o .head) (o .limits .end) (o .inv .1)
+    (omega arith) (at-if1 .if1 .left) _ (at-take .take .last .1 .1 .0) (at-take .take .ensures .is) (c .if2 .taken)
 
 loop-less-2 : tie.Need-loop-less-2 Inv-loop μ-loop
-loop-less-2 c = omega (arith, (c .before .before .before .before .take .ensures .on) (c .if2 .left), after-above (c .before .before .before .before .before .before .before .before .before .before .before .before .before .args .file .now) (c .before .before .before .before .before .before .before .before .before .loop .p))
+loop-less-2 c =
+    let back9 = c .before .before .before .before .before .before .before .before .before in
+    let back9 = back9 in
+    let at-loop = back9 in
+    let entry = at-loop .before .before .before .before in
+    omega (arith, (c .before .before .before .before .take .ensures .on) (c .if2 .left), after-above (entry .args .file .now) (at-loop .loop .p))
 
 loop-again-2 : tie.Need-loop-again-2 Inv-loop μ-loop
-loop-again-2 c = 
-    let a = (c .before .before .before .before .before .before .before .before .before .before .before .before .before .args) in
-    let o = (c .before .before .before .before .before .before .before .before .before .loop) in
-    (
+loop-again-2 c =
+    let at-take = c .before .before .before .before in
+    let at-if1 = at-take .before .before in
+    let at-loop = at-if1 .before .before .before in
+    let entry = at-loop .before .before .before .before in
+    let a = entry .args in
+    let o = at-loop .loop in (
       o .inv .0,
-      rw ((c .before .before .before .before .take .ensures .on) (c .if2 .left))
-      (flowing-take (a .file .now) (a .m .now) (a .table .now) (a .k) (c .before .before .before .before .before .before .before .before .before .before .before .before .before .pre) (o .m) (o .p) (o .c) (o .head) (o .limits .end) (o .inv .1)
-      (omega arith) (c .before .before .before .before .before .before .if1 .left) _ (c .before .before .before .before .take .last .1 .1 .0) (c .before .before .before .before .take .ensures .is) (c .if2 .left)),
+      rw ((at-take .take .ensures .on) (c .if2 .left))
+          (flowing-take (a .file .now) (a .m .now) (a .table .now) (a .k) (entry .pre) (o .m) (o .p) (o .c) (o .head) (o .limits .end) (o .inv .1)
+          (omega arith) (at-if1 .if1 .left) _ (at-take .take .last .1 .1 .0) (at-take .take .ensures .is) (c .if2 .left)),
       o .inv .2,
     )
 
 same-length-2 : tie.Need-same-length-2 Inv-loop μ-loop
-same-length-2 c = omega (arith, (c .before .loop .inv .1 .good .shows .long), (c .before .before .before .before .before .pre .good .shows .long))
+same-length-2 c =
+    let back5 = c .before .before .before .before .before in
+    let back5 = back5 in
+    let entry = back5 in
+    omega (arith, c .before .loop .inv .1 .good .shows .long, entry .pre .good .shows .long)
 
 returns-2 : tie.Need-returns-2 Inv-loop μ-loop
-returns-2 c = 
-    let a = (c .before .before .before .before .before .args) in
-    let o = (c .before .loop) in
-    flowing-end (a .file .now) (a .m .now) (a .table .now) (a .k) (c .before .before .before .before .before .pre) (o .m) (o .p) (o .c) (o .head) (o .limits .end) (o .inv .1) (omega arith)
+returns-2 c =
+    let back5 = c .before .before .before .before .before in
+    let back5 = back5 in
+    let entry = back5 in
+    let a = entry .args in
+    let o = c .before .loop in
+    flowing-end (a .file .now) (a .m .now) (a .table .now) (a .k) (entry .pre) (o .m) (o .p) (o .c) (o .head) (o .limits .end) (o .inv .1) (omega arith)
 
 pub flow-spec : {M : Type 1} → statement M
 flow-spec =

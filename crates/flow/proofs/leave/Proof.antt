@@ -8,39 +8,72 @@ use Rattle.flow.proofs.leave.Statement.{statement}
 use Rattle.flow.proofs.leave.Tie as tie
 
 head-at-requires : tie.Need-head-at-requires
-head-at-requires c κs = (c .before .before .pre .here .head-whole)
+head-at-requires c κs = c .before .before .pre .here .head-whole
 
 state-in-requires : tie.Need-state-in-requires
 state-in-requires c κs = here-place (c .before .before .before .pre .here)
 
 returns : tie.Need-returns
-returns c = stops (on-return (c .before .before .before .before .before .before .pre) (c .before .before .state-in .ensures)) (le-ltb _ _ (c .if1 .taken))
+returns c =
+    let back6 = c .before .before .before .before .before .before in
+    let back6 = back6 in
+    let entry = back6 in
+    stops (on-return (entry .pre) (c .before .before .state-in .ensures)) (le-ltb _ _ (c .if1 .taken))
 
 returns-2 : tie.Need-returns-2
 unfolding headBytes
-returns-2 c = let J = passes (on-return (c .before .before .before .before .before .before .before .before .before .pre) (c .before .before .before .before .before .state-in .ensures)) (lt-ltb _ _ (c .before .before .before .if1 .left)) in
-    stops J (ne-eqb _ _ (λ e. (c .if2 .taken) (e ∙ sym (ap (λ (w : Head). w .r) (c .before .before .before .before .before .before .head-at .ensures .is)))))
+returns-2 c =
+    let back5 = c .before .before .before .before .before in
+    let back5 = back5 in
+    let at-state-in = back5 in
+    let at-head-at = at-state-in .before in
+    let entry = at-head-at .before .before .before in
+    let J = passes (on-return (entry .pre) (at-state-in .state-in .ensures)) (lt-ltb _ _ (c .before .before .before .if1 .left)) in
+    stops J (ne-eqb _ _ (λ e. (c .if2 .taken) (e ∙ sym (ap (λ (w : Head). w .r) (at-head-at .head-at .ensures .is)))))
 
 returns-3 : tie.Need-returns-3
 unfolding headBytes
-returns-3 c = let J = passes (on-return (c .before .before .before .before .before .before .before .before .before .before .before .before .pre) (c .before .before .before .before .before .before .before .before .state-in .ensures)) (lt-ltb _ _ (c .before .before .before .before .before .before .if1 .left)) in
-    let r = ap (λ (w : Head). w .r) (c .before .before .before .before .before .before .before .before .before .head-at .ensures .is) in
-    let s = ap (λ (w : Head). w .s) (c .before .before .before .before .before .before .before .before .before .head-at .ensures .is) in
-    stops (passes J (eq-eqb _ _ ((c .before .before .before .if2 .left) ∙ r))) (ne-eqb _ _ (λ e. (c .if3 .taken) (e ∙ sym s)))
+returns-3 c =
+    let back6 = c .before .before .before .before .before .before in
+    let back6 = back6 in
+    let at-if1 = back6 in
+    let at-state-in = at-if1 .before .before in
+    let at-head-at = at-state-in .before in
+    let entry = at-head-at .before .before .before in
+    let J = passes (on-return (entry .pre) (at-state-in .state-in .ensures)) (lt-ltb _ _ (at-if1 .if1 .left)) in
+    let r = ap (λ (w : Head). w .r) (at-head-at .head-at .ensures .is) in
+    let s = ap (λ (w : Head). w .s) (at-head-at .head-at .ensures .is) in
+    stops (passes J (eq-eqb _ _ (c .before .before .before .if2 .left ∙ r))) (ne-eqb _ _ (λ e. (c .if3 .taken) (e ∙ sym s)))
 
 returns-4 : tie.Need-returns-4
 unfolding headBytes
-returns-4 c = let J = passes (on-return (c .before .before .before .before .before .before .before .before .before .before .before .before .before .before .pre) (c .before .before .before .before .before .before .before .before .before .before .state-in .ensures)) (lt-ltb _ _ (c .before .before .before .before .before .before .before .before .if1 .left)) in
-    let r = ap (λ (w : Head). w .r) (c .before .before .before .before .before .before .before .before .before .before .before .head-at .ensures .is) in
-    let s = ap (λ (w : Head). w .s) (c .before .before .before .before .before .before .before .before .before .before .before .head-at .ensures .is) in
-    stops (passes (passes J (eq-eqb _ _ ((c .before .before .before .before .before .if2 .left) ∙ r))) (eq-eqb _ _ ((c .before .before .if3 .left) ∙ s))) (ne-eqb _ _ (c .if4 .taken))
+returns-4 c =
+    let back5 = c .before .before .before .before .before in
+    let back5 = back5 in
+    let at-if2 = back5 in
+    let at-if1 = at-if2 .before .before .before in
+    let at-state-in = at-if1 .before .before in
+    let at-head-at = at-state-in .before in
+    let entry = at-head-at .before .before .before in
+    let J = passes (on-return (entry .pre) (at-state-in .state-in .ensures)) (lt-ltb _ _ (at-if1 .if1 .left)) in
+    let r = ap (λ (w : Head). w .r) (at-head-at .head-at .ensures .is) in
+    let s = ap (λ (w : Head). w .s) (at-head-at .head-at .ensures .is) in
+    stops (passes (passes J (eq-eqb _ _ (at-if2 .if2 .left ∙ r))) (eq-eqb _ _ (c .before .before .if3 .left ∙ s))) (ne-eqb _ _ (c .if4 .taken))
 
 returns-5 : tie.Need-returns-5
 unfolding headBytes
-returns-5 c = let J = passes (on-return (c .before .before .before .before .before .before .before .before .before .before .before .before .before .before .pre) (c .before .before .before .before .before .before .before .before .before .before .state-in .ensures)) (lt-ltb _ _ (c .before .before .before .before .before .before .before .before .if1 .left)) in
-    let r = ap (λ (w : Head). w .r) (c .before .before .before .before .before .before .before .before .before .before .before .head-at .ensures .is) in
-    let s = ap (λ (w : Head). w .s) (c .before .before .before .before .before .before .before .before .before .before .before .head-at .ensures .is) in
-    sym (all-passed (passes (passes (passes J (eq-eqb _ _ ((c .before .before .before .before .before .if2 .left) ∙ r))) (eq-eqb _ _ ((c .before .before .if3 .left) ∙ s))) (eq-eqb _ _ (c .if4 .left))))
+returns-5 c =
+    let back5 = c .before .before .before .before .before in
+    let back5 = back5 in
+    let at-if2 = back5 in
+    let at-if1 = at-if2 .before .before .before in
+    let at-state-in = at-if1 .before .before in
+    let at-head-at = at-state-in .before in
+    let entry = at-head-at .before .before .before in
+    let J = passes (on-return (entry .pre) (at-state-in .state-in .ensures)) (lt-ltb _ _ (at-if1 .if1 .left)) in
+    let r = ap (λ (w : Head). w .r) (at-head-at .head-at .ensures .is) in
+    let s = ap (λ (w : Head). w .s) (at-head-at .head-at .ensures .is) in
+    sym (all-passed (passes (passes (passes J (eq-eqb _ _ (at-if2 .if2 .left ∙ r))) (eq-eqb _ _ (c .before .before .if3 .left ∙ s))) (eq-eqb _ _ (c .if4 .left))))
 
 pub leave-spec : {M : Type 1} → statement M
 leave-spec =

@@ -15,19 +15,29 @@ same-length : tie.Need-same-length
 same-length c = search needs
 
 returns : tie.Need-returns
-returns c = both-second _ _ _ _ _ (c .before .before .before .before .before .before .before .before .pass-one .last .0) (c .before .before .before .pass-one2 .last .0) true (rw (c .before .before .before .before .before .if1 .taken) at (c .before .before .before .before .before .before .before .before .pass-one .ensures)) (rw (c .if2 .taken) at (c .before .before .before .pass-one2 .ensures))
+returns c =
+    let at-pass-one2 = c .before .before .before in
+    let at-if1 = at-pass-one2 .before .before in
+    let at-pass-one = at-if1 .before .before .before in
+    both-second _ _ _ _ _ (at-pass-one .pass-one .last .0) (at-pass-one2 .pass-one2 .last .0) true (rw (at-if1 .if1 .taken) at (at-pass-one .pass-one .ensures)) (rw (c .if2 .taken) at (at-pass-one2 .pass-one2 .ensures))
 
 same-length-2 : tie.Need-same-length-2
 same-length-2 c = search needs
 
 returns-2 : tie.Need-returns-2
-returns-2 c = both-second _ _ _ _ _ (c .before .before .before .before .before .before .before .before .pass-one .last .0) (c .before .before .before .pass-one2 .last .0) false (rw (c .before .before .before .before .before .if1 .taken) at (c .before .before .before .before .before .before .before .before .pass-one .ensures)) (rw (c .if2 .left) at (c .before .before .before .pass-one2 .ensures))
+returns-2 c =
+    let at-pass-one2 = c .before .before .before in
+    let at-if1 = at-pass-one2 .before .before in
+    let at-pass-one = at-if1 .before .before .before in
+    both-second _ _ _ _ _ (at-pass-one .pass-one .last .0) (at-pass-one2 .pass-one2 .last .0) false (rw (at-if1 .if1 .taken) at (at-pass-one .pass-one .ensures)) (rw (c .if2 .left) at (at-pass-one2 .pass-one2 .ensures))
 
 same-length-3 : tie.Need-same-length-3
 same-length-3 c = search needs
 
 returns-3 : tie.Need-returns-3
-returns-3 c = both-first _ _ _ _ _ (c .before .before .before .pass-one .last .0) (rw (c .if1 .left) at (c .before .before .before .pass-one .ensures))
+returns-3 c =
+    let at-pass-one = c .before .before .before in
+    both-first _ _ _ _ _ (at-pass-one .pass-one .last .0) (rw (c .if1 .left) at (at-pass-one .pass-one .ensures))
 
 pub pass-both-spec : {M : Type 1} → statement M
 pass-both-spec =

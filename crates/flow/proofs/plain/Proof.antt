@@ -9,19 +9,30 @@ state-in-requires : tie.Need-state-in-requires
 state-in-requires c κs = here-place (c .before .before .before .pre .1 .here)
 
 outer-of-requires : tie.Need-outer-of-requires
-outer-of-requires c κs = held-here (c .before .before .before .before .before .pre .1 .here) (c .before .before .before .before .before .pre .1 .bounds) (c .before .state-in .ensures)
+outer-of-requires c κs =
+    let back5 = c .before .before .before .before .before in
+    let back5 = back5 in
+    let entry = back5 in
+    held-here (entry .pre .1 .here) (entry .pre .1 .bounds) (c .before .state-in .ensures)
 
 plain-at-requires : tie.Need-plain-at-requires
-plain-at-requires c κs = ((c .before .before .before .before .before .before .pre .0), (c .before .before .before .before .before .before .pre .1 .here .site), (c .before .before .before .before .before .before .pre .1 .kind-is), (c .before .before .before .before .before .before .pre .2), (c .before .before .before .before .before .before .pre .3), bounded-here (c .before .before .before .before .before .before .pre .1 .here) (c .before .before .before .before .before .before .pre .1 .bounds) (c .before .before .state-in .ensures) (c .outer-of .ensures))
+plain-at-requires c κs =
+    let back6 = c .before .before .before .before .before .before in
+    let back6 = back6 in
+    let entry = back6 in
+    (entry .pre .0, entry .pre .1 .here .site, entry .pre .1 .kind-is, entry .pre .2, entry .pre .3, bounded-here (entry .pre .1 .here) (entry .pre .1 .bounds) (c .before .before .state-in .ensures) (c .outer-of .ensures))
 
 pass-one-requires : tie.Need-pass-one-requires
-pass-one-requires c κs = 
-    let A = (c .before .before .before .before .before .before .before .before .before .pre .1) in
-    let S = (c .before .before .before .before .before .state-in .ensures) in
-    let W = onwards A (c .before .before .before .before .before .before .before .before .before .pre .2) (c .before .before .before .before .before .before .before .before .before .pre .3) S (c .before .before .before .outer-of .ensures) (c .before .before .plain-at .ensures) in
+pass-one-requires c κs =
+    let at-outer-of = c .before .before .before in
+    let at-state-in = at-outer-of .before .before in
+    let entry = at-state-in .before .before .before .before in
+    let A = entry .pre .1 in
+    let S = at-state-in .state-in .ensures in
+    let W = onwards A (entry .pre .2) (entry .pre .3) S (at-outer-of .outer-of .ensures) (c .before .before .plain-at .ensures) in
     let w = W .pass (c .before .if1 .taken) in
     let v = next-place (A .here) _ (w .2) in
-    let x = bounded-here (A .here) (A .bounds) S (c .before .before .before .outer-of .ensures) in
+    let x = bounded-here (A .here) (A .bounds) S (at-outer-of .outer-of .ensures) in
     (v .0, v .1, omega (arith, w .3, x .x-byte), omega (arith, w .4, x .y-byte), S .inner-small)
 
 done-requires : tie.Need-done-requires
@@ -31,7 +42,15 @@ same-length : tie.Need-same-length
 same-length c = search needs
 
 returns : tie.Need-returns
-returns c = rw (c .done .ensures) (plain-passed (onwards (c .before .before .before .before .before .before .before .before .before .before .before .before .before .before .pre .1) (c .before .before .before .before .before .before .before .before .before .before .before .before .before .before .pre .2) (c .before .before .before .before .before .before .before .before .before .before .before .before .before .before .pre .3) (c .before .before .before .before .before .before .before .before .before .before .state-in .ensures) (c .before .before .before .before .before .before .before .before .outer-of .ensures) (c .before .before .before .before .before .before .before .plain-at .ensures)) (c .before .before .before .before .before .before .before .before .before .before .state-in .ensures) (c .before .before .before .before .before .before .if1 .taken) (rw (c .before .if2 .taken) at (c .before .before .before .before .pass-one .ensures)))
+returns c =
+    let back6 = c .before .before .before .before .before .before in
+    let back6 = back6 in
+    let at-if1 = back6 in
+    let at-plain-at = at-if1 .before in
+    let at-outer-of = at-plain-at .before in
+    let at-state-in = at-outer-of .before .before in
+    let entry = at-state-in .before .before .before .before in
+    rw (c .done .ensures) (plain-passed (onwards (entry .pre .1) (entry .pre .2) (entry .pre .3) (at-state-in .state-in .ensures) (at-outer-of .outer-of .ensures) (at-plain-at .plain-at .ensures)) (at-state-in .state-in .ensures) (at-if1 .if1 .taken) (rw (c .before .if2 .taken) at (c .before .before .before .before .pass-one .ensures)))
 
 done-requires-2 : tie.Need-done-requires-2
 done-requires-2 c κs = search needs
@@ -40,7 +59,15 @@ same-length-2 : tie.Need-same-length-2
 same-length-2 c = search needs
 
 returns-2 : tie.Need-returns-2
-returns-2 c = rw (c .done2 .ensures) (plain-refused (onwards (c .before .before .before .before .before .before .before .before .before .before .before .before .before .before .pre .1) (c .before .before .before .before .before .before .before .before .before .before .before .before .before .before .pre .2) (c .before .before .before .before .before .before .before .before .before .before .before .before .before .before .pre .3) (c .before .before .before .before .before .before .before .before .before .before .state-in .ensures) (c .before .before .before .before .before .before .before .before .outer-of .ensures) (c .before .before .before .before .before .before .before .plain-at .ensures)) (c .before .before .before .before .before .before .before .before .before .before .state-in .ensures) (c .before .before .before .before .before .before .if1 .taken) (rw (c .before .if2 .left) at (c .before .before .before .before .pass-one .ensures)))
+returns-2 c =
+    let back6 = c .before .before .before .before .before .before in
+    let back6 = back6 in
+    let at-if1 = back6 in
+    let at-plain-at = at-if1 .before in
+    let at-outer-of = at-plain-at .before in
+    let at-state-in = at-outer-of .before .before in
+    let entry = at-state-in .before .before .before .before in
+    rw (c .done2 .ensures) (plain-refused (onwards (entry .pre .1) (entry .pre .2) (entry .pre .3) (at-state-in .state-in .ensures) (at-outer-of .outer-of .ensures) (at-plain-at .plain-at .ensures)) (at-state-in .state-in .ensures) (at-if1 .if1 .taken) (rw (c .before .if2 .left) at (c .before .before .before .before .pass-one .ensures)))
 
 done-requires-3 : tie.Need-done-requires-3
 done-requires-3 c κs = search needs
@@ -49,7 +76,12 @@ same-length-3 : tie.Need-same-length-3
 same-length-3 c = search needs
 
 returns-3 : tie.Need-returns-3
-returns-3 c = rw (c .done3 .ensures) (plain-stopped (onwards (c .before .before .before .before .before .before .before .before .before .pre .1) (c .before .before .before .before .before .before .before .before .before .pre .2) (c .before .before .before .before .before .before .before .before .before .pre .3) (c .before .before .before .before .before .state-in .ensures) (c .before .before .before .outer-of .ensures) (c .before .before .plain-at .ensures)) (c .before .if1 .left))
+returns-3 c =
+    let back5 = c .before .before .before .before .before in
+    let back5 = back5 in
+    let at-state-in = back5 in
+    let entry = at-state-in .before .before .before .before in
+    rw (c .done3 .ensures) (plain-stopped (onwards (entry .pre .1) (entry .pre .2) (entry .pre .3) (at-state-in .state-in .ensures) (c .before .before .before .outer-of .ensures) (c .before .before .plain-at .ensures)) (c .before .if1 .left))
 
 pub plain-spec : {M : Type 1} → statement M
 plain-spec =

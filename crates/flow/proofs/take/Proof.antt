@@ -18,24 +18,38 @@ unfolding insOf shapeOf bodyOf bodies codes
 leave-requires c κs = led (c .before .before .before .before .pre .1) 73 1 (leads Return 0 0) (c .before .match .keys1) refl refl
 
 add-done : tie.Need-add-done
-add-done c = let a = here-place (c .before .before .before .before .before .pre .1 .here) in omega arith
+add-done c =
+    let back5 = c .before .before .before .before .before in
+    let back5 = back5 in
+    let entry = back5 in
+    let a = here-place (entry .pre .1 .here) in omega arith
 
 done-requires : tie.Need-done-requires
 done-requires c κs = search needs
 
 operand-requires : tie.Need-operand-requires
 unfolding bodyOf bodies codes
-operand-requires c κs = room (c .before .before .before .before .pre .1 .here .site) 2 (ap bodyOf ((c .before .before .before .before .pre .1 .kind-is) ∙ (c .before .match .keys2)))
+operand-requires c κs =
+    let entry = c .before .before .before .before in
+    room (entry .pre .1 .here .site) 2 (ap bodyOf (entry .pre .1 .kind-is ∙ c .before .match .keys2))
 
 add-open : tie.Need-add-open
 add-open c = search needs
 
 open-requires : tie.Need-open-requires
 unfolding insOf shapeOf bodyOf bodies codes handlerAt
-open-requires c κs = led (c .before .before .before .before .before .pre .1) 160 3 (leads Open 0 _) (c .before .before .match .keys2) refl (rw ((c .operand .ensures .is), (c .before .before .before .before .before .pre .1 .here .head)))
+open-requires c κs =
+    let back5 = c .before .before .before .before .before in
+    let back5 = back5 in
+    let entry = back5 in
+    led (entry .pre .1) 160 3 (leads Open 0 _) (c .before .before .match .keys2) refl (rw (c .operand .ensures .is, entry .pre .1 .here .head))
 
 add-done-2 : tie.Need-add-done-2
-add-done-2 c = let a = here-place (c .before .before .before .before .before .before .before .before .pre .1 .here) in omega arith
+add-done-2 c =
+    let back8 = c .before .before .before .before .before .before .before .before in
+    let back8 = back8 in
+    let entry = back8 in
+    let a = here-place (entry .pre .1 .here) in omega arith
 
 done-requires-2 : tie.Need-done-requires-2
 done-requires-2 c κs = search needs
@@ -45,55 +59,89 @@ unfolding insOf shapeOf bodyOf bodies codes
 close-requires c κs = led (c .before .before .before .before .pre .1) 161 1 (leads Close 0 0) (c .before .match .keys3) refl refl
 
 add-done-3 : tie.Need-add-done-3
-add-done-3 c = let a = here-place (c .before .before .before .before .before .before .before .pre .1 .here) in omega arith
+add-done-3 c =
+    let back7 = c .before .before .before .before .before .before .before in
+    let back7 = back7 in
+    let entry = back7 in
+    let a = here-place (entry .pre .1 .here) in omega arith
 
 done-requires-3 : tie.Need-done-requires-3
 done-requires-3 c κs = search needs
 
 jumps-requires : tie.Need-jumps-requires
-jumps-requires c κs = ((c .before .before .before .before .before .before .pre .1), omega arith, omega arith)
+jumps-requires c κs =
+    let back6 = c .before .before .before .before .before .before in
+    let back6 = back6 in
+    let entry = back6 in
+    (entry .pre .1, omega arith, omega arith)
 
 add-done-4 : tie.Need-add-done-4
-add-done-4 c = let a = here-place (c .before .before .before .before .before .before .before .before .before .pre .1 .here) in omega arith
+add-done-4 c =
+    let back9 = c .before .before .before .before .before .before .before .before .before in
+    let back9 = back9 in
+    let entry = back9 in
+    let a = here-place (entry .pre .1 .here) in omega arith
 
 done-requires-4 : tie.Need-done-requires-4
 done-requires-4 c κs = search needs
 
 plain-requires : tie.Need-plain-requires
-plain-requires c κs = ((c .before .before .before .before .before .pre .0), (c .before .before .before .before .before .pre .1), ⊎-elim (λ t. inl (omega arith)) (λ t. inr (omega arith)) (c .before .if1 .came), (((((tt, (c .before .before .before .before .before .pre .2)), (c .before .before .match .rest .0 .0 .1)), (c .before .before .match .rest .0 .1)), (c .before .before .match .rest .1))))
+plain-requires c κs =
+    let back5 = c .before .before .before .before .before in
+    let back5 = back5 in
+    let entry = back5 in
+    (entry .pre .0, entry .pre .1, ⊎-elim (λ t. inl (omega arith)) (λ t. inr (omega arith)) (c .before .if1 .came), (((((tt, entry .pre .2), c .before .before .match .rest .0 .0 .1), c .before .before .match .rest .0 .1), c .before .before .match .rest .1)))
 
 same-length : tie.Need-same-length
 same-length c = search needs
 
 returns : tie.Need-returns
 unfolding bodyOf bodies codes
-returns c = rw (c .done .ensures) (took (c .before .before .before .before .before .before .pre .1) 73 1 (c .before .before .before .match .keys1) refl (c .before .leave .ensures))
+returns c =
+    let back6 = c .before .before .before .before .before .before in
+    let back6 = back6 in
+    let entry = back6 in
+    rw (c .done .ensures) (took (entry .pre .1) 73 1 (c .before .before .before .match .keys1) refl (c .before .leave .ensures))
 
 same-length-2 : tie.Need-same-length-2
 same-length-2 c = search needs
 
 returns-2 : tie.Need-returns-2
 unfolding bodyOf bodies codes
-returns-2 c = rw (c .done2 .ensures) (took (c .before .before .before .before .before .before .before .before .before .pre .1) 160 3 (c .before .before .before .before .before .before .match .keys2) refl (c .before .before .before .«open» .ensures))
+returns-2 c =
+    let back6 = c .before .before .before .before .before .before in
+    let back6 = back6 in
+    let at-match = back6 in
+    let entry = at-match .before .before .before in
+    rw (c .done2 .ensures) (took (entry .pre .1) 160 3 (at-match .match .keys2) refl (c .before .before .before .«open» .ensures))
 
 same-length-3 : tie.Need-same-length-3
 same-length-3 c = search needs
 
 returns-3 : tie.Need-returns-3
 unfolding bodyOf bodies codes
-returns-3 c = rw (c .done3 .ensures) (took (c .before .before .before .before .before .before .before .before .pre .1) 161 1 (c .before .before .before .before .before .match .keys3) refl (c .before .before .before .close .ensures))
+returns-3 c =
+    let back5 = c .before .before .before .before .before in
+    let back5 = back5 in
+    let at-match = back5 in
+    let entry = at-match .before .before .before in
+    rw (c .done3 .ensures) (took (entry .pre .1) 161 1 (at-match .match .keys3) refl (c .before .before .before .close .ensures))
 
 same-length-4 : tie.Need-same-length-4
 same-length-4 c = search needs
 
 returns-4 : tie.Need-returns-4
-returns-4 c = rw (c .done4 .ensures) (took (c .before .before .before .before .before .before .before .before .before .before .pre .1) _ 3 refl (ap suc (body-jumps _ (omega arith) (omega arith))) (c .before .before .before .jumps .ensures))
+returns-4 c =
+    let back10 = c .before .before .before .before .before .before .before .before .before .before in
+    let back10 = back10 in
+    let entry = back10 in
+    rw (c .done4 .ensures) (took (entry .pre .1) _ 3 refl (ap suc (body-jumps _ (omega arith) (omega arith))) (c .before .before .before .jumps .ensures))
 
 same-length-5 : tie.Need-same-length-5
 same-length-5 c = search needs
 
 returns-5 : tie.Need-returns-5
-returns-5 c = (c .before .before .plain .ensures)
+returns-5 c = c .before .before .plain .ensures
 
 pub take-spec : {M : Type 1} → statement M
 take-spec =

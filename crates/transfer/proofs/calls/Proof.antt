@@ -19,8 +19,10 @@ refuse-requires c κs = search needs
 
 returns : tie.Need-returns
 unfolding shapeOf plainly
-returns c = let t = (c .before .before .before .before .pre .0) in
-    rw ((c .refuse .ensures), ← (c .before .before .operand .ensures .is), ← t .count, lt-leb (suc (c .before .before .operand .result)) (c .before .before .before .before .args .k) (omega arith))
+returns c =
+    let entry = c .before .before .before .before in
+    let t = entry .pre .0 in
+    rw (c .refuse .ensures, ← (c .before .before .operand .ensures .is), ← t .count, lt-leb (suc (c .before .before .operand .result)) (entry .args .k) (omega arith))
 
 mul-at : tie.Need-mul-at
 mul-at c = search needs
@@ -29,17 +31,22 @@ element-copy-out-at : tie.Need-element-copy-out-at
 element-copy-out-at c = search needs
 
 head-at-requires : tie.Need-head-at-requires
-head-at-requires c κs = let t = (c .before .before .before .before .pre .0) in let n = (c .before .before .operand .result) in rw (t .heads n (omega (arith, t .few))) (t .whole n)
+head-at-requires c κs = let t = c .before .before .before .before .pre .0 in let n = c .before .before .operand .result in rw (t .heads n (omega (arith, t .few))) (t .whole n)
 
 step-requires : tie.Need-step-requires
-step-requires c κs = ((c .before .before .before .before .before .pre .3), (c .before .before .before .before .before .pre .2), omega arith, omega (arith, (c .head-at .ensures)), omega (arith, (c .head-at .ensures)))
+step-requires c κs =
+    let entry = c .before .before .before .before .before in
+    (entry .pre .3, entry .pre .2, omega arith, omega (arith, c .head-at .ensures), omega (arith, c .head-at .ensures))
 
 returns-2 : tie.Need-returns-2
 unfolding shapeOf procHead effectOf
-returns-2 c = let t = (c .before .before .before .before .before .before .pre .0) in
-    let n = (c .before .before .before .before .operand .result) in
+returns-2 c =
+    let at-operand = c .before .before .before .before in
+    let entry = at-operand .before .before in
+    let t = entry .pre .0 in
+    let n = at-operand .operand .result in
     let at = t .heads n (omega (arith, t .few)) in
-    rw ((c .step .ensures), ← (c .before .before .before .before .operand .ensures .is), (c .before .head-at .ensures .is) ∙ head-of _ n _ at, ← t .count, le-leb (suc n) (c .before .before .before .before .before .before .args .k) (omega arith))
+    rw (c .step .ensures, ← (at-operand .operand .ensures .is), (c .before .head-at .ensures .is) ∙ head-of _ n _ at, ← t .count, le-leb (suc n) (entry .args .k) (omega arith))
 
 pub calls-spec : {M : Type 1} → statement M
 calls-spec =

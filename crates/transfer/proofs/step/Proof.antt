@@ -11,10 +11,10 @@ effect-requires : tie.Need-effect-requires
 effect-requires c κs = search needs
 
 moves-requires : tie.Need-moves-requires
-moves-requires c κs = rw (c .effect .ensures) ((c .before .pre .0), ((c .before .pre .3), (c .before .pre .4)))
+moves-requires c κs = rw (c .effect .ensures) (c .before .pre .0, (c .before .pre .3, c .before .pre .4))
 
 returns : tie.Need-returns
-returns c = rw ((c .moves .ensures), (c .before .effect .ensures))
+returns c = rw (c .moves .ensures, c .before .effect .ensures)
 
 pub step-spec : {M : Type 1} → statement M
 step-spec = tie.close (tie.spec add-next effect-requires moves-requires returns)
