@@ -19,17 +19,13 @@ same-length c = search needs
 
 returns : tie.Need-returns
 returns c =
-    let back6 = c .before .before .before .before .before .before in
-    let back6 = back6 in
-    let entry = back6 in
+    let entry = c .before .before .before .before .before .before in
     let J = takes-open _ _ _ _ _ (entry .pre .here) (entry .pre .bounds) _ (entry .pre .shape-is) in
-    stops (passes J (sym c .before .before .own .ensures ∙ c .before .if1 .taken)) (lt-leb (suc (entry .args .p)) (entry .args .target) (omega arith))
+    stops (passes J (sym (c .before .before .own .ensures) ∙ c .before .if1 .taken)) (lt-leb (suc (entry .args .p)) (entry .args .target) (omega (arith, c .if2 .taken)))
 
 state-in-requires : tie.Need-state-in-requires
 state-in-requires c κs =
-    let back7 = c .before .before .before .before .before .before .before in
-    let back7 = back7 in
-    let entry = back7 in
+    let entry = c .before .before .before .before .before .before .before in
     here-place (entry .pre .here)
 
 same-length-2 : tie.Need-same-length-2
@@ -37,51 +33,45 @@ same-length-2 c = search needs
 
 returns-2 : tie.Need-returns-2
 returns-2 c =
-    let back5 = c .before .before .before .before .before in
-    let back5 = back5 in
-    let at-if1 = back5 in
+    let at-if1 = c .before .before .before .before .before in
     let at-own = at-if1 .before in
     let entry = at-own .before .before .before .before in
-    let J = passes (on-open (entry .pre) (c .before .before .state-in .ensures)) (sym at-own .own .ensures ∙ at-if1 .if1 .taken) in
-    stops (passes J (le-leb (suc (entry .args .p)) (entry .args .target) (omega arith))) (le-ltb _ _ (c .if3 .taken))
+    let J = passes (on-open (entry .pre) (c .before .before .state-in .ensures)) (sym (at-own .own .ensures) ∙ at-if1 .if1 .taken) in
+    stops (passes J (le-leb (suc (entry .args .p)) (entry .args .target) (omega (arith, c .before .before .before .before .if2 .left)))) (le-ltb _ _ (c .if3 .taken))
 
 same-length-3 : tie.Need-same-length-3
 same-length-3 c = search needs
 
 returns-3 : tie.Need-returns-3
 returns-3 c =
-    let back7 = c .before .before .before .before .before .before .before in
-    let back7 = back7 in
-    let at-if1 = back7 in
+    let at-if2 = c .before .before .before .before .before .before in
+    let at-if1 = at-if2 .before in
     let at-own = at-if1 .before in
     let entry = at-own .before .before .before .before in
-    let J = passes (on-open (entry .pre) (c .before .before .before .before .state-in .ensures)) (sym at-own .own .ensures ∙ at-if1 .if1 .taken) in
-    stops (passes (passes J (le-leb (suc (entry .args .p)) (entry .args .target) (omega arith))) (lt-ltb _ _ (c .before .before .if3 .left))) (le-ltb _ _ (c .if4 .taken))
+    let J = passes (on-open (entry .pre) (c .before .before .before .before .state-in .ensures)) (sym (at-own .own .ensures) ∙ at-if1 .if1 .taken) in
+    stops (passes (passes J (le-leb (suc (entry .args .p)) (entry .args .target) (omega (arith, at-if2 .if2 .left)))) (lt-ltb _ _ (c .before .before .if3 .left))) (le-ltb _ _ (c .if4 .taken))
 
 same-length-4 : tie.Need-same-length-4
 same-length-4 c = search needs
 
 returns-4 : tie.Need-returns-4
 returns-4 c =
-    let back5 = c .before .before .before .before .before in
-    let back5 = back5 in
-    let at-if3 = back5 in
+    let at-if3 = c .before .before .before .before .before in
     let at-state-in = at-if3 .before .before in
-    let at-if1 = at-state-in .before .before .before in
+    let at-if2 = at-state-in .before .before in
+    let at-if1 = at-if2 .before in
     let at-own = at-if1 .before in
     let entry = at-own .before .before .before .before in
-    let J = passes (on-open (entry .pre) (at-state-in .state-in .ensures)) (sym at-own .own .ensures ∙ at-if1 .if1 .taken) in
-    let K = passes (passes (passes J (le-leb (suc (entry .args .p)) (entry .args .target) (omega arith))) (lt-ltb _ _ (at-if3 .if3 .left))) (lt-ltb _ _ (c .before .before .before .if4 .left)) in
-    stops K (lt-leb (suc (at-state-in .state-in .result .main)) (entry .args .limits .x) (omega arith))
+    let J = passes (on-open (entry .pre) (at-state-in .state-in .ensures)) (sym (at-own .own .ensures) ∙ at-if1 .if1 .taken) in
+    let K = passes (passes (passes J (le-leb (suc (entry .args .p)) (entry .args .target) (omega (arith, at-if2 .if2 .left)))) (lt-ltb _ _ (at-if3 .if3 .left))) (lt-ltb _ _ (c .before .before .before .if4 .left)) in
+    stops K (lt-leb (suc (at-state-in .state-in .result .main)) (entry .args .limits .x) (omega (arith, c .if5 .taken)))
 
 add-raised : tie.Need-add-raised
 add-raised c = search needs
 
 pass-both-requires : tie.Need-pass-both-requires
 pass-both-requires c κs =
-    let back5 = c .before .before .before .before .before in
-    let back5 = back5 in
-    let at-if4 = back5 in
+    let at-if4 = c .before .before .before .before .before in
     let at-state-in = at-if4 .before .before .before .before in
     let at-if1 = at-state-in .before .before .before in
     let at-own = at-if1 .before in
@@ -89,7 +79,7 @@ pass-both-requires c κs =
     let S = at-state-in .state-in .ensures in
     let a = here-place (entry .pre .here) in
     let v = next-place (entry .pre .here) _ (at-if4 .if4 .left) in
-    let w = own-place (entry .pre .here) _ (sym at-own .own .ensures ∙ at-if1 .if1 .taken) in (
+    let w = own-place (entry .pre .here) _ (sym (at-own .own .ensures) ∙ at-if1 .if1 .taken) in (
       record { inside = v .0; low = v .1; main-small = S .main-small; ptr-small = S .ptr-small; inner-small = omega arith },
       record { inside = w .0; low = w .1; main-small = omega arith; ptr-small = S .ptr-small; inner-small = S .inner-small },
     )
@@ -99,27 +89,25 @@ same-length-5 c = search needs
 
 returns-5 : tie.Need-returns-5
 returns-5 c =
-    let back8 = c .before .before .before .before .before .before .before .before in
-    let back8 = back8 in
-    let at-if4 = back8 in
+    let at-if5 = c .before .before .before .before .before in
+    let at-if4 = at-if5 .before .before .before in
     let at-if3 = at-if4 .before .before in
     let at-state-in = at-if3 .before .before in
-    let at-if1 = at-state-in .before .before .before in
+    let at-if2 = at-state-in .before .before in
+    let at-if1 = at-if2 .before in
     let at-own = at-if1 .before in
     let entry = at-own .before .before .before .before in
-    let J = passes (on-open (entry .pre) (at-state-in .state-in .ensures)) (sym at-own .own .ensures ∙ at-if1 .if1 .taken) in
-    let K = passes (passes (passes J (le-leb (suc (entry .args .p)) (entry .args .target) (omega arith))) (lt-ltb _ _ (at-if3 .if3 .left))) (lt-ltb _ _ (at-if4 .if4 .left)) in
-    c .before .before .pass-both .ensures ∙ sym (all-passed (passes K (le-leb (suc (at-state-in .state-in .result .main)) (entry .args .limits .x) (omega arith))))
+    let J = passes (on-open (entry .pre) (at-state-in .state-in .ensures)) (sym (at-own .own .ensures) ∙ at-if1 .if1 .taken) in
+    let K = passes (passes (passes J (le-leb (suc (entry .args .p)) (entry .args .target) (omega (arith, at-if2 .if2 .left)))) (lt-ltb _ _ (at-if3 .if3 .left))) (lt-ltb _ _ (at-if4 .if4 .left)) in
+    c .before .before .pass-both .ensures ∙ sym (all-passed (passes K (le-leb (suc (at-state-in .state-in .result .main)) (entry .args .limits .x) (omega (arith, at-if5 .if5 .left)))))
 
 same-length-6 : tie.Need-same-length-6
 same-length-6 c = search needs
 
 returns-6 : tie.Need-returns-6
 returns-6 c =
-    let back5 = c .before .before .before .before .before in
-    let back5 = back5 in
-    let entry = back5 in
-    stops (takes-open _ _ _ _ _ (entry .pre .here) (entry .pre .bounds) _ (entry .pre .shape-is)) (sym c .before .own .ensures ∙ c .if1 .left)
+    let entry = c .before .before .before .before .before in
+    stops (takes-open _ _ _ _ _ (entry .pre .here) (entry .pre .bounds) _ (entry .pre .shape-is)) (sym (c .before .own .ensures) ∙ c .if1 .left)
 
 pub open-spec : {M : Type 1} → statement M
 open-spec =

@@ -19,7 +19,8 @@ returns c =
     let at-pass-one2 = c .before .before .before in
     let at-if1 = at-pass-one2 .before .before in
     let at-pass-one = at-if1 .before .before .before in
-    both-second _ _ _ _ _ (at-pass-one .pass-one .last .0) (at-pass-one2 .pass-one2 .last .0) true (rw (at-if1 .if1 .taken) at (at-pass-one .pass-one .ensures)) (rw (c .if2 .taken) at (at-pass-one2 .pass-one2 .ensures))
+    both-second _ _ _ _ _ (at-pass-one .pass-one .last .0) (at-pass-one2 .pass-one2 .last .0) true
+    (rw (at-if1 .if1 .taken) at (at-pass-one .pass-one .ensures)) (rw (c .if2 .taken) at (at-pass-one2 .pass-one2 .ensures))
 
 same-length-2 : tie.Need-same-length-2
 same-length-2 c = search needs
@@ -29,7 +30,8 @@ returns-2 c =
     let at-pass-one2 = c .before .before .before in
     let at-if1 = at-pass-one2 .before .before in
     let at-pass-one = at-if1 .before .before .before in
-    both-second _ _ _ _ _ (at-pass-one .pass-one .last .0) (at-pass-one2 .pass-one2 .last .0) false (rw (at-if1 .if1 .taken) at (at-pass-one .pass-one .ensures)) (rw (c .if2 .left) at (at-pass-one2 .pass-one2 .ensures))
+    both-second _ _ _ _ _ (at-pass-one .pass-one .last .0) (at-pass-one2 .pass-one2 .last .0) false
+    (rw (at-if1 .if1 .taken) at (at-pass-one .pass-one .ensures)) (rw (c .if2 .left) at (at-pass-one2 .pass-one2 .ensures))
 
 same-length-3 : tie.Need-same-length-3
 same-length-3 c = search needs

@@ -10,17 +10,14 @@ state-in-requires c κs = here-place (c .before .before .before .pre .1 .here)
 
 outer-of-requires : tie.Need-outer-of-requires
 outer-of-requires c κs =
-    let back5 = c .before .before .before .before .before in
-    let back5 = back5 in
-    let entry = back5 in
+    let entry = c .before .before .before .before .before in
     held-here (entry .pre .1 .here) (entry .pre .1 .bounds) (c .before .state-in .ensures)
 
 plain-at-requires : tie.Need-plain-at-requires
 plain-at-requires c κs =
-    let back6 = c .before .before .before .before .before .before in
-    let back6 = back6 in
-    let entry = back6 in
-    (entry .pre .0, entry .pre .1 .here .site, entry .pre .1 .kind-is, entry .pre .2, entry .pre .3, bounded-here (entry .pre .1 .here) (entry .pre .1 .bounds) (c .before .before .state-in .ensures) (c .outer-of .ensures))
+    let entry = c .before .before .before .before .before .before in
+    let A = entry .pre .1 in
+    (entry .pre .0, A .here .site, A .kind-is, entry .pre .2, entry .pre .3, bounded-here (A .here) (A .bounds) (c .before .before .state-in .ensures) (c .outer-of .ensures))
 
 pass-one-requires : tie.Need-pass-one-requires
 pass-one-requires c κs =
@@ -43,14 +40,13 @@ same-length c = search needs
 
 returns : tie.Need-returns
 returns c =
-    let back6 = c .before .before .before .before .before .before in
-    let back6 = back6 in
-    let at-if1 = back6 in
+    let at-if1 = c .before .before .before .before .before .before in
     let at-plain-at = at-if1 .before in
     let at-outer-of = at-plain-at .before in
     let at-state-in = at-outer-of .before .before in
     let entry = at-state-in .before .before .before .before in
-    rw (c .done .ensures) (plain-passed (onwards (entry .pre .1) (entry .pre .2) (entry .pre .3) (at-state-in .state-in .ensures) (at-outer-of .outer-of .ensures) (at-plain-at .plain-at .ensures)) (at-state-in .state-in .ensures) (at-if1 .if1 .taken) (rw (c .before .if2 .taken) at (c .before .before .before .before .pass-one .ensures)))
+    let W = onwards (entry .pre .1) (entry .pre .2) (entry .pre .3) (at-state-in .state-in .ensures) (at-outer-of .outer-of .ensures) (at-plain-at .plain-at .ensures) in
+    rw (c .done .ensures) (plain-passed W (at-state-in .state-in .ensures) (at-if1 .if1 .taken) (rw (c .before .if2 .taken) at (c .before .before .before .before .pass-one .ensures)))
 
 done-requires-2 : tie.Need-done-requires-2
 done-requires-2 c κs = search needs
@@ -60,14 +56,13 @@ same-length-2 c = search needs
 
 returns-2 : tie.Need-returns-2
 returns-2 c =
-    let back6 = c .before .before .before .before .before .before in
-    let back6 = back6 in
-    let at-if1 = back6 in
+    let at-if1 = c .before .before .before .before .before .before in
     let at-plain-at = at-if1 .before in
     let at-outer-of = at-plain-at .before in
     let at-state-in = at-outer-of .before .before in
     let entry = at-state-in .before .before .before .before in
-    rw (c .done2 .ensures) (plain-refused (onwards (entry .pre .1) (entry .pre .2) (entry .pre .3) (at-state-in .state-in .ensures) (at-outer-of .outer-of .ensures) (at-plain-at .plain-at .ensures)) (at-state-in .state-in .ensures) (at-if1 .if1 .taken) (rw (c .before .if2 .left) at (c .before .before .before .before .pass-one .ensures)))
+    let W = onwards (entry .pre .1) (entry .pre .2) (entry .pre .3) (at-state-in .state-in .ensures) (at-outer-of .outer-of .ensures) (at-plain-at .plain-at .ensures) in
+    rw (c .done2 .ensures) (plain-refused W (at-state-in .state-in .ensures) (at-if1 .if1 .taken) (rw (c .before .if2 .left) at (c .before .before .before .before .pass-one .ensures)))
 
 done-requires-3 : tie.Need-done-requires-3
 done-requires-3 c κs = search needs
@@ -77,11 +72,10 @@ same-length-3 c = search needs
 
 returns-3 : tie.Need-returns-3
 returns-3 c =
-    let back5 = c .before .before .before .before .before in
-    let back5 = back5 in
-    let at-state-in = back5 in
+    let at-state-in = c .before .before .before .before .before in
     let entry = at-state-in .before .before .before .before in
-    rw (c .done3 .ensures) (plain-stopped (onwards (entry .pre .1) (entry .pre .2) (entry .pre .3) (at-state-in .state-in .ensures) (c .before .before .before .outer-of .ensures) (c .before .before .plain-at .ensures)) (c .before .if1 .left))
+    let W = onwards (entry .pre .1) (entry .pre .2) (entry .pre .3) (at-state-in .state-in .ensures) (c .before .before .before .outer-of .ensures) (c .before .before .plain-at .ensures) in
+    rw (c .done3 .ensures) (plain-stopped W (c .before .if1 .left))
 
 pub plain-spec : {M : Type 1} → statement M
 plain-spec =

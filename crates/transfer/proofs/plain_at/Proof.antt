@@ -51,7 +51,12 @@ step-requires-9 c κs = (c .before .before .pre .5, low (c .before .before .pre 
 
 calls-requires : tie.Need-calls-requires
 unfolding bodyOf bodies codes
-calls-requires c κs = (c .before .before .pre .0, room (c .before .before .pre .1) 2 (ap bodyOf (c .before .before .pre .2 ∙ c .match .keys11)), low (c .before .before .pre .1), c .before .before .pre .5)
+calls-requires c κs = (
+  c .before .before .pre .0,
+  room (c .before .before .pre .1) 2 (ap bodyOf (c .before .before .pre .2 ∙ c .match .keys11)),
+  low (c .before .before .pre .1),
+  c .before .before .pre .5,
+)
 
 step-requires-10 : tie.Need-step-requires-10
 step-requires-10 c κs = (c .before .before .pre .5, low (c .before .before .pre .1), omega arith, omega arith, omega arith)
