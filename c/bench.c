@@ -139,7 +139,7 @@ static void row(const char *name, double units, const double best[SIDES], bool g
 
 /* ---- files of a wanted length ---- */
 
-static uint8_t f[4096 + 64];
+static uint8_t f[4096 + 512];
 static size_t n;
 
 static void bytes(const uint8_t *b, size_t count)
@@ -222,6 +222,254 @@ static void procedures(size_t total)
     finish(total);
 }
 
+/* ---- a file as a shop would write it ---- */
+
+static uint32_t drawn;
+
+/* A small fixed generator: the mix is the same each time, and no branch of a checker foresees it. */
+static unsigned draw(unsigned below)
+{
+    drawn = drawn * 1664525u + 1013904223u;
+    return (drawn >> 16) % below;
+}
+
+/* The procedure being written, the number of procedures, its pointer words and its main words, the last of which counts its loops. */
+static struct {
+    size_t head;
+    unsigned number, of, ptrs;
+    uint8_t words;
+} proc;
+
+static unsigned params_of(unsigned k) { return k == 0 ? 0 : 1 + k % 3; }
+static unsigned ptrs_of(unsigned k) { return k % 4 == 3; }
+static unsigned results_of(unsigned k) { return k + 1 < proc.of && k % 3 != 0; }
+
+/* A jump forwards is led to where it goes when that place is known. */
+static size_t ahead(uint8_t kind)
+{
+    BYTES(kind, 0, 0);
+    return n;
+}
+
+static void here(size_t from)
+{
+    f[from - 2] = (uint8_t)((n - from) >> 8);
+    f[from - 1] = (uint8_t)(n - from);
+}
+
+static void back(uint8_t kind, size_t to)
+{
+    size_t s = n + 3 - to;
+    BYTES(kind, (uint8_t)(s >> 8), (uint8_t)s);
+}
+
+static uint8_t word(void) { return (uint8_t)draw(proc.words - 1u); }
+static void save(void) { BYTES(22, 0, word()); }
+
+static void value(void)
+{
+    switch (draw(6)) {
+    case 0: case 1: BYTES(54, (uint8_t)draw(256)); break;
+    case 2: BYTES(56, 0, 0, (uint8_t)draw(128), (uint8_t)draw(256)); break;
+    default: BYTES(20, 0, word());
+    }
+}
+
+/* At most 2^15 like every word and field, so that nothing goes out of range. */
+static void expression(void)
+{
+    static const uint8_t one[] = { 144, 146 }, two[] = { 140, 141, 142 };
+    value();
+    switch (draw(4)) {
+    case 0: break;
+    case 1: BYTES(one[draw(2)]); break;
+    case 2: BYTES(54, (uint8_t)(1 + draw(127)), 143); break;
+    default:
+        value();
+        BYTES(two[draw(3)], 56, 0, 0, (uint8_t)(1 + draw(127)), (uint8_t)draw(256), 145);
+    }
+}
+
+/* The object, from the root or a parameter; it has one pointer word, 2, and the plain words 3 and 4. */
+static void object(void)
+{
+    if (proc.ptrs != 0 && draw(2) == 0)
+        BYTES(21, 0, 0);
+    else
+        BYTES(58);
+}
+
+static void comparison(void)
+{
+    static const uint8_t two[] = { 130, 195, 198, 201, 204 };
+    if (draw(6) == 0) {
+        object();
+        BYTES(31, 0, 2, 57, 131);
+        return;
+    }
+    value();
+    value();
+    BYTES(two[draw(5)]);
+}
+
+static void condition(void)
+{
+    comparison();
+    if (draw(4) == 0) { /* and, or */
+        size_t over = ahead((uint8_t)(5 + draw(2)));
+        comparison();
+        here(over);
+    }
+}
+
+static void field(void)
+{
+    uint8_t s = (uint8_t)(3 + draw(2));
+    switch (draw(5)) {
+    case 0:
+        object();
+        object();
+        BYTES(33, 0, 2);
+        break;
+    case 1: case 2:
+        expression();
+        object();
+        BYTES(32, 0, s);
+        break;
+    default:
+        object();
+        BYTES(30, 0, s);
+        save();
+    }
+}
+
+static void call_of(unsigned k)
+{
+    for (unsigned i = 0; i < params_of(k); i++)
+        value();
+    if (ptrs_of(k) != 0)
+        object();
+    BYTES(72, 0, (uint8_t)k);
+    if (results_of(k) == 0)
+        return;
+    if (draw(4) == 0)
+        BYTES(64, 0, 1, 0, 0);
+    else
+        save();
+}
+
+/* A quotient or a value, or the code of what is raised instead. */
+static void guarded(void)
+{
+    size_t at = n;
+    BYTES(160, 0, 0);
+    if (draw(2) == 0) {
+        value();
+        BYTES(20, 0, word(), 143);
+    } else {
+        condition();
+        size_t over = ahead(2);
+        BYTES(54, 9, 162);
+        here(over);
+        value();
+    }
+    BYTES(161);
+    f[at + 1] = (uint8_t)((n - proc.head) >> 8);
+    f[at + 2] = (uint8_t)(n - proc.head);
+    save();
+}
+
+static void statement(unsigned depth)
+{
+    size_t over, top;
+    uint8_t counter = (uint8_t)(proc.words - 1);
+    switch (draw(depth == 0 ? 10 : depth == 1 ? 8 : 5)) {
+    case 0: case 1: case 2: expression(); save(); break;
+    case 3: field(); break;
+    case 4: /* the odd ones call none */
+        if (proc.number % 2 == 0)
+            call_of(1 + 2 * draw(proc.of / 2));
+        break;
+    case 5: guarded(); break;
+    case 6:
+        condition();
+        over = ahead(2);
+        statement(depth + 1);
+        here(over);
+        break;
+    case 7:
+        condition();
+        over = ahead(2);
+        statement(depth + 1);
+        top = ahead(1);
+        here(over);
+        statement(depth + 1);
+        here(top);
+        break;
+    default: /* counts down */
+        BYTES(54, (uint8_t)(2 + draw(6)), 22, 0, counter);
+        top = n;
+        statement(1);
+        if (draw(2) == 0)
+            statement(1);
+        BYTES(20, 0, counter, 54, 1, 142, 22, 0, counter, 20, 0, counter);
+        back(4, top);
+    }
+}
+
+/* Statements up to a place; what would reach beyond it is taken back. */
+static void fill(size_t to)
+{
+    for (unsigned beyond = 0; beyond < 12;) {
+        size_t was = n;
+        statement(0);
+        if (n > to) {
+            n = was;
+            beyond++;
+        }
+    }
+}
+
+/* Procedure 0 makes an object and calls 1 and the even ones for ever; these call an odd one, the odd ones none. */
+static void typical(size_t total)
+{
+    n = 0;
+    drawn = 10806; /* in 300 bytes, too, the mix has every sort of statement */
+    proc.of = total < 1024 ? 4 : 28;
+    for (unsigned k = 0; k < proc.of; k++) {
+        unsigned a = params_of(k), b = ptrs_of(k), r = results_of(k);
+        size_t to = total * (k + 2) / (proc.of + 1);
+        proc.head = n;
+        proc.number = k;
+        proc.ptrs = b;
+        proc.words = (uint8_t)(a + 2 + draw(3));
+        BYTES(240, (uint8_t)a, (uint8_t)b, (uint8_t)r, 0, (uint8_t)(proc.words + 3), (uint8_t)(b + 2));
+        if (k == 0)
+            BYTES(54, 1, 54, 2, 57, 36, 0, 2, 0, 1, 59);
+        for (unsigned i = a; i < proc.words; i++)
+            BYTES(54, (uint8_t)draw(100));
+        if (k == 0) {
+            size_t top = n;
+            fill(to - 6 * proc.of);
+            for (unsigned i = 1; i < proc.of; i += i == 1 ? 1 : 2)
+                call_of(i);
+            back(3, top);
+            continue;
+        }
+        fill(to - (k + 1 == proc.of ? 14 : k % 2 == 0 ? 45 : 25));
+        if (k % 2 == 0)
+            call_of(k + 1);
+        if (r != 0)
+            expression();
+        BYTES(r != 0 ? 60 : 64, 0, proc.words, 0, (uint8_t)b);
+        if (k + 1 < proc.of)
+            BYTES(73);
+    }
+    finish(total);
+}
+
+static const size_t typicals[] = { 300, 4096 };
+
 static void check_rows(void)
 {
     static const struct {
@@ -246,6 +494,13 @@ static void check_rows(void)
             measure(CHECK, 0, YALGOVIM_PASSED, name, best);
             row(name, (double)n, best, total > 512);
         }
+    for (size_t i = 0; i < 2; i++) {
+        typical(typicals[i]);
+        snprintf(name, sizeof name, "typical, %zu bytes", n);
+        lend(f, n, 256, 256, 250, 1024);
+        measure(CHECK, 0, YALGOVIM_PASSED, name, best);
+        row(name, (double)n, best, false);
+    }
     /* refused at the last byte */
     straight(4096);
     f[n - 1] = 99;
@@ -306,6 +561,15 @@ static void audit_rows(void)
     double best[SIDES];
     char name[80];
     title("audits: run with budget 0", "us/call");
+    lend(idle, sizeof idle, 256, 256, 250, 1024);
+    start_all("idle");
+    measure(RUN, 0, YALGOVIM_SPENT, "idle", best);
+    row("idle run, stacks 256, 256, 250, heap 1024", 1000, best, false);
+    typical(300);
+    lend(f, n, 256, 256, 250, 1024);
+    start_all("idle, typical");
+    measure(RUN, 0, YALGOVIM_SPENT, "idle, typical", best);
+    row("idle run, the same, typical file of 300", 1000, best, false);
     heap_rows("empty", false, 0, false);
     heap_rows("full, objects of 2 words", true, 0, false);
     heap_rows("full, 14 pointers each", true, 14, false);
@@ -409,6 +673,16 @@ static void step_rows(void)
         start_all(loops[i].name);
         measure(RUN, 100, YALGOVIM_SPENT, loops[i].name, best);
         row(loops[i].name, 1000, best, false);
+    }
+    for (size_t i = 0; i < 2; i++) {
+        typical(typicals[i]);
+        snprintf(name, sizeof name, "typical file, %zu bytes", n);
+        lend(f, n, 256, 256, 250, 1024);
+        start_all(name);
+        for (int w = 0; w < SIDES; w++)
+            need(call(w, RUN, 1000000), YALGOVIM_SPENT, name);
+        measure(RUN, 100, YALGOVIM_SPENT, name, best);
+        row(name, 1000, best, false);
     }
 }
 
