@@ -274,7 +274,7 @@ pub fn wide(b: u8) -> usize
     b as usize
 }
 
-// A copy of the table. The compiler makes a constant array anew at each use: each pass over the records takes one copy and lends it.
+// A copy of the table. The compiler makes a constant array anew at each use: the scan takes one copy and reads that.
 pub fn bodies() -> [u8; 256]
     ensures { λ r. ⌜ r ≡ lengths ⌝ }
 {
@@ -288,14 +288,6 @@ pub fn body(bodies: &[u8; 256], kind: u8) -> usize
 {
     let i = wide(kind);
     wide(bodies[i])
-}
-
-// The place behind the record at p; behind an unknown kind's, 256 bytes on.
-pub fn after(bodies: &[u8; 256], file: &[u8], p: usize) -> usize
-    requires { ⌜ (now bodies ≡ lengths) × (p < length (now file)) ⌝ }
-    ensures { λ r. ⌜ Small (p + 257) (model.after (now (file .entry)) p) r ⌝ }
-{
-    p + 1 + body(bodies, file[p])
 }
 
 // The 16-bit operand of the instruction at p, most significant byte first.

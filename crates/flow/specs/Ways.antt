@@ -11,12 +11,12 @@ use lib.ListN.{length}
 use borrow.Author.Tests.{ltb-true}
 use Rattle.model.specs.Choice.{if_then_else_}
 use Rattle.model.specs.File.{Ins, basic, jump, branch, branchKeep, call, return, enter, exit, raise, bodyOf, byteAt, insOf, insAt, after, headOf, procAt, resultsMain, resultsPtr, mostMain, mostPtr}
-use Rattle.model.specs.Checker.{none, State, state, effect, moved, outer, own, Step, bad, next, need, andThen}
+use Rattle.model.specs.Checker.{none, State, state, effect, moved, outer, own, Step, bad, next, need}
 use Rattle.code.specs.Kinds.{NoneOf}
 use Rattle.transfer.specs.declared.State.{State as Numbers}
 use Rattle.transfer.specs.declared.Limits.{Limits}
 use Rattle.transfer.specs.declared.Onward.{Onward}
-use Rattle.transfer.specs.Shape.{Way, Next, Jump, Branch, Keep, Open, Close, Return, Raise, Shape, shape, shapeOf}
+use Rattle.transfer.specs.Shape.{Way, Next, Jump, Branch, Keep, Open, Close, Return, Shape, shape, shapeOf}
 use Rattle.transfer.specs.Site as site
 use Rattle.transfer.specs.Site.{Site}
 use Rattle.transfer.specs.Tests.{asState, goesBy, jumpsBy, targetOk, stacksOk, depthOk, leaveOk, effectIn, nextState, targetState, Fits, stacks-fit, target-tests, next-tests, depth-tests, leave-tests, passes-are}

@@ -1,5 +1,5 @@
 -- `flow::close`: the tests in their order (`on-close`), then the state with the handlers open at the 160.
-use mathlib.Core.Bool.{true, false, not}
+use mathlib.Core.Bool.{not}
 use mathlib.Core.Path.{sym, _∙_, ap}
 use borrow.Author.Tests.{lt-ltb, le-ltb, eq-eqb, ne-eqb}
 use Rattle.model.specs.Checker.{State}

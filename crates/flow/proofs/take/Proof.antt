@@ -1,14 +1,14 @@
 -- `flow::take`: each family by its own function; a code with no arm leads to the next instruction alone, or nowhere.
 use Prim.Native.Nat.{suc}
 use mathlib.Core.Logic.{⊎-elim, inl, inr}
-use mathlib.Core.Path.{_∙_, ap, refl, sym}
+use mathlib.Core.Path.{_∙_, ap, refl}
 use native.Mathlib.Omega.{arith}
 use Rattle.model.specs.File.{codes, bodies, bodyOf, insOf}
 use Rattle.model.specs.Checker.{handlerAt}
 use Rattle.transfer.specs.Shape.{Open, Close, Return, shapeOf}
 use Rattle.transfer.specs.Site.{room}
 use Rattle.transfer.specs.Kinds.{Aside, body-jumps}
-use Rattle.flow.specs.Ways.{leads, Took, led, here-place, took}
+use Rattle.flow.specs.Ways.{leads, led, here-place, took}
 use borrow.Author.Needs.{needs}
 use Rattle.flow.proofs.take.Statement.{statement}
 use Rattle.flow.proofs.take.Tie as tie

@@ -1,10 +1,9 @@
 -- `transfer::moves`: each way out is one law; passed tests of the depths show that nothing goes below 0 (`stacks-fit`).
 use mathlib.Core.Path.{sym, _∙_, refl}
-use native.Mathlib.Omega.{arith}
 use borrow.Author.Tests.{lt-ltb}
 use Rattle.transfer.specs.Shape.{Next}
-use Rattle.transfer.specs.Tests.{asState, Fits, stacks-fit}
-use Rattle.transfer.specs.Rows.{rowShape, unreached, past, deep, onward}
+use Rattle.transfer.specs.Tests.{stacks-fit}
+use Rattle.transfer.specs.Rows.{unreached, past, deep, onward}
 use borrow.Author.Needs.{needs}
 use Rattle.transfer.proofs.moves.Statement.{statement}
 use Rattle.transfer.proofs.moves.Tie as tie

@@ -1,5 +1,4 @@
 -- `transfer::step`: a row with no frame word.
-use Rattle.transfer.specs.Rows.{rowShape}
 use borrow.Author.Needs.{needs}
 use Rattle.transfer.proofs.step.Statement.{statement}
 use Rattle.transfer.proofs.step.Tie as tie
