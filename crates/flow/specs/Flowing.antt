@@ -364,7 +364,6 @@ module _ (f m₀ table : List ℕ) (k : ℕ) (B : Begun f m₀ table k) where
             site = record { known = whole-known f p (next-is .0); inside = flowing-inside; small = B .few };
             head = head-is;
             head-whole = rw head-is (begun-table .whole (procAt f p));
-            low = I .above;
             long = F .good .shows .long;
             owns = owns;
             own-next = own-next;

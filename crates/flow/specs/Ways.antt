@@ -34,7 +34,6 @@ pub record Here (f m : List ℕ) (h e p : ℕ) : Type 0 where
   pub site : Site f p
   pub head : h ≡ headOf f (procAt f p)
   pub head-whole : h + 6 < length f
-  pub low : h < p
   pub long : length m ≡ 3 * length f
   pub owns : (q : ℕ) → ownIn m h e q ≡ own f p q
   pub own-next : ownIn m h e (after f p) ≡ ltb (after f p) e
@@ -106,14 +105,23 @@ pub record Onwards (f m : List ℕ) (p : ℕ) (l : Limits) (r : Onward) : Type 0
       (r .next ≡ after f p) × (takeIn f p m ≡ passOneIn m (after f p) (state (r .main) (r .ptr) (stateIn m p .inner)))
       × (r .next < l .end) × (r .main ≤ l .x) × (r .ptr ≤ l .y)
 
+branch-needs : (a u n d : Bool) (k : Step (List ℕ)) →
+    need (if a then true else false) 5 (need (u && n) 6 (need (if d then true else false) 7 k)) ≡ need a 5 (need u 6 (need n 6 (need d 7 k)))
+branch-needs true true true true k = refl
+branch-needs true true true false k = refl
+branch-needs true true false d k = refl
+branch-needs true false n d k = refl
+branch-needs false u n d k = refl
+
 module _ (f m : List ℕ) (h p : ℕ) (l : Limits) (H : Here f m h (l .end) p) (B : Bounds f h l) where
-  s : State
+  -- the state at the instruction, and the one at the innermost open 160
+  abbrev s : State
   s = stateIn m p
 
-  o : State
+  abbrev o : State
   o = outer (stateIn m) (stateIn m p)
 
-  pub bounded : Bounded (stateIn m p) (outer (stateIn m) (stateIn m p)) l
+  pub bounded : Bounded s o l
   bounded =
       record {
         main-floor = H .main-floor;
@@ -138,15 +146,15 @@ module _ (f m : List ℕ) (h p : ℕ) (l : Limits) (H : Here f m h (l .end) p) (
   -- what a shape passes on
   abbrev shapePasses : Shape → List (ℕ × State)
   shapePasses sh =
-      (if goesBy (sh .way) then (after f p, nextState sh p (stateIn m p) (outer (stateIn m) (stateIn m p))) ∷ [] else [])
-      ++ (if jumpsBy (sh .way) then (sh .target, targetState sh (stateIn m p)) ∷ [] else [])
+      (if goesBy (sh .way) then (after f p, nextState sh p s o) ∷ [] else [])
+      ++ (if jumpsBy (sh .way) then (sh .target, targetState sh s) ∷ [] else [])
 
   by-shape : (sh : Shape) → shapeOf f p (insAt f p) ≡ sh →
       takeIn f p m
       ≡ need (targetOk (sh .way) (sh .known) (ownIn m h (l .end) (sh .target)) (sh .target) p) 5
-      (need (isSetIn (stateIn m p) && (if goesBy (sh .way) then ltb (after f p) (l .end) else true)) 6
-      (need (depthOk sh (stateIn m p) (outer (stateIn m) (stateIn m p)) (l .x) (l .y)) 7
-      (need (leaveOk (sh .way) (stateIn m p) (byteAt f (h + 3)) (byteAt f (h + 4))) 8 (passAllIn (shapePasses sh) m))))
+      (need (isSetIn s && (if goesBy (sh .way) then ltb (after f p) (l .end) else true)) 6
+      (need (depthOk sh s o (l .x) (l .y)) 7
+      (need (leaveOk (sh .way) s (byteAt f (h + 3)) (byteAt f (h + 4))) 8 (passAllIn (shapePasses sh) m))))
   unfolding takeIn takeInWith
   by-shape sh e =
       let i = insAt f p in
@@ -154,9 +162,9 @@ module _ (f m : List ℕ) (h p : ℕ) (l : Limits) (H : Here f m h (l .end) p) (
       rw (
         target-tests f p i,
         next-tests f p i,
-        depth-tests f p i (stateIn m p) (outer (stateIn m) (stateIn m p)) (H .main-floor) (H .ptr-floor),
-        leave-tests f p i (stateIn m p),
-        passes-are f p i (stateIn m p) (outer (stateIn m) (stateIn m p)),
+        depth-tests f p i s o (H .main-floor) (H .ptr-floor),
+        leave-tests f p i s,
+        passes-are f p i s o,
         b .0,
         b .1,
         b .2,
@@ -168,18 +176,18 @@ module _ (f m : List ℕ) (h p : ℕ) (l : Limits) (H : Here f m h (l .end) p) (
       )
 
   -- where a state is known, depths that stay pass
-  stays : (w : Way) (t : ℕ) → isSetIn (stateIn m p) ≡ true →
-      stacksOk (leads w 0 t) (stateIn m p) (outer (stateIn m) (stateIn m p)) (l .x) (l .y) ≡ true
-  stays w t z = still w t (stateIn m p) (outer (stateIn m) (stateIn m p)) l bounded (ltb-true (stateIn m p .main) 65534 z)
+  stays : (w : Way) (t : ℕ) → isSetIn s ≡ true →
+      stacksOk (leads w 0 t) s o (l .x) (l .y) ≡ true
+  stays w t z = still w t s o l bounded (ltb-true (s .main) 65534 z)
 
   -- 1 and 3
   pub takes-jump : (t : ℕ) → shapeOf f p (insAt f p) ≡ leads Jump 0 t →
-      Judged (takeIn f p m) ((ownIn m h (l .end) t, 5) ∷ (isSetIn (stateIn m p), 6) ∷ []) (passOneIn m t (stateIn m p))
+      Judged (takeIn f p m) ((ownIn m h (l .end) t, 5) ∷ (isSetIn s, 6) ∷ []) (passOneIn m t s)
   unfolding targetOk leaveOk targetState judged
   takes-jump t e =
       record {
         is = by-shape (leads Jump 0 t) e
-            ∙ rw (and-end (passOneIn m t (stateIn m p))) (go (ownIn m h (l .end) t) (isSetIn (stateIn m p)) _ _ (stays Jump t));
+            ∙ rw (and-end (passOneIn m t s)) (go (ownIn m h (l .end) t) (isSetIn s) _ _ (stays Jump t));
       }
     where
       go : (a u d : Bool) (k : Step (List ℕ)) → (u ≡ true → d ≡ true) →
@@ -190,74 +198,52 @@ module _ (f m : List ℕ) (h p : ℕ) (l : Limits) (H : Here f m h (l .end) p) (
 
   -- 2, 4, 5 and 6
   abbrev popped : State
-  popped = state (stateIn m p .main - 1) (stateIn m p .ptr) (stateIn m p .inner)
+  popped = state (s .main - 1) (s .ptr) (s .inner)
 
   pub takes-branch : (keep : Bool) (t : ℕ) → shapeOf f p (insAt f p) ≡ leads (branchWay keep) 1 t →
       Judged (takeIn f p m)
       ((ownIn m h (l .end) t, 5)
-      ∷ (isSetIn (stateIn m p), 6)
+      ∷ (isSetIn s, 6)
       ∷ (ltb (after f p) (l .end), 6)
-      ∷ (stacksOk (rowShape Next (row 1 0 0 0 0 0)) (stateIn m p) (outer (stateIn m) (stateIn m p)) (l .x) (l .y), 7)
+      ∷ (stacksOk (rowShape Next (row 1 0 0 0 0 0)) s o (l .x) (l .y), 7)
       ∷ [])
-      (passAllIn ((after f p, popped) ∷ (t, (if keep then stateIn m p else popped)) ∷ []) m)
+      (passAllIn ((after f p, popped) ∷ (t, (if keep then s else popped)) ∷ []) m)
   unfolding targetOk leaveOk nextState targetState stacksOk judged
-  takes-branch keep t e = way keep e
-    where
-      go : (a u n d : Bool) (k : Step (List ℕ)) →
-          need (if a then true else false) 5 (need (u && n) 6 (need (if d then true else false) 7 k)) ≡ need a 5 (need u 6 (need n 6 (need d 7 k)))
-      go true true true true k = refl
-      go true true true false k = refl
-      go true true false d k = refl
-      go true false n d k = refl
-      go false u n d k = refl
-
-      depths : Way → Bool
-      depths w = stacksOk (leads w 1 t) (stateIn m p) (outer (stateIn m) (stateIn m p)) (l .x) (l .y)
-
-      ends : State → Step (List ℕ)
-      ends u = passAllIn ((after f p, popped) ∷ (t, u) ∷ []) m
-
-      way : (keep : Bool) → shapeOf f p (insAt f p) ≡ leads (branchWay keep) 1 t →
-          Judged (takeIn f p m)
-          ((ownIn m h (l .end) t, 5)
-          ∷ (isSetIn (stateIn m p), 6)
-          ∷ (ltb (after f p) (l .end), 6)
-          ∷ (stacksOk (rowShape Next (row 1 0 0 0 0 0)) (stateIn m p) (outer (stateIn m) (stateIn m p)) (l .x) (l .y), 7)
-          ∷ [])
-          (passAllIn ((after f p, popped) ∷ (t, (if keep then stateIn m p else popped)) ∷ []) m)
-      way true e =
-          record {
-            is = by-shape (leads Keep 1 t) e
-                ∙ rw (sub-zero (stateIn m p .ptr), add-zero (stateIn m p .ptr), add-zero (stateIn m p .main - 1))
-                (go (ownIn m h (l .end) t) (isSetIn (stateIn m p)) (ltb (after f p) (l .end)) (depths Keep) (ends (stateIn m p)));
-          }
-      way false e =
-          record {
-            is = by-shape (leads Branch 1 t) e
-                ∙ rw (sub-zero (stateIn m p .ptr), add-zero (stateIn m p .ptr), add-zero (stateIn m p .main - 1))
-                (go (ownIn m h (l .end) t) (isSetIn (stateIn m p)) (ltb (after f p) (l .end)) (depths Branch) (ends popped));
-          }
+  takes-branch true t e =
+      record {
+        is = by-shape (leads Keep 1 t) e
+            ∙ rw (sub-zero (s .ptr), add-zero (s .ptr), add-zero (s .main - 1))
+            (branch-needs (ownIn m h (l .end) t) (isSetIn s) (ltb (after f p) (l .end)) (stacksOk (leads Keep 1 t) s o (l .x) (l .y))
+            (passAllIn ((after f p, popped) ∷ (t, s) ∷ []) m));
+      }
+  takes-branch false t e =
+      record {
+        is = by-shape (leads Branch 1 t) e
+            ∙ rw (sub-zero (s .ptr), add-zero (s .ptr), add-zero (s .main - 1))
+            (branch-needs (ownIn m h (l .end) t) (isSetIn s) (ltb (after f p) (l .end)) (stacksOk (leads Branch 1 t) s o (l .x) (l .y))
+            (passAllIn ((after f p, popped) ∷ (t, popped) ∷ []) m));
+      }
 
   -- 160
   pub takes-open : (t : ℕ) → shapeOf f p (insAt f p) ≡ leads Open 0 t →
       Judged (takeIn f p m)
       ((ownIn m h (l .end) t, 5)
       ∷ (leb (suc p) t, 5)
-      ∷ (isSetIn (stateIn m p), 6)
+      ∷ (isSetIn s, 6)
       ∷ (ltb (after f p) (l .end), 6)
-      ∷ (leb (suc (stateIn m p .main)) (l .x), 7)
+      ∷ (leb (suc (s .main)) (l .x), 7)
       ∷ [])
       (passAllIn
-      ((after f p, state (stateIn m p .main) (stateIn m p .ptr) p)
-      ∷ (t, state (stateIn m p .main + 1) (stateIn m p .ptr) (stateIn m p .inner))
+      ((after f p, state (s .main) (s .ptr) p)
+      ∷ (t, state (s .main + 1) (s .ptr) (s .inner))
       ∷ [])
       m)
   unfolding targetOk leaveOk nextState targetState judged
   takes-open t e =
       record {
         is = by-shape (leads Open 0 t) e
-            ∙ rw (sub-zero (stateIn m p .ptr), add-zero (stateIn m p .ptr), sub-zero (stateIn m p .main), add-zero (stateIn m p .main))
-            (go (ownIn m h (l .end) t) (leb (suc p) t) (isSetIn (stateIn m p)) _ _ _ _ (stays Open t));
+            ∙ rw (sub-zero (s .ptr), add-zero (s .ptr), sub-zero (s .main), add-zero (s .main))
+            (go (ownIn m h (l .end) t) (leb (suc p) t) (isSetIn s) _ _ _ _ (stays Open t));
       }
     where
       go : (a b u n d x : Bool) (k : Step (List ℕ)) → (u ≡ true → d ≡ true) →
@@ -271,20 +257,20 @@ module _ (f m : List ℕ) (h p : ℕ) (l : Limits) (H : Here f m h (l .end) p) (
   -- 161
   pub takes-close : shapeOf f p (insAt f p) ≡ leads Close 0 0 →
       Judged (takeIn f p m)
-      ((isSetIn (stateIn m p), 6) ∷ (ltb (after f p) (l .end), 6) ∷ (not (eqb (stateIn m p .inner) none), 8) ∷ [])
-      (passOneIn m (after f p) (state (stateIn m p .main) (stateIn m p .ptr) (outer (stateIn m) (stateIn m p) .inner)))
+      ((isSetIn s, 6) ∷ (ltb (after f p) (l .end), 6) ∷ (not (eqb (s .inner) none), 8) ∷ [])
+      (passOneIn m (after f p) (state (s .main) (s .ptr) (o .inner)))
   unfolding targetOk leaveOk nextState judged
   takes-close e =
       record {
         is = by-shape (leads Close 0 0) e
             ∙ rw (
-              sub-zero (stateIn m p .ptr),
-              add-zero (stateIn m p .ptr),
-              sub-zero (stateIn m p .main),
-              add-zero (stateIn m p .main),
-              and-end (passOneIn m (after f p) (state (stateIn m p .main) (stateIn m p .ptr) (outer (stateIn m) (stateIn m p) .inner))),
+              sub-zero (s .ptr),
+              add-zero (s .ptr),
+              sub-zero (s .main),
+              add-zero (s .main),
+              and-end (passOneIn m (after f p) (state (s .main) (s .ptr) (o .inner))),
             )
-            (go (isSetIn (stateIn m p)) _ _ _ (stays Close 0));
+            (go (isSetIn s) _ _ _ (stays Close 0));
       }
     where
       go : (u n d : Bool) (k : Step (List ℕ)) → (u ≡ true → d ≡ true) →
@@ -295,17 +281,17 @@ module _ (f m : List ℕ) (h p : ℕ) (l : Limits) (H : Here f m h (l .end) p) (
   -- 73
   pub takes-return : shapeOf f p (insAt f p) ≡ leads Return 0 0 →
       Judged (takeIn f p m)
-      ((isSetIn (stateIn m p), 6)
-      ∷ (eqb (stateIn m p .main) (byteAt f (h + 3)), 8)
-      ∷ (eqb (stateIn m p .ptr) (byteAt f (h + 4)), 8)
-      ∷ (eqb (stateIn m p .inner) none, 8)
+      ((isSetIn s, 6)
+      ∷ (eqb (s .main) (byteAt f (h + 3)), 8)
+      ∷ (eqb (s .ptr) (byteAt f (h + 4)), 8)
+      ∷ (eqb (s .inner) none, 8)
       ∷ [])
       (next m)
   unfolding targetOk leaveOk judged
   takes-return e =
       record {
         is = by-shape (leads Return 0 0) e
-            ∙ go (isSetIn (stateIn m p)) _ (eqb (stateIn m p .main) (byteAt f (h + 3))) (eqb (stateIn m p .ptr) (byteAt f (h + 4))) _ _ (stays Return 0);
+            ∙ go (isSetIn s) _ (eqb (s .main) (byteAt f (h + 3))) (eqb (s .ptr) (byteAt f (h + 4))) _ _ (stays Return 0);
       }
     where
       go : (u d a b c : Bool) (k : Step (List ℕ)) → (u ≡ true → d ≡ true) →
@@ -318,7 +304,7 @@ module _ (f m : List ℕ) (h p : ℕ) (l : Limits) (H : Here f m h (l .end) p) (
 
   -- the others
   pub takes-plain : straight? (insAt f p) ≡ true →
-      Onwards f m p l (plainly (stateIn m p) (outer (stateIn m) (stateIn m p)) l (after f p) (shapeOf f p (insAt f p)))
+      Onwards f m p l (plainly s o l (after f p) (shapeOf f p (insAt f p)))
   unfolding plainly targetOk leaveOk shapeOf nextState
   takes-plain e = go (insAt f p) refl e
     where
@@ -326,7 +312,7 @@ module _ (f m : List ℕ) (h p : ℕ) (l : Limits) (H : Here f m h (l .end) p) (
       out : (known set on d g : Bool) (r : Onward) (k : Step (List ℕ)) →
           takeIn f p m ≡ need known 5 (need (set && on) 6 (need (if d then true else false) 7 k)) → r .fault ≡ 0 → r .next ≡ after f p → r .goes ≡ g →
           (d ≡ true → on ≡ true → g ≡ true →
-          (k ≡ passOneIn m (after f p) (state (r .main) (r .ptr) (stateIn m p .inner))) × (after f p < l .end) × (r .main ≤ l .x) × (r .ptr ≤ l .y)) →
+          (k ≡ passOneIn m (after f p) (state (r .main) (r .ptr) (s .inner))) × (after f p < l .end) × (r .main ≤ l .x) × (r .ptr ≤ l .y)) →
           (g ≡ false → k ≡ next m) → Onwards f m p l (onwardBy known set on d r)
       out false set on d g r k w z q gg h n = record { stop = λ i. (sym w, λ y. absurd (omega arith)); pass = λ i. absurd (true≢false (sym i)) }
       out true false on d g r k w z q gg h n = record { stop = λ i. (sym w, λ y. absurd (omega arith)); pass = λ i. absurd (true≢false (sym i)) }
@@ -338,33 +324,33 @@ module _ (f m : List ℕ) (h p : ℕ) (l : Limits) (H : Here f m h (l .end) p) (
             pass = λ i. let v = h refl refl (sym gg ∙ i) in (q, w ∙ v .0, rw q (v .1), v .2, v .3);
           }
 
-      fits : (sh : Shape) → stacksOk sh (stateIn m p) (outer (stateIn m) (stateIn m p)) (l .x) (l .y) ≡ true → Fits sh (stateIn m p) (l .x) (l .y)
-      fits sh d = stacks-fit sh (stateIn m p) (outer (stateIn m) (stateIn m p)) (l .x) (l .y) d
+      fits : (sh : Shape) → stacksOk sh s o (l .x) (l .y) ≡ true → Fits sh s (l .x) (l .y)
+      fits sh d = stacks-fit sh s o (l .x) (l .y) d
 
       result : Shape → Onward
       result sh =
-          record { fault = 0; goes = goesBy (sh .way); next = after f p; main = moved (effectIn sh) (stateIn m p) .main; ptr = moved (effectIn sh) (stateIn m p) .ptr }
+          record { fault = 0; goes = goesBy (sh .way); next = after f p; main = moved (effectIn sh) s .main; ptr = moved (effectIn sh) s .ptr }
 
       ends : Shape → Step (List ℕ)
-      ends sh = passAllIn ((after f p, nextState sh p (stateIn m p) (outer (stateIn m) (stateIn m p))) ∷ []) m
+      ends sh = passAllIn ((after f p, nextState sh p s o) ∷ []) m
 
       deep : Shape → Bool
-      deep sh = stacksOk sh (stateIn m p) (outer (stateIn m) (stateIn m p)) (l .x) (l .y)
+      deep sh = stacksOk sh s o (l .x) (l .y)
 
-      go : (i : Ins) → insAt f p ≡ i → straight? i ≡ true → Onwards f m p l (plainly (stateIn m p) (outer (stateIn m) (stateIn m p)) l (after f p) (shapeOf f p i))
+      go : (i : Ins) → insAt f p ≡ i → straight? i ≡ true → Onwards f m p l (plainly s o l (after f p) (shapeOf f p i))
       go (basic b) z y =
           let sh = shapeOf f p (basic b) in
-          out true (isSetIn (stateIn m p)) (ltb (after f p) (l .end)) (deep sh) true (result sh) (ends sh) (by-shape sh (ap (shapeOf f p) z)) refl refl refl
+          out true (isSetIn s) (ltb (after f p) (l .end)) (deep sh) true (result sh) (ends sh) (by-shape sh (ap (shapeOf f p) z)) refl refl refl
           (λ d on g. let w = fits sh d in (and-end _, ltb-true (after f p) (l .end) on, w .main-within, w .ptr-within))
           (λ g. absurd (true≢false g))
       go (call n) z y =
           let sh = shapeOf f p (call n) in
-          out (sh .known) (isSetIn (stateIn m p)) (ltb (after f p) (l .end)) (deep sh) true (result sh) (ends sh) (by-shape sh (ap (shapeOf f p) z)) refl refl refl
+          out (sh .known) (isSetIn s) (ltb (after f p) (l .end)) (deep sh) true (result sh) (ends sh) (by-shape sh (ap (shapeOf f p) z)) refl refl refl
           (λ d on g. let w = fits sh d in (and-end _, ltb-true (after f p) (l .end) on, w .main-within, w .ptr-within))
           (λ g. absurd (true≢false g))
       go raise z y =
           let sh = shapeOf f p raise in
-          out true (isSetIn (stateIn m p)) true (deep sh) false (result sh) (next m) (by-shape sh (ap (shapeOf f p) z)) refl refl refl
+          out true (isSetIn s) true (deep sh) false (result sh) (next m) (by-shape sh (ap (shapeOf f p) z)) refl refl refl
           (λ d on g. absurd (true≢false (sym g)))
           (λ g. refl)
       go (jump q) z y = absurd (true≢false (sym y))
