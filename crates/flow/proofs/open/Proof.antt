@@ -63,7 +63,8 @@ returns-4 c =
     let at-own = at-if1 .before in
     let entry = at-own .before .before .before .before in
     let J = passes (on-open (entry .pre) (at-state-in .state-in .ensures)) (sym (at-own .own .ensures) ∙ at-if1 .if1 .taken) in
-    let K = passes (passes (passes J (le-leb (suc (entry .args .p)) (entry .args .target) (omega (arith, at-if2 .if2 .left)))) (lt-ltb _ _ (at-if3 .if3 .left))) (lt-ltb _ _ (c .before .before .before .if4 .left)) in
+    let K = passes (passes (passes J (le-leb (suc (entry .args .p)) (entry .args .target) (omega (arith, at-if2 .if2 .left))))
+    (lt-ltb _ _ (at-if3 .if3 .left))) (lt-ltb _ _ (c .before .before .before .if4 .left)) in
     stops K (lt-leb (suc (at-state-in .state-in .result .main)) (entry .args .limits .x) (omega (arith, c .if5 .taken)))
 
 add-raised : tie.Need-add-raised
