@@ -12,17 +12,17 @@ use Rattle.model.specs.Choice.{if_then_else_}
 use Rattle.model.specs.File.{byteAt, Records, recordsOf, startsIn, isHead, select, heads, wrong, right, headsOf, headOf, entry, procs, paramsMain, paramsPtr, headTests}
 use Rattle.model.specs.Checker.{none, Known, stateAt, isSet, firsts, first, mapFrom}
 use Rattle.model.specs.Calls.{overMap, wiped, pass, refuse, scanned, verdictOf, checked, answered, checkOf}
-use Rattle.exact.specs.Flow.{Within}
-use Rattle.exact.specs.Walk.{HeadsHold, heads-right, entry-proc, walk, walk-above, after-above}
-use Rattle.scan.specs.Marks.{Shows, marked, marked-shows}
-use Rattle.scan.specs.Scanning.{Comes, Scanned, listed-count, listed-all}
-use Rattle.scan.specs.Heading.{Marked, Placed}
-use Rattle.flow.specs.Takes.{Fit}
-use Rattle.flow.specs.Flowing.{Begun, Flowed}
-use Rattle.scan.specs.declared.Found.{Found}
-use Rattle.scan.specs.declared.Found.the-variants.{Broken, Whole}
-use Rattle.flow.specs.declared.Verdict.{Verdict}
-use Rattle.flow.specs.declared.Verdict.the-variants.{Pass, Refuse}
+use Rattle.theory_checker.specs.Flow.{Within}
+use Rattle.theory_checker.specs.Walk.{HeadsHold, heads-right, entry-proc, walk, walk-above, after-above}
+use Rattle.check_scan.specs.Marks.{Shows, marked, marked-shows}
+use Rattle.check_scan.specs.Scanning.{Comes, Scanned, listed-count, listed-all}
+use Rattle.check_scan.specs.Heading.{Marked, Placed}
+use Rattle.check_flow.specs.Takes.{Fit}
+use Rattle.check_flow.specs.Flowing.{Begun, Flowed}
+use Rattle.check_scan.specs.declared.Found.{Found}
+use Rattle.check_scan.specs.declared.Found.the-variants.{Broken, Whole}
+use Rattle.check_flow.specs.declared.Verdict.{Verdict}
+use Rattle.check_flow.specs.declared.Verdict.the-variants.{Pass, Refuse}
 use Rattle.model.specs.declared.Answer.{Answer}
 use Rattle.model.specs.declared.Answer.the-variants.{Passed, Refused}
 

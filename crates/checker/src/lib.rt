@@ -2,23 +2,23 @@
 ghost use mathlib.Core.Path.{_≡_};
 ghost use Prim.Native.Nat.{_*_, _<_};
 ghost use lib.ListN.{replicate};
-ghost use Rattle.scan.specs.Heading.{Marked};
+ghost use Rattle.check_scan.specs.Heading.{Marked};
 ghost use Rattle.checker.specs.Parts.{Lengths, Looked, Filled, Checks};
 ghost use Rattle.model.specs.Calls.{checked, checkOf};
-use flow::Verdict;
+use check_flow::Verdict;
 use model::Answer;
-use scan::Found;
-use scan::Heads;
+use check_scan::Found;
+use check_scan::Heads;
 
 // Refusals 4 to 9, of a file whose records are marked in its part of the map; n heads are in the table, and the 65th stands at last.
 fn look(file: &[u8], m: &mut [u16], table: &[usize; 64], n: usize, last: usize) -> Verdict
     requires { ⌜ Marked (now file) (now m) (now table) n last ⌝ }
     ensures { λ r. ⌜ Looked (now (file .entry)) (now (m .exit)) (now (table .entry)) r ⌝ }
 {
-    let heads = scan::heads_of(file, m, table, n, last);
+    let heads = check_scan::heads_of(file, m, table, n, last);
     match heads {
         Heads::Wrong(p) => Verdict::Refuse(4, p),
-        Heads::Right(k) => flow::flow(file, m, table, k),
+        Heads::Right(k) => check_flow::flow(file, m, table, k),
     }
 }
 
@@ -27,8 +27,8 @@ fn passes(file: &[u8], m: &mut [u16], table: &mut [usize; 64]) -> Verdict
     requires { ⌜ Lengths (now file) (now m) (now table) ⌝ }
     ensures { λ r. ⌜ Looked (now (file .entry)) (now (m .exit)) (now (table .exit)) r ⌝ }
 {
-    scan::fill(m);
-    let found = scan::scan(file, m, table);
+    check_scan::fill(m);
+    let found = check_scan::scan(file, m, table);
     match found {
         Found::Broken(p) => Verdict::Refuse(3, p),
         Found::Whole(n, last) => look(file, m, table, n, last),
@@ -44,7 +44,7 @@ fn check_part(file: &[u8], m: &mut [u16], table: &mut [usize; 64]) -> Verdict
     let Verdict::Refuse(n, p) = v else {
         return v;
     };
-    scan::fill(m);
+    check_scan::fill(m);
     Verdict::Refuse(n, p)
 }
 

@@ -72,7 +72,7 @@ pub extern "C" fn yalgovim_start(
       bytes = now (registers .entry);
     })) ⌝ }
 {
-    told(machine::start(file, map, main, ptr, ctl, heap, registers))
+    told(calls::start(file, map, main, ptr, ctl, heap, registers))
 }
 
 #[no_mangle]
@@ -104,5 +104,5 @@ pub extern "C" fn yalgovim_run(
       bytes = now (registers .entry);
     })) ⌝ }
 {
-    told(machine::run(file, map, main, ptr, ctl, heap, registers, budget))
+    told(calls::run(file, map, main, ptr, ctl, heap, registers, budget))
 }

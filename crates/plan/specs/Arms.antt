@@ -10,12 +10,12 @@ use Rattle.model.specs.File.{byteAt, bodyOf, after, operand, insOf, insAt}
 use Rattle.model.specs.Checker.{effectOf}
 use Rattle.model.specs.Control.{Machine, running}
 use Rattle.model.specs.Moves.{mtop, ptop}
-use Rattle.heap.specs.Stores.{Lies, object-lies}
-use Rattle.code.specs.Bodies.{after-above}
-use Rattle.bridge.specs.Planned.{planAt}
-use Rattle.bridge.specs.declared.Plan.{Plan}
-use Rattle.layout.specs.Layout.{Numbered}
-use Rattle.plans.specs.Given.{planned, Body, Within, Callee}
+use Rattle.audit_heap.specs.Stores.{Lies, object-lies}
+use Rattle.code_file.specs.Bodies.{after-above}
+use Rattle.plan_meaning.specs.Planned.{planAt}
+use Rattle.plan_meaning.specs.declared.Plan.{Plan}
+use Rattle.control_stack.specs.Layout.{Numbered}
+use Rattle.plan_flow.specs.Given.{planned, Body, Within, Callee}
 use Rattle.plan.specs.Ready.{Ready, placeOf, here}
 
 -- the code at the place

@@ -2,8 +2,8 @@
 // here. Codes of one family share a function and an arm. Inside its arm the code is chosen again, so that the family's function gets
 // it as a constant; the compiler makes one jump table of all the matches. 20 and 22 have arms of their own: their plans differ in `Into`, and
 // in one arm the compiler joins the two and asks for it again, with a second jump table.
-use bridge::Into;
-use bridge::Plan;
+use plan_meaning::Into;
+use plan_meaning::Plan;
 use model::Regs;
 ghost use mathlib.Core.Path.{_≡_};
 ghost use mathlib.Core.List.{List};
@@ -13,11 +13,11 @@ ghost use lib.ListN.{length};
 ghost use Rattle.model.specs.Words.{wordAt};
 ghost use Rattle.model.specs.File as model;
 ghost use Rattle.model.specs.Control.{Machine, frameOf, setRegs, setMain, setPtr, setCtl, setHeap};
-ghost use Rattle.bridge.specs.Planned.{planAt};
-ghost use Rattle.code.specs.Kinds.{NoneOf};
-ghost use Rattle.heap.specs.Stores.{Lies};
-ghost use Rattle.layout.specs.Layout.{Numbered};
-ghost use Rattle.plans.specs.Given.{planned, Body, Within};
+ghost use Rattle.plan_meaning.specs.Planned.{planAt};
+ghost use Rattle.code_file.specs.Kinds.{NoneOf};
+ghost use Rattle.audit_heap.specs.Stores.{Lies};
+ghost use Rattle.control_stack.specs.Layout.{Numbered};
+ghost use Rattle.plan_flow.specs.Given.{planned, Body, Within};
 ghost use Rattle.plan.specs.Kinds.{atArms, localArms, wordArms};
 ghost use Rattle.plan.specs.Ready.{Ready};
 
@@ -29,12 +29,12 @@ fn main_locals(file: &[u8], main: &[u32], ctl: &[u32], regs: Regs, kind: u8) -> 
 {
     let place = regs.place;
     let top = regs.mtop;
-    let at = layout::main_base_of(ctl, regs.frame) + code::operand(file, place);
+    let at = control_stack::main_base_of(ctl, regs.frame) + code_file::operand(file, place);
     if kind == 20 {
-        return plans::writes(Into::Push, place + 3, top + 1, regs.ptop, top, main[at]);
+        return plan_flow::writes(Into::Push, place + 3, top + 1, regs.ptop, top, main[at]);
     }
     let rest = top - 1;
-    plans::writes(Into::Main, place + 3, rest, regs.ptop, at, main[rest])
+    plan_flow::writes(Into::Main, place + 3, rest, regs.ptop, at, main[rest])
 }
 
 // 21 and 23: the same on the pointer stack.
@@ -45,12 +45,12 @@ fn ptr_locals(file: &[u8], ptr: &[u32], ctl: &[u32], regs: Regs, kind: u8) -> Pl
 {
     let place = regs.place;
     let top = regs.ptop;
-    let at = layout::ptr_base_of(ctl, regs.frame) + code::operand(file, place);
+    let at = control_stack::ptr_base_of(ctl, regs.frame) + code_file::operand(file, place);
     if kind == 21 {
-        return plans::writes(Into::Pointer, place + 3, regs.mtop, top + 1, top, ptr[at]);
+        return plan_flow::writes(Into::Pointer, place + 3, regs.mtop, top + 1, top, ptr[at]);
     }
     let rest = top - 1;
-    plans::writes(Into::Pointer, place + 3, regs.mtop, rest, at, ptr[rest])
+    plan_flow::writes(Into::Pointer, place + 3, regs.mtop, rest, at, ptr[rest])
 }
 
 // 30 and 32: a plain word of an object.
@@ -62,17 +62,17 @@ fn plain_fields(file: &[u8], main: &[u32], ptr: &[u32], heap: &[u32], regs: Regs
 {
     let place = regs.place;
     let top = regs.ptop - 1;
-    let object = plans::wide(ptr[top]);
+    let object = plan_flow::wide(ptr[top]);
     if object == 0 {
         return Plan::NilObject; // before the field is looked for: 2, not 3
     }
-    let s = code::operand(file, place);
-    if !heap::in_plain(heap, object, s) {
+    let s = code_file::operand(file, place);
+    if !audit_heap::in_plain(heap, object, s) {
         return Plan::NoSuchWord;
     }
     let at = object + s;
     if kind == 30 {
-        return plans::writes(
+        return plan_flow::writes(
             Into::Read,
             place + 3,
             regs.mtop + 1,
@@ -82,7 +82,7 @@ fn plain_fields(file: &[u8], main: &[u32], ptr: &[u32], heap: &[u32], regs: Regs
         );
     }
     let value = regs.mtop - 1;
-    plans::writes(Into::Heap, place + 3, value, top, at, main[value])
+    plan_flow::writes(Into::Heap, place + 3, value, top, at, main[value])
 }
 
 // 31 and 33: a pointer word of an object.
@@ -94,17 +94,17 @@ fn ptr_fields(file: &[u8], ptr: &[u32], heap: &[u32], regs: Regs, kind: u8) -> P
 {
     let place = regs.place;
     let top = regs.ptop - 1;
-    let view = plans::wide(ptr[top]);
+    let view = plan_flow::wide(ptr[top]);
     if view == 0 {
         return Plan::NilObject;
     }
-    let s = code::operand(file, place);
-    if !heap::in_ptrs(heap, view, s) {
+    let s = code_file::operand(file, place);
+    if !audit_heap::in_ptrs(heap, view, s) {
         return Plan::NoSuchWord;
     }
     let slot = view + s;
     if kind == 31 {
-        return plans::writes(
+        return plan_flow::writes(
             Into::Pointer,
             place + 3,
             regs.mtop,
@@ -114,7 +114,7 @@ fn ptr_fields(file: &[u8], ptr: &[u32], heap: &[u32], regs: Regs, kind: u8) -> P
         );
     }
     let value = regs.ptop - 2;
-    plans::writes(Into::Heap, place + 3, regs.mtop, value, slot, ptr[value])
+    plan_flow::writes(Into::Heap, place + 3, regs.mtop, value, slot, ptr[value])
 }
 
 // 36: a new view.
@@ -124,14 +124,14 @@ fn forms(file: &[u8], heap: &[u32], regs: Regs) -> Plan
     ensures { λ r. ⌜ ((m : Machine) → r ≡ planned (now (file .entry)) (setRegs regs (setHeap (now (heap .entry)) m)) 5 36) ⌝ }
 {
     let place = regs.place;
-    let plain = code::operand(file, place);
-    let ptrs = code::operand2(file, place);
+    let plain = code_file::operand(file, place);
+    let ptrs = code_file::operand2(file, place);
     let mark = heap[0];
-    if heap.len() < plans::wide(mark) + (2 + plain + ptrs) {
+    if heap.len() < plan_flow::wide(mark) + (2 + plain + ptrs) {
         return Plan::HeapFull;
     }
     let at = regs.ptop - ptrs;
-    plans::writes(Into::View, place + 5, regs.mtop - plain, at + 1, at, mark)
+    plan_flow::writes(Into::View, place + 5, regs.mtop - plain, at + 1, at, mark)
 }
 
 // 54 and 56: a literal.
@@ -143,16 +143,16 @@ fn literals(file: &[u8], regs: Regs, kind: u8) -> Plan
     let top = regs.mtop;
     if kind == 54 {
         let at = place + 1;
-        let word = code::signed_byte(file[at]);
-        return plans::writes(Into::Push, place + 2, top + 1, regs.ptop, top, word);
+        let word = code_file::signed_byte(file[at]);
+        return plan_flow::writes(Into::Push, place + 2, top + 1, regs.ptop, top, word);
     }
-    plans::writes(
+    plan_flow::writes(
         Into::Push,
         place + 5,
         top + 1,
         regs.ptop,
         top,
-        code::operand4(file, place),
+        code_file::operand4(file, place),
     )
 }
 
@@ -162,7 +162,7 @@ fn set_root(ptr: &[u32], regs: Regs) -> Plan
     ensures { λ r. ⌜ ((f : List ℕ) (m : Machine) → r ≡ planned f (setRegs regs (setPtr (now (ptr .entry)) m)) 1 59) ⌝ }
 {
     let top = regs.ptop - 1;
-    plans::writes(Into::Heap, regs.place + 1, regs.mtop, top, 1, ptr[top])
+    plan_flow::writes(Into::Heap, regs.place + 1, regs.mtop, top, 1, ptr[top])
 }
 
 // 60, 62 and 64: drops words under the one set aside.
@@ -174,18 +174,18 @@ fn retracts(file: &[u8], main: &[u32], ptr: &[u32], regs: Regs, kind: u8) -> Pla
     ensures { λ r. ⌜ ((m : Machine) → r ≡ planned (now (file .entry)) (setRegs regs (setMain (now (main .entry)) (setPtr (now (ptr .entry)) m))) 5 kind) ⌝ }
 {
     let place = regs.place;
-    let m = regs.mtop - code::operand(file, place);
-    let q = regs.ptop - code::operand2(file, place);
+    let m = regs.mtop - code_file::operand(file, place);
+    let q = regs.ptop - code_file::operand2(file, place);
     match kind {
         60 => {
             let top = regs.mtop - 1;
-            plans::writes(Into::DropMain, place + 5, m, q, m - 1, main[top])
+            plan_flow::writes(Into::DropMain, place + 5, m, q, m - 1, main[top])
         }
         62 => {
             let top = regs.ptop - 1;
-            plans::writes(Into::DropPointer, place + 5, m, q, q - 1, ptr[top])
+            plan_flow::writes(Into::DropPointer, place + 5, m, q, q - 1, ptr[top])
         }
-        _ => plans::writes(Into::Drop, place + 5, m, q, 0, 0),
+        _ => plan_flow::writes(Into::Drop, place + 5, m, q, 0, 0),
     }
 }
 
@@ -196,8 +196,8 @@ fn same_ptr(ptr: &[u32], regs: Regs) -> Plan
 {
     let second = regs.ptop - 1;
     let first = regs.ptop - 2;
-    let word = words::eq_w(ptr[first], ptr[second]);
-    plans::writes(
+    let word = arithmetic::eq_w(ptr[first], ptr[second]);
+    plan_flow::writes(
         Into::Read,
         regs.place + 1,
         regs.mtop + 1,
@@ -232,8 +232,8 @@ fn plan_objects(
             _ => ptr_fields(file, ptr, heap, regs, 33),
         },
         36 => forms(file, heap, regs),
-        57 => plans::pushes(regs, 0),
-        58 => plans::pushes(regs, heap[1]),
+        57 => plan_flow::pushes(regs, 0),
+        58 => plan_flow::pushes(regs, heap[1]),
         59 => set_root(ptr, regs),
         60 | 62 | 64 => match kind {
             60 => retracts(file, main, ptr, regs, 60),
@@ -262,24 +262,24 @@ fn plan_words(
 {
     match kind {
         130 | 195 | 198 | 201 | 204 => match kind {
-            130 => plans::compares(main, regs, 130),
-            195 => plans::compares(main, regs, 195),
-            198 => plans::compares(main, regs, 198),
-            201 => plans::compares(main, regs, 201),
-            _ => plans::compares(main, regs, 204),
+            130 => plan_flow::compares(main, regs, 130),
+            195 => plan_flow::compares(main, regs, 195),
+            198 => plan_flow::compares(main, regs, 198),
+            201 => plan_flow::compares(main, regs, 201),
+            _ => plan_flow::compares(main, regs, 204),
         },
         140 | 142 => match kind {
-            140 => plans::sums(main, regs, 140),
-            _ => plans::sums(main, regs, 142),
+            140 => plan_flow::sums(main, regs, 140),
+            _ => plan_flow::sums(main, regs, 142),
         },
         141 | 143 | 145 => match kind {
-            141 => plans::products(main, regs, 141),
-            143 => plans::products(main, regs, 143),
-            _ => plans::products(main, regs, 145),
+            141 => plan_flow::products(main, regs, 141),
+            143 => plan_flow::products(main, regs, 143),
+            _ => plan_flow::products(main, regs, 145),
         },
         144 | 146 => match kind {
-            144 => plans::unaries(main, regs, 144),
-            _ => plans::unaries(main, regs, 146),
+            144 => plan_flow::unaries(main, regs, 144),
+            _ => plan_flow::unaries(main, regs, 146),
         },
         _ => plan_objects(file, table, main, ptr, ctl, heap, regs, kind),
     }
@@ -333,21 +333,21 @@ pub fn plan_at(
     let kind = file[place];
     match kind {
         1 | 3 => match kind {
-            1 => plans::jumps(file, regs, 1),
-            _ => plans::jumps(file, regs, 3),
+            1 => plan_flow::jumps(file, regs, 1),
+            _ => plan_flow::jumps(file, regs, 3),
         },
         2 | 5 => match kind {
-            2 => plans::on_false(file, main, regs, 2),
-            _ => plans::on_false(file, main, regs, 5),
+            2 => plan_flow::on_false(file, main, regs, 2),
+            _ => plan_flow::on_false(file, main, regs, 5),
         },
         4 | 6 => match kind {
-            4 => plans::on_true(file, main, regs, 4),
-            _ => plans::on_true(file, main, regs, 6),
+            4 => plan_flow::on_true(file, main, regs, 4),
+            _ => plan_flow::on_true(file, main, regs, 6),
         },
-        72 => plans::calls(file, table, main, ptr, ctl, regs),
-        73 => plans::leaves(ctl, regs),
-        160 => plans::opens(ctl, regs),
-        161 => plans::writes(Into::Close, regs.place + 1, regs.mtop, regs.ptop, 0, 0),
+        72 => plan_flow::calls(file, table, main, ptr, ctl, regs),
+        73 => plan_flow::leaves(ctl, regs),
+        160 => plan_flow::opens(ctl, regs),
+        161 => plan_flow::writes(Into::Close, regs.place + 1, regs.mtop, regs.ptop, 0, 0),
         _ => plan_locals(file, table, main, ptr, ctl, heap, regs, kind),
     }
 }

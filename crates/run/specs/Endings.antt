@@ -6,16 +6,16 @@ use mathlib.Core.Path.{_≡_, ap, sym, _∙_}
 use native.Mathlib.Omega.{arith}
 use borrow.Author.Tests.{eq-eqb, ne-eqb}
 use Rattle.model.specs.Control.{Machine}
-use Rattle.bridge.specs.Planned.{planAt}
+use Rattle.plan_meaning.specs.Planned.{planAt}
 use Rattle.model.specs.Step.{Stepped, next, uncaught, step, ran, runOn}
-use Rattle.bridge.specs.Settled.{settle}
-use Rattle.exec.specs.Ended.{endedOf, went-on, went-off}
-use Rattle.exec.specs.declared.Outcome.{Outcome}
-use Rattle.safe.specs.Settling.{alive-plan}
-use Rattle.steps.specs.Going.{Runs, Alike, Going, going-trans, stepped}
+use Rattle.plan_meaning.specs.Settled.{settle}
+use Rattle.apply.specs.Ended.{endedOf, went-on, went-off}
+use Rattle.apply.specs.declared.Outcome.{Outcome}
+use Rattle.theory_step.specs.Settling.{alive-plan}
+use Rattle.run_steps.specs.Going.{Runs, Alike, Going, going-trans, stepped}
 use Rattle.run.specs.declared.Ended.{Ended}
 use Rattle.model.specs.declared.Regs.{Regs}
-use Rattle.bridge.specs.declared.Plan.{Plan}
+use Rattle.plan_meaning.specs.declared.Plan.{Plan}
 use Rattle.model.specs.declared.Answer.{Answer}
 use Rattle.model.specs.declared.Answer.the-variants.{Finished, Spent, Uncaught}
 

@@ -1,13 +1,13 @@
 // A run: steps until the machine is finished, the budget is spent, or an exception is not caught.
 ghost use mathlib.Core.Path.{_≡_};
 ghost use Rattle.model.specs.Step.{ran, runOn};
-ghost use Rattle.steps.specs.Going.{Runs};
+ghost use Rattle.run_steps.specs.Going.{Runs};
 ghost use Rattle.run.specs.Endings.{endedWith};
-use bridge::Plan;
-use exec::Outcome;
+use plan_meaning::Plan;
+use apply::Outcome;
 use model::Answer;
 use model::Regs;
-use steps::Pause;
+use run_steps::Pause;
 
 // An answer, with the registers then.
 pub struct Ended {
@@ -45,13 +45,13 @@ pub fn run_on(
     if regs.state == 1 {
         return answered(Answer::Finished(0), regs);
     }
-    let first = steps::go_on(file, table, main, ptr, ctl, heap, regs, budget);
+    let first = run_steps::go_on(file, table, main, ptr, ctl, heap, regs, budget);
     let mut r = first.regs;
     let mut plan = first.plan;
     let mut left = first.left;
     while 0 < left {
         let after = left - 1;
-        let out = exec::step_with(file, table, main, ptr, ctl, heap, r, plan);
+        let out = apply::step_with(file, table, main, ptr, ctl, heap, r, plan);
         let on = out.on;
         if !on {
             let done = budget - left;
@@ -63,7 +63,7 @@ pub fn run_on(
             let done = budget - after;
             return answered(Answer::Finished(done), next);
         }
-        let pause = steps::go_on(file, table, main, ptr, ctl, heap, next, after);
+        let pause = run_steps::go_on(file, table, main, ptr, ctl, heap, next, after);
         r = pause.regs;
         plan = pause.plan;
         left = pause.left;

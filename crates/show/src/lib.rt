@@ -12,7 +12,7 @@ pub fn go(
     regs: &mut [u8],
     budget: u32,
 ) {
-    let a = machine::run(file, map, main, ptr, ctl, heap, regs, budget);
+    let a = calls::run(file, map, main, ptr, ctl, heap, regs, budget);
     print::line(a, main, regs);
 }
 
@@ -27,7 +27,7 @@ pub fn begin(
     regs: &mut [u8],
     budget: u32,
 ) {
-    let a = machine::start(file, map, main, ptr, ctl, heap, regs);
+    let a = calls::start(file, map, main, ptr, ctl, heap, regs);
     let Answer::Ready = a else {
         print::line(a, main, regs);
         return;

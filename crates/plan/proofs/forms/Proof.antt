@@ -6,8 +6,8 @@ use borrow.Author.Needs.{needs}
 use borrow.Author.Tests.{le-leb, lt-leb}
 use Rattle.model.specs.File.{operand, operand2, insOf}
 use Rattle.model.specs.Heap.{markOf}
-use Rattle.bridge.specs.Planned.{basicPlan, planOf}
-use Rattle.plans.specs.Given.{planned}
+use Rattle.plan_meaning.specs.Planned.{basicPlan, planOf}
+use Rattle.plan_flow.specs.Given.{planned}
 use Rattle.plan.proofs.forms.Statement.{statement}
 use Rattle.plan.proofs.forms.Tie as tie
 

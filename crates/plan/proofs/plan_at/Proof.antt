@@ -5,8 +5,8 @@ use native.Mathlib.Omega.{arith}
 use borrow.Author.Needs.{needs}
 use Rattle.model.specs.Checker.{basicEffect, effectOf}
 use Rattle.model.specs.File.{codes, bodies, bodyOf, insOf}
-use Rattle.bridge.specs.Planned.{basicPlan, planOf}
-use Rattle.plans.specs.Given.{planned, other}
+use Rattle.plan_meaning.specs.Planned.{basicPlan, planOf}
+use Rattle.plan_flow.specs.Given.{planned, other}
 use Rattle.plan.specs.Arms.{place-in, place-small, main-within, ptr-within, record-in, body, pops-main, callee, subject, plan-here}
 use Rattle.plan.proofs.plan_at.Statement.{statement}
 use Rattle.plan.proofs.plan_at.Tie as tie

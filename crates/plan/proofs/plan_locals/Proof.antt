@@ -4,7 +4,7 @@ use mathlib.Core.Path.{_∙_, refl}
 use native.Mathlib.Omega.{arith}
 use borrow.Author.Needs.{needs}
 use Rattle.model.specs.File.{codes, bodies, bodyOf}
-use Rattle.plans.specs.Given.{other}
+use Rattle.plan_flow.specs.Given.{other}
 use Rattle.plan.specs.Arms.{main-within, ptr-within, record-in, body, main-word, ptr-word, subject, plan-here}
 use Rattle.plan.proofs.plan_locals.Statement.{statement}
 use Rattle.plan.proofs.plan_locals.Tie as tie

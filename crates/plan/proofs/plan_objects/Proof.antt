@@ -5,8 +5,8 @@ use native.Mathlib.Omega.{arith}
 use borrow.Author.Needs.{needs}
 use Rattle.model.specs.Checker.{basicEffect, effectOf}
 use Rattle.model.specs.File.{codes, bodies, bodyOf, makerPops, insOf, insAt}
-use Rattle.bridge.specs.Planned.{basicPlan, planOf, planAt}
-use Rattle.plans.specs.Given.{planned, other}
+use Rattle.plan_meaning.specs.Planned.{basicPlan, planOf, planAt}
+use Rattle.plan_flow.specs.Given.{planned, other}
 use Rattle.plan.specs.Arms.{place-small, main-within, ptr-within, body, pops-main, pops-ptr, points, subject, plan-here}
 use Rattle.plan.specs.Kinds.{third, no-other}
 use Rattle.plan.proofs.plan_objects.Statement.{statement}

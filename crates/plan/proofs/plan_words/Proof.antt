@@ -4,7 +4,7 @@ use mathlib.Core.Path.{_∙_, refl}
 use borrow.Author.Needs.{needs}
 use Rattle.model.specs.Checker.{basicEffect, effectOf}
 use Rattle.model.specs.File.{codes, bodies, bodyOf, insOf}
-use Rattle.plans.specs.Given.{other}
+use Rattle.plan_flow.specs.Given.{other}
 use Rattle.plan.specs.Arms.{on-words, subject, plan-here}
 use Rattle.plan.specs.Kinds.{third, fifth}
 use Rattle.plan.proofs.plan_words.Statement.{statement}

@@ -1,9 +1,9 @@
--- `plan::same_ptr`: the definition computes; `words::eq_w` ensures the word.
+-- `plan::same_ptr`: the definition computes; `arithmetic::eq_w` ensures the word.
 use borrow.Author.Needs.{needs}
 use Rattle.model.specs.File.{insOf}
-use Rattle.bridge.specs.Planned.{basicPlan, planOf}
+use Rattle.plan_meaning.specs.Planned.{basicPlan, planOf}
 use Rattle.plan.specs.Given.{same-word}
-use Rattle.plans.specs.Given.{planned}
+use Rattle.plan_flow.specs.Given.{planned}
 use Rattle.plan.proofs.same_ptr.Statement.{statement}
 use Rattle.plan.proofs.same_ptr.Tie as tie
 

@@ -1,8 +1,8 @@
 -- `plan::set_root`: the definition computes.
 use borrow.Author.Needs.{needs}
 use Rattle.model.specs.File.{insOf}
-use Rattle.bridge.specs.Planned.{basicPlan, planOf}
-use Rattle.plans.specs.Given.{planned}
+use Rattle.plan_meaning.specs.Planned.{basicPlan, planOf}
+use Rattle.plan_flow.specs.Given.{planned}
 use Rattle.plan.proofs.set_root.Statement.{statement}
 use Rattle.plan.proofs.set_root.Tie as tie
 

@@ -4,8 +4,8 @@ use mathlib.Core.Bool.{Bool, true, false, not}
 use Prim.Native.Nat.{_-_}
 use native.Mathlib.Omega.{arith}
 use borrow.Author.Needs.{needs}
-use Rattle.safe.specs.Settling.{alive-settles}
-use Rattle.steps.specs.Going.{Paused, going-start, going-trans}
+use Rattle.theory_step.specs.Settling.{alive-settles}
+use Rattle.run_steps.specs.Going.{Paused, going-start, going-trans}
 use Rattle.run.specs.Endings.{finished-at, going-finished, going-spent, going-uncaught, going-on}
 use Rattle.run.proofs.run_on.Statement.{statement}
 use Rattle.run.proofs.run_on.Tie as tie

@@ -1,0 +1,71 @@
+-- The last arm of a match, and the else of a let: which variants are left is told by their positions, and each of those is tried.
+use Prim.Native.Nat.{ℕ}
+use mathlib.Core.Path.{_≡_, refl, ap, sym, _∙_}
+use mathlib.Core.Logic.{inl, inr}
+use native.Mathlib.Omega.{arith}
+use mathlib.Core.List.{List, [], _∷_}
+use types.Run.{OneOf, miss}
+use denote.Enum.Declared.{tagOf}
+use Rattle.plan_meaning.proofs.Into as made
+use Rattle.plan_meaning.proofs.Plan as planned
+use Rattle.model.specs.Control.{Machine}
+use Rattle.plan_meaning.specs.Settled.{applyInto}
+use Rattle.plan_meaning.specs.declared.Into.{Into}
+use Rattle.plan_meaning.specs.declared.Into.the-variants as into
+use Rattle.plan_meaning.specs.declared.Put.{Put}
+use Rattle.plan_meaning.specs.declared.Plan.{Plan}
+use Rattle.plan_meaning.specs.declared.Plan.the-variants.{Write}
+use Rattle.model.specs.declared.Regs.{Regs}
+use Rattle.apply_words.specs.Asks.{Retract, plainly}
+use Rattle.plan_meaning.specs.Suits.{FitsIn, Suits}
+use Rattle.apply.specs.Applies.{Late}
+
+-- no position is another's
+apart : (i j : Into) → (tagOf made.the-type i ≡ tagOf made.the-type j → ⊥) → i ≡ j → ⊥
+apart i j u e = u (ap (tagOf made.the-type) e)
+
+-- the writes into the stacks and the heap
+abbrev noRecord : List ℕ
+noRecord = 0 ∷ 1 ∷ 2 ∷ 3 ∷ 4 ∷ 5 ∷ 6 ∷ 7 ∷ 8 ∷ 9 ∷ []
+
+pub plain-write : (f : List ℕ) (i : Into) (put : Put) (m : Machine) → OneOf noRecord (tagOf made.the-type i) → Suits f i put m →
+    FitsIn i put m × (plainly i put m ≡ applyInto f i put m)
+unfolding applyInto
+plain-write f into.Nothing put m k s = (s, refl)
+plain-write f into.Pop put m k s = (s, refl)
+plain-write f into.Push put m k s = (s, refl)
+plain-write f into.Main put m k s = (s, refl)
+plain-write f into.Pointer put m k s = (s, refl)
+plain-write f into.Heap put m k s = (s, refl)
+plain-write f into.Read put m k s = (s, refl)
+plain-write f into.Drop put m k s = (s, refl)
+plain-write f into.DropMain put m k s = (s, refl)
+plain-write f into.DropPointer put m k s = (s, refl)
+plain-write f into.View put m k s = absurd (miss noRecord 10 tt k)
+plain-write f into.Frame put m k s = absurd (miss noRecord 11 tt k)
+plain-write f into.Return put m k s = absurd (miss noRecord 12 tt k)
+plain-write f into.Handler put m k s = absurd (miss noRecord 13 tt k)
+plain-write f into.Close put m k s = absurd (miss noRecord 14 tt k)
+
+-- of the late ones: a return is the first frame's; all but a view and a return are retracts
+abbrev noReturn : List ℕ
+noReturn = 0 ∷ 1 ∷ 2 ∷ 3 ∷ 4 ∷ 5 ∷ 6 ∷ 7 ∷ 8 ∷ 9 ∷ 11 ∷ 13 ∷ 14 ∷ []
+
+pub late-return : (i : Into) (r : Regs) → Late i r → i ≡ into.Return → r .frame ≡ 1
+late-return i r (inl (inl e)) u = absurd (apart into.Drop into.Return (λ t. omega arith) (sym e ∙ u))
+late-return i r (inl (inr (inl e))) u = absurd (apart into.DropMain into.Return (λ t. omega arith) (sym e ∙ u))
+late-return i r (inl (inr (inr e))) u = absurd (apart into.DropPointer into.Return (λ t. omega arith) (sym e ∙ u))
+late-return i r (inr (inl e)) u = absurd (apart into.View into.Return (λ t. omega arith) (sym e ∙ u))
+late-return i r (inr (inr e)) u = e .1
+
+pub late-retract : (i : Into) (r : Regs) → Late i r → OneOf noReturn (tagOf made.the-type i) → Retract i
+late-retract i r (inl e) k = e
+late-retract i r (inr (inl e)) k = absurd (miss noReturn 10 tt (rw e at k))
+late-retract i r (inr (inr e)) k = absurd (miss noReturn 12 tt (rw (e .0) at k))
+
+-- all plans but writes
+abbrev raising : List ℕ
+raising = 1 ∷ 2 ∷ 3 ∷ 4 ∷ 5 ∷ 6 ∷ []
+
+pub no-write : (plan : Plan) → OneOf raising (tagOf planned.the-type plan) → (put : Put) → plan ≡ Write put → ⊥
+no-write plan k put e = miss raising 0 tt (rw e at k)

@@ -1,0 +1,96 @@
+-- `apply::step_with` meets its contract: a write that was left is applied, every other plan raises its code.
+
+use Rattle.plan_meaning.specs.Settled.{settle}
+use Rattle.apply.specs.Applied.{to-late}
+use Rattle.apply.specs.Ended.{endedOf, settle-raised}
+use Rattle.apply.proofs.Tags.{no-write}
+use borrow.Author.Needs.{needs}
+use Rattle.apply.proofs.step_with.Statement.{statement}
+use Rattle.apply.proofs.step_with.Tie as tie
+
+enum-known-plan : tie.Need-enum-known-plan
+enum-known-plan c = search needs
+
+code-of-requires : tie.Need-code-of-requires
+code-of-requires c κs =
+    let back7 = c .before .before .before .before .before .before .before in
+    let S = back7 in
+    (S .pre .0 .raises (no-write (S .args .plan) (c .before .match .keys2)) .main-top .fits, S .pre .0 .thrown)
+
+raise-requires : tie.Need-raise-requires
+raise-requires c κs =
+    let at-match = c .before .before .before .before .before in
+    let back11 = at-match .before .before .before .before .before .before in
+    let S = back11 in
+    S .pre .0 .raises (no-write (S .args .plan) (at-match .match .keys2))
+
+same-length : tie.Need-same-length
+same-length c = search needs
+
+same-length-2 : tie.Need-same-length-2
+same-length-2 c = search needs
+
+same-length-3 : tie.Need-same-length-3
+same-length-3 c = search needs
+
+returns : tie.Need-returns
+returns c =
+    let at-raise = c .before .before .before .before .before .before in
+    let at-code-of = at-raise .before .before .before .before in
+    let at-match = at-code-of .before .before in
+    let back18 = at-match .before .before .before .before .before .before in
+    let S = back18 in
+    rw (
+      settle-raised (S .args .file .now) (record { regs = S .args .regs; main = S .args .main .now; ptr = S .args .ptr .now; ctl = S .args .ctl .now; heap = S .args .heap .now })
+          (S .args .plan) (no-write (S .args .plan) (at-match .match .keys2)),
+      ← at-code-of .code-of .ensures,
+    )
+    (at-raise .raise .ensures (S .args .heap .now))
+
+apply-late-requires : tie.Need-apply-late-requires
+apply-late-requires c κs =
+    let at-plan = c .before .before .before .before .before in
+    let back12 = at-plan .before .before .before .before .before .before .before in
+    let S = back12 in
+    let e = at-plan .plan .given .1 in
+    to-late (S .args .file .now) _ (record { regs = S .args .regs; main = S .args .main .now; ptr = S .args .ptr .now; ctl = S .args .ctl .now; heap = S .args .heap .now })
+    (S .pre .0 .writes _ e) (S .pre .1 _ e)
+
+same-length-4 : tie.Need-same-length-4
+same-length-4 c = search needs
+
+same-length-5 : tie.Need-same-length-5
+same-length-5 c = search needs
+
+same-length-6 : tie.Need-same-length-6
+same-length-6 c = search needs
+
+same-length-7 : tie.Need-same-length-7
+same-length-7 c = search needs
+
+returns-2 : tie.Need-returns-2
+unfolding endedOf settle
+returns-2 c =
+    let at-apply-late = c .before .before .before .before .before .before .before .before in
+    let at-plan = at-apply-late .before .before .before .before .before .before in
+    let back21 = at-plan .before .before .before .before .before .before .before in
+    let S = back21 in
+    rw (at-plan .plan .given .1, ← at-apply-late .apply-late .ensures (S .args .file .now))
+
+pub step-with-spec : {M : Type 1} → statement M
+step-with-spec =
+    tie.close
+    (tie.spec
+    enum-known-plan
+    code-of-requires
+    raise-requires
+    same-length
+    same-length-2
+    same-length-3
+    returns
+    apply-late-requires
+    same-length-4
+    same-length-5
+    same-length-6
+    same-length-7
+    returns-2)

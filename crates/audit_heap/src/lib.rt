@@ -1,0 +1,271 @@
+// The heap: its audit for refusal 11, and reads of its objects. Document 01, Memory, second paragraph.
+// The audit walks the objects and marks in a table where they start; a pointer is then looked up there.
+ghost use mathlib.Core.Path.{_≡_};
+ghost use Prim.Native.Nat.{ℕ, _+_, _-_, _≤_, _<_};
+ghost use mathlib.Core.Bool.{true};
+ghost use mathlib.Core.List.{List};
+ghost use mathlib.Core.Logic.{_⊎_};
+ghost use lib.Dec.{eqb};
+ghost use lib.ListN.{length, drop};
+ghost use Rattle.model.specs.Heap.{markOf, kindAt, ptrsAt, sizeAt, viewKind, inPtrs, inPlain, Objects, range, pointerWords};
+ghost use Rattle.model.specs.Sound.{pointers, zeros};
+ghost use Rattle.audit_heap.specs.First.{firstBad, zeroAt, freeWords};
+ghost use Rattle.audit_heap.specs.Every.{oneIf, Every};
+ghost use Rattle.audit_heap.specs.Table.{Small, Unmarked, Marks, isMarked, markedAt, found, Range, judged, Linked, Walked, Audited};
+
+// What the audit answers: the heap is sound, or the index of the word at fault.
+pub enum HeapAudit {
+    Clean,
+    Fault(usize),
+}
+
+// What the walk over the objects answers, and how many pointer words they have together.
+struct Walk {
+    answer: HeapAudit,
+    links: usize,
+}
+
+fn wide(w: u32) -> usize
+    ensures { λ r. ⌜ Small 4294967296 w r ⌝ }
+{
+    w as usize
+}
+
+// The number of pointer words of the object at `q`.
+pub fn ptrs_at(heap: &[u32], q: usize) -> usize
+    requires { ⌜ q < length (now heap) ⌝ }
+    ensures { λ r. ⌜ Small 16777216 (ptrsAt (now (heap .entry)) q) r ⌝ }
+{
+    wide(heap[q]) % 16777216
+}
+
+// The size in words of the object at `q`.
+pub fn size_at(heap: &[u32], q: usize) -> usize
+    requires { ⌜ q + 1 < length (now heap) ⌝ }
+    ensures { λ r. ⌜ Small 4294967296 (sizeAt (now (heap .entry)) q) r ⌝ }
+{
+    let at = q + 1;
+    wide(heap[at])
+}
+
+// Word `s` of the object at `q` is one of its pointer words.
+pub fn in_ptrs(heap: &[u32], q: usize, s: usize) -> bool
+    requires { ⌜ q < length (now heap) ⌝ }
+    ensures { λ r. ⌜ r ≡ inPtrs (now (heap .entry)) q s ⌝ }
+{
+    2 <= s && s < 2 + ptrs_at(heap, q)
+}
+
+// Word `s` of the object at `q` is one of its plain words.
+pub fn in_plain(heap: &[u32], q: usize, s: usize) -> bool
+    requires { ⌜ q + 1 < length (now heap) ⌝ }
+    ensures { λ r. ⌜ r ≡ inPlain (now (heap .entry)) q s ⌝ }
+{
+    2 + ptrs_at(heap, q) <= s && s < size_at(heap, q)
+}
+
+fn is_view(heap: &[u32], q: usize) -> bool
+    requires { ⌜ q < length (now heap) ⌝ }
+    ensures { λ r. ⌜ r ≡ eqb (kindAt (now (heap .entry)) q) viewKind ⌝ }
+{
+    wide(heap[q]) / 16777216 == 1
+}
+
+// The fault of the object at `q`, which is to end at `mark` or before it.
+fn judge_object(heap: &[u32], q: usize, mark: usize) -> HeapAudit
+    requires { ⌜ (q < mark) × (mark ≤ length (now heap)) × (length (now heap) ≤ 16384) ⌝ }
+    ensures { λ r. ⌜ r ≡ judged (now (heap .entry)) q mark ⌝ }
+{
+    let next = q + 1;
+    if !is_view(heap, q) {
+        return HeapAudit::Fault(q);
+    }
+    if mark <= next {
+        return HeapAudit::Fault(q);
+    }
+    let size = size_at(heap, q);
+    if size < 2 + ptrs_at(heap, q) {
+        return HeapAudit::Fault(next);
+    }
+    if mark < q + size {
+        return HeapAudit::Fault(next);
+    }
+    HeapAudit::Clean
+}
+
+// Walks the objects from word 2 to the mark, and marks where each starts. Word 0 is no object's: its mark makes nil a pointer.
+fn mark_objects(heap: &[u32], marks: &mut [bool]) -> Walk
+    requires { ⌜ Range (now heap) × (length (now heap) ≤ length (now marks)) × Unmarked (now marks) ⌝ }
+    ensures { λ r. ⌜ Walked (now (heap .entry)) (r .answer) (r .links) (now (marks .exit)) ⌝ }
+{
+    marks[0] = true;
+    let mark = wide(heap[0]);
+    let mut links = 0;
+    let mut q = 2;
+    while q < mark {
+        let a = judge_object(heap, q, mark);
+        if let HeapAudit::Fault(p) = a {
+            return Walk {
+                answer: HeapAudit::Fault(p),
+                links: 0,
+            };
+        }
+        marks[q] = true;
+        links += ptrs_at(heap, q);
+        q += size_at(heap, q);
+    }
+    Walk {
+        answer: HeapAudit::Clean,
+        links: links,
+    }
+}
+
+// 1 for a word that is marked, 0 for any other: nil counts as a pointer here and below. No branch hangs on the mark: which words are nil
+// no processor foresees.
+fn pointer_count(marks: &[bool], v: u32) -> usize
+    ensures { λ r. ⌜ Small 2 (oneIf (isMarked (now (marks .entry)) v)) r ⌝ }
+{
+    let i = wide(v);
+    if marks.len() <= i {
+        return 0;
+    }
+    if marks[i] { 1 } else { 0 }
+}
+
+fn is_pointer(marks: &[bool], v: u32) -> bool
+    ensures { λ r. ⌜ r ≡ isMarked (now (marks .entry)) v ⌝ }
+{
+    pointer_count(marks, v) == 1
+}
+
+// Every word from `from` up to `end` is a pointer.
+fn all_pointers(words: &[u32], marks: &[bool], from: usize, end: usize) -> bool
+    requires { ⌜ (from ≤ end) × (end ≤ length (now words)) ⌝ }
+    ensures { λ r. ⌜ Every (markedAt (now (marks .entry)) (now (words .entry))) from end r ⌝ }
+{
+    let mut good = 0;
+    let mut i = from;
+    while i < end {
+        good += pointer_count(marks, words[i]);
+        i += 1;
+    }
+    good == end - from
+}
+
+// The first of the words from `from` up to `end` that is no pointer.
+fn bad_pointer(words: &[u32], marks: &[bool], from: usize, end: usize) -> HeapAudit
+    requires { ⌜ (from ≤ end) × (end ≤ length (now words)) ⌝ }
+    ensures { λ r. ⌜ r ≡ firstBad (markedAt (now (marks .entry)) (now (words .entry))) (range from (end - from)) ⌝ }
+{
+    if all_pointers(words, marks, from, end) {
+        return HeapAudit::Clean;
+    }
+    let mut i = from;
+    while i < end {
+        if !is_pointer(marks, words[i]) {
+            return HeapAudit::Fault(i);
+        }
+        i += 1;
+    }
+    HeapAudit::Clean
+}
+
+// The first of the objects' pointer words that is no pointer. Where they have none, the objects are not walked again.
+fn pointers_right(heap: &[u32], marks: &[bool], links: usize) -> HeapAudit
+    requires { ⌜ Range (now heap) × Objects (now heap) 2 (markOf (now heap)) (found (now heap)) × Linked (now heap) (found (now heap)) links ⌝ }
+    ensures { λ r. ⌜ r ≡ firstBad (markedAt (now (marks .entry)) (now (heap .entry))) (pointerWords (now (heap .entry)) (found (now (heap .entry)))) ⌝ }
+{
+    if links == 0 {
+        return HeapAudit::Clean;
+    }
+    let mark = wide(heap[0]);
+    let mut q = 2;
+    while q < mark {
+        let from = q + 2;
+        let end = from + ptrs_at(heap, q);
+        let a = bad_pointer(heap, marks, from, end);
+        if let HeapAudit::Fault(p) = a {
+            return HeapAudit::Fault(p);
+        }
+        q += size_at(heap, q);
+    }
+    HeapAudit::Clean
+}
+
+// Every word from `from` up to `end` is 0. The words are joined without a test of each, so that the compiler takes several at once.
+pub fn all_zero(words: &[u32], from: usize, end: usize) -> bool
+    requires { ⌜ end ≤ length (now words) ⌝ }
+    ensures { λ r. ⌜ Every (zeroAt (now (words .entry))) from end r ⌝ }
+{
+    let mut any = 0;
+    let mut i = from;
+    while i < end {
+        any = any | words[i];
+        i += 1;
+    }
+    any == 0
+}
+
+// The first word from the mark on that is not 0.
+fn free_zero(heap: &[u32]) -> HeapAudit
+    requires { ⌜ Range (now heap) ⌝ }
+    ensures { λ r. ⌜ r ≡ firstBad (zeroAt (now (heap .entry))) (freeWords (now (heap .entry))) ⌝ }
+{
+    let mark = wide(heap[0]);
+    if all_zero(heap, mark, heap.len()) {
+        return HeapAudit::Clean;
+    }
+    let mut i = mark;
+    while i < heap.len() {
+        if heap[i] != 0 {
+            return HeapAudit::Fault(i);
+        }
+        i += 1;
+    }
+    HeapAudit::Clean
+}
+
+// The audit for refusal 11. No mark is set before it; of a sound heap the marks are nil's and the objects' then.
+pub fn audit_heap(heap: &[u32], marks: &mut [bool]) -> HeapAudit
+    requires { ⌜ (2 ≤ length (now heap)) × (length (now heap) ≤ 16384) × (length (now heap) ≤ length (now marks)) × Unmarked (now marks) ⌝ }
+    ensures { λ r. ⌜ Audited (now (heap .entry)) r (now (marks .exit)) ⌝ }
+{
+    let mark = wide(heap[0]);
+    if mark < 2 {
+        return HeapAudit::Fault(0);
+    }
+    if heap.len() < mark {
+        return HeapAudit::Fault(0);
+    }
+    let walk = mark_objects(heap, marks);
+    let w = walk.answer;
+    if let HeapAudit::Fault(q) = w {
+        return HeapAudit::Fault(q);
+    }
+    if !is_pointer(marks, heap[1]) {
+        return HeapAudit::Fault(1);
+    }
+    let p = pointers_right(heap, marks, walk.links);
+    if let HeapAudit::Fault(q) = p {
+        return HeapAudit::Fault(q);
+    }
+    free_zero(heap)
+}
+
+fn least(a: usize, b: usize) -> usize
+    ensures { λ r. ⌜ (r ≤ b) × ((r ≡ a) ⊎ (r ≡ b)) ⌝ }
+{
+    if a < b { a } else { b }
+}
+
+// Every word of the pointer stack is nil or an object's index, provided that the words from `top` on are 0; only those below are looked at.
+// Where they are all nil, that is told sooner than by their marks.
+pub fn audit_pointers(ptr: &[u32], top: usize, marks: &[bool]) -> bool
+    ensures { λ r. ⌜ ((os : List ℕ) → Marks os (now (marks .entry)) → zeros (drop top (now (ptr .entry))) ≡ true → r ≡ pointers os (now (ptr .entry))) ⌝ }
+{
+    let n = least(top, ptr.len());
+    if all_zero(ptr, 0, n) {
+        return true;
+    }
+    all_pointers(ptr, marks, 0, n)
+}

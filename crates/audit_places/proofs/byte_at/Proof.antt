@@ -1,0 +1,22 @@
+-- The file is read where it has a byte, and is 0 past its end.
+use mathlib.Core.Path.{sym}
+use native.Mathlib.Omega.{arith}
+use borrow.Author.Needs.{needs}
+use Rattle.audit_places.specs.Places.{beyond}
+use Rattle.audit_places.proofs.byte_at.Statement.{statement}
+use Rattle.audit_places.proofs.byte_at.Tie as tie
+
+shared-slice-read-wide : tie.Need-shared-slice-read-wide
+shared-slice-read-wide c = search needs
+
+wide-requires : tie.Need-wide-requires
+wide-requires c κs = search needs
+
+returns : tie.Need-returns
+returns c = search needs
+
+returns-2 : tie.Need-returns-2
+returns-2 c = record { is = sym (beyond (c .before .before .args .file .now) (c .before .before .args .p) 0 (omega arith)); small = omega arith }
+
+pub byte-at-spec : {M : Type 1} → statement M
+byte-at-spec = tie.close (tie.spec shared-slice-read-wide wide-requires returns returns-2)

@@ -1,0 +1,136 @@
+-- A frame that passes its tests is the first one, or leads to its caller.
+use mathlib.Core.Path.{sym, _∙_}
+use native.Mathlib.Omega.{arith}
+use borrow.Author.Tests.{not-true, not-false}
+use borrow.Author.Needs.{needs}
+use Rattle.model.specs.File.{insAt}
+use Rattle.model.specs.Checker.{effectOf}
+use Rattle.model.specs.Control.{down}
+use Rattle.audit_places.specs.Places.{in-proc-below}
+use Rattle.audit_records.specs.Records.{down-length, frame-proc, frame-fits, call-below, called, told-frame, told-first, told-call, told-caller}
+use Rattle.audit_records.proofs.read_frame.Statement.{statement}
+use Rattle.audit_records.proofs.read_frame.Tie as tie
+
+frame-at-requires : tie.Need-frame-at-requires
+frame-at-requires c κs = search needs
+
+frame-right-requires : tie.Need-frame-right-requires
+frame-right-requires c κs = let pre = c .before .before .before .before .pre in (pre .0, pre .1 .near, pre .1 .few)
+
+returns : tie.Need-returns
+returns c =
+    let c₀ = c .before .before in
+    let a = c₀ .before .before .before .before .args in
+    let pre = c₀ .before .before .before .before .pre in
+    let w = c₀ .frame-at in
+    let own = sym (not-true _ (c .if1 .taken)) ∙ c .before .frame-right .ensures (down (a .ctl .now) (a .left)) (down-length (a .ctl .now) (a .left)) in
+    told-frame _ _ _ _ _ _ _ (w .result) (w .ensures .is) (pre .3) own
+
+first-right-requires : tie.Need-first-right-requires
+first-right-requires c κs = search needs
+
+returns-2 : tie.Need-returns-2
+returns-2 c =
+    let back5 = c .before .before .before .before .before in
+    let c₀ = back5 in
+    let a = c₀ .before .before .before .before .args in
+    let pre = c₀ .before .before .before .before .pre in
+    let w = c₀ .frame-at in
+    let c₁ = c .before .before .before in
+    let own = sym (not-false _ (c₁ .if1 .left)) ∙ c₁ .before .frame-right .ensures (down (a .ctl .now) (a .left)) (down-length (a .ctl .now) (a .left)) in
+    told-first _ _ _ _ _ _ _ (w .result) (w .ensures .is) (pre .3) own _ (c .before .if2 .taken)
+    (c .first-right .ensures (a .file .now) (a .map .now) (a .lm) (a .lp))
+
+head-of-requires : tie.Need-head-of-requires
+head-of-requires c κs =
+    let c₀ = c .before .before .before .before in
+    let a = c₀ .before .before .before .before .args in
+    let pre = c₀ .before .before .before .before .pre in
+    let w = c₀ .frame-at in
+    let c₁ = c .before .before in
+    let own = sym (not-false _ (c₁ .if1 .left)) ∙ c₁ .before .frame-right .ensures (down (a .ctl .now) (a .left)) (down-length (a .ctl .now) (a .left)) in
+    (pre .0 .heads, in-proc-below _ _ _ (pre .0 .heads) _ _ (frame-proc (a .file .now) (a .map .now) (a .lm) (a .lp) (w .result) (down (a .ctl .now) (a .left)) (a .s) own))
+
+call-before-requires : tie.Need-call-before-requires
+call-before-requires c κs = search needs
+
+caller-right-requires : tie.Need-caller-right-requires
+caller-right-requires c κs =
+    let back6 = c .before .before .before .before .before .before in
+    let c₀ = back6 in
+    let a = c₀ .before .before .before .before .args in
+    let pre = c₀ .before .before .before .before .pre in
+    let w = c₀ .frame-at in
+    let c₁ = c .before .before .before .before in
+    let own = sym (not-false _ (c₁ .if1 .left)) ∙ c₁ .before .frame-right .ensures (down (a .ctl .now) (a .left)) (down-length (a .ctl .now) (a .left)) in
+    let fits = frame-fits (a .file .now) (a .map .now) (a .lm) (a .lp) (w .result) (down (a .ctl .now) (a .left)) (a .s) own (pre .1 .main) (pre .1 .ptr) in
+    let small = w .ensures .words .returns in
+    let e = c .call-before .ensures in
+    let l = call-below (a .file .now) (w .result .returns) in
+    (c .before .head-of .ensures, pre .0 .shows, fits, omega arith)
+
+returns-3 : tie.Need-returns-3
+returns-3 c =
+    let back6 = c .before .before .before .before .before .before in
+    let back8 = back6 .before .before in
+    let c₀ = back8 in
+    let a = c₀ .before .before .before .before .args in
+    let pre = c₀ .before .before .before .before .pre in
+    let w = c₀ .frame-at in
+    let c₁ = back6 in
+    let own = sym (not-false _ (c₁ .if1 .left)) ∙ c₁ .before .frame-right .ensures (down (a .ctl .now) (a .left)) (down-length (a .ctl .now) (a .left)) in
+    let no = sym (not-true _ (c .if3 .taken)) ∙ c .before .caller-right .ensures (a .lm) (a .lp) in
+    told-call _ _ _ _ _ _ _ (w .result) (w .ensures .is) (pre .3) own (c .before .before .before .before .if2 .left) _ (c .before .before .call-before .ensures) no
+
+caller-of-requires : tie.Need-caller-of-requires
+caller-of-requires c κs =
+    let back6 = c .before .before .before .before .before .before in
+    let back8 = back6 .before .before in
+    let c₀ = back8 in
+    let a = c₀ .before .before .before .before .args in
+    let pre = c₀ .before .before .before .before .pre in
+    let w = c₀ .frame-at in
+    let c₁ = back6 in
+    let own = sym (not-false _ (c₁ .if1 .left)) ∙ c₁ .before .frame-right .ensures (down (a .ctl .now) (a .left)) (down-length (a .ctl .now) (a .left)) in
+    let fits = frame-fits (a .file .now) (a .map .now) (a .lm) (a .lp) (w .result) (down (a .ctl .now) (a .left)) (a .s) own (pre .1 .main) (pre .1 .ptr) in
+    let head = c .before .before .before .head-of .ensures in
+    let small = w .ensures .words .returns in
+    let e = c .before .before .call-before .ensures in
+    let l = call-below (a .file .now) (w .result .returns) in
+    (fits, head .a-small, head .b-small, omega arith)
+
+returns-4 : tie.Need-returns-4
+returns-4 c =
+    let at-call-before = c .before .before .before in
+    let at-head-of = at-call-before .before in
+    let at-if2 = at-head-of .before in
+    let back7 = at-if2 .before .before in
+    let back9 = back7 .before .before in
+    let c₀ = back9 in
+    let a = c₀ .before .before .before .before .args in
+    let pre = c₀ .before .before .before .before .pre in
+    let w = c₀ .frame-at in
+    let c₁ = back7 in
+    let own = sym (not-false _ (c₁ .if1 .left)) ∙ c₁ .before .frame-right .ensures (down (a .ctl .now) (a .left)) (down-length (a .ctl .now) (a .left)) in
+    let yes = sym (not-false _ (c .before .if3 .left)) ∙ c .before .before .caller-right .ensures (a .lm) (a .lp) in
+    let call = at-call-before .call-before .result in
+    let pops = called (a .file .now) (a .map .now) (a .lm) (a .lp) (w .result) call (at-head-of .head-of .result) (at-head-of .head-of .ensures) yes in
+    let r = c .caller-of .ensures in
+    told-caller _ _ _ _ _ _ _ (w .result) (w .ensures .is) (pre .3) own (at-if2 .if2 .left) _ (at-call-before .call-before .ensures) _ yes
+    (r .0 (a .file .now) (a .lm) (a .lp) (effectOf (a .file .now) (insAt (a .file .now) call)) pops) (r .1)
+
+pub read-frame-spec : {M : Type 1} → statement M
+read-frame-spec =
+    tie.close
+    (tie.spec
+    frame-at-requires
+    frame-right-requires
+    returns
+    first-right-requires
+    returns-2
+    head-of-requires
+    call-before-requires
+    caller-right-requires
+    returns-3
+    caller-of-requires
+    returns-4)

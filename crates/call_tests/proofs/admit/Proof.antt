@@ -1,0 +1,43 @@
+-- `call_tests::admit` meets its contract: its marks are fresh, and enough for the heap or for any that is not too long.
+use mathlib.Core.Path.{refl}
+use borrow.Author.Needs.{needs}
+use Rattle.call_tests.specs.Admit.{tables-fresh}
+use Rattle.call_tests.proofs.admit.Statement.{statement}
+use Rattle.call_tests.proofs.admit.Tie as tie
+
+slice-aggregate-admit-with : tie.Need-slice-aggregate-admit-with
+slice-aggregate-admit-with c = search needs
+
+admit-with-requires : tie.Need-admit-with-requires
+admit-with-requires c κs = tables-fresh 2048 _ _ _ (c .before .before .before .before .before .before .before .before .before .before .before .pre) refl (λ n. c .before .before .before .if1 .taken)
+
+same-length : tie.Need-same-length
+same-length c = search needs
+
+returns : tie.Need-returns
+returns c = c .before .before .before .admit-with .ensures .found
+
+slice-aggregate-admit-with-2 : tie.Need-slice-aggregate-admit-with-2
+slice-aggregate-admit-with-2 c = search needs
+
+admit-with-requires-2 : tie.Need-admit-with-requires-2
+admit-with-requires-2 c κs = tables-fresh 16384 _ _ _ (c .before .before .before .before .before .before .before .before .before .before .before .pre) refl (λ n. n)
+
+same-length-2 : tie.Need-same-length-2
+same-length-2 c = search needs
+
+returns-2 : tie.Need-returns-2
+returns-2 c = c .before .before .before .admit-with2 .ensures .found
+
+pub admit-spec : {M : Type 1} → statement M
+admit-spec =
+    tie.close
+    (tie.spec
+    slice-aggregate-admit-with
+    admit-with-requires
+    same-length
+    returns
+    slice-aggregate-admit-with-2
+    admit-with-requires-2
+    same-length-2
+    returns-2)

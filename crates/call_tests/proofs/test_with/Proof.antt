@@ -1,0 +1,145 @@
+-- `call_tests::test_with` meets its contract: what start tests too decides, or else the audit of the state.
+use native.Mathlib.Omega.{arith}
+use Rattle.call_tests.specs.Tested.{test-refused, test-ready, test-lengths, test-sound, test-unsound}
+use borrow.Author.Needs.{needs}
+use Rattle.call_tests.proofs.test_with.Statement.{statement}
+use Rattle.call_tests.proofs.test_with.Tie as tie
+
+admit-with-requires : tie.Need-admit-with-requires
+admit-with-requires c κs = search needs
+
+enum-known-v : tie.Need-enum-known-v
+enum-known-v c = search needs
+
+enum-known-v-2 : tie.Need-enum-known-v-2
+enum-known-v-2 c = search needs
+
+regs-from-requires : tie.Need-regs-from-requires
+regs-from-requires c κs =
+    let at-admit = c .before .before .before .before .before .before .before in
+    at-admit .admit-with .ensures .found .shown _ (c .before .v2 .given .1) .registers
+
+sound-state-requires : tie.Need-sound-state-requires
+sound-state-requires c κs =
+    let at-v2 = c .before .before .before .before .before in
+    let at-admit = at-v2 .before .before .before .before .before .before in
+    let at-shared-slice-known = at-admit .before .before .before .before .before .before .before .before .before .before .before in
+    let entry = at-shared-slice-known .before in
+    let w = test-lengths (record {
+      file = entry .args .file .now;
+      map = entry .args .map .now;
+      main = entry .args .main .now;
+      ptr = entry .args .ptr .now;
+      ctl = entry .args .ctl .now;
+      heap =
+          entry .args .heap .now;
+      bytes = entry .args .bytes .now;
+    }) (at-admit .admit-with .last .1 .0) (at-admit .admit-with .last .1 .1 .0) (at-admit .admit-with .last .1 .1 .1 .0)
+    (at-admit .admit-with .result) (at-admit .admit-with .ensures) _ (at-v2 .v2 .given .1) in (
+      test-ready (record {
+        file = entry .args .file .now;
+        map = entry .args .map .now;
+        main = entry .args .main
+            .now;
+        ptr = entry .args .ptr .now;
+        ctl = entry .args .ctl .now;
+        heap = entry .args .heap .now;
+        bytes = entry .args .bytes .now;
+      }) (at-admit .admit-with .last .1 .0)
+          (at-admit .admit-with .last .1 .1 .0) (at-admit .admit-with .last .1 .1 .1 .0) (at-admit .admit-with .result) (at-admit .admit-with .ensures) _ (at-v2 .v2 .given .1)
+          (λ i. omega (arith, at-shared-slice-known .shared-slice-known .given i)),
+      c .before .before .before .regs-from .ensures .1,
+      w .0,
+      w .1,
+    )
+
+same-length : tie.Need-same-length
+same-length c = search needs
+
+same-length-2 : tie.Need-same-length-2
+same-length-2 c = search needs
+
+returns : tie.Need-returns
+returns c =
+    let at-regs-from = c .before .before .before .before .before in
+    let at-v2 = at-regs-from .before .before in
+    let at-admit = at-v2 .before .before .before .before .before .before in
+    let entry = at-admit .before .before .before .before .before .before .before .before .before .before .before .before in
+    test-sound (record {
+      file = entry .args .file .now;
+      map = entry .args .map .now;
+      main = entry .args .main .now;
+      ptr = entry .args .ptr .now;
+      ctl = entry .args .ctl .now;
+      heap = entry
+          .args .heap .now;
+      bytes = entry .args .bytes .now;
+    }) (at-admit .admit-with .last .1 .0) (at-admit .admit-with .last .1 .1 .0) (at-admit .admit-with .last .1 .1 .1 .0)
+    (at-admit .admit-with .result) (at-admit .admit-with .ensures) _ (at-v2 .v2 .given .1) (at-regs-from .regs-from .result) (at-regs-from .regs-from .ensures .0)
+    (c .before .sound-state .result) (c .before .sound-state .ensures) (c .if1 .taken)
+
+same-length-3 : tie.Need-same-length-3
+same-length-3 c = search needs
+
+same-length-4 : tie.Need-same-length-4
+same-length-4 c = search needs
+
+returns-2 : tie.Need-returns-2
+returns-2 c =
+    let at-admit = c .before .before .before .before .before .before .before in
+    let entry = at-admit .before .before .before .before .before .before .before .before .before .before .before .before in
+    test-refused (record {
+      file = entry .args .file .now;
+      map = entry .args .map .now;
+      main = entry .args .main .now;
+      ptr = entry .args .ptr .now;
+      ctl = entry .args .ctl .now;
+      heap = entry
+          .args .heap .now;
+      bytes = entry .args .bytes .now;
+    }) (at-admit .admit-with .last .1 .0) (at-admit .admit-with .last .1 .1 .0) (at-admit .admit-with .last .1 .1 .1 .0)
+    (at-admit .admit-with .result) (at-admit .admit-with .ensures) _ _ (c .before .v .given .1)
+
+same-length-5 : tie.Need-same-length-5
+same-length-5 c = search needs
+
+same-length-6 : tie.Need-same-length-6
+same-length-6 c = search needs
+
+returns-3 : tie.Need-returns-3
+returns-3 c =
+    let at-regs-from = c .before .before .before .before .before in
+    let at-v2 = at-regs-from .before .before in
+    let at-admit = at-v2 .before .before .before .before .before .before in
+    let entry = at-admit .before .before .before .before .before .before .before .before .before .before .before .before in
+    test-unsound (record {
+      file = entry .args .file .now;
+      map = entry .args .map .now;
+      main = entry .args .main .now;
+      ptr = entry .args .ptr .now;
+      ctl = entry .args .ctl .now;
+      heap = entry
+          .args .heap .now;
+      bytes = entry .args .bytes .now;
+    }) (at-admit .admit-with .last .1 .0) (at-admit .admit-with .last .1 .1 .0) (at-admit .admit-with .last .1 .1 .1 .0)
+    (at-admit .admit-with .result) (at-admit .admit-with .ensures) _ (at-v2 .v2 .given .1) (at-regs-from .regs-from .result) (at-regs-from .regs-from .ensures .0)
+    (c .before .sound-state .result) (c .before .sound-state .ensures) (c .if1 .left)
+
+pub test-with-spec : {M : Type 1} → statement M
+test-with-spec =
+    tie.close
+    (tie.spec
+    admit-with-requires
+    enum-known-v
+    enum-known-v-2
+    regs-from-requires
+    sound-state-requires
+    same-length
+    same-length-2
+    returns
+    same-length-3
+    same-length-4
+    returns-2
+    same-length-5
+    same-length-6
+    returns-3)

@@ -1,0 +1,182 @@
+-- Tests 1 to 11 and the register list's length, which start and run share: what the code finds of them decides what the model's
+-- `tested` comes to, whatever follows.
+use Prim.Native.Nat.{ℕ, _<_, _≤_}
+use mathlib.Core.Bool.{Bool, true, false}
+use mathlib.Core.List.{List, [], _∷_}
+use mathlib.Core.Path.{_≡_, refl, ap, sym, _∙_}
+use native.Mathlib.Omega.{arith}
+use lib.ListN.{length, replicate, length-replicate}
+use borrow.Author.Tests.{eq-eqb, ne-eqb}
+use Rattle.model.specs.Choice.{if_then_else_, Test, most, all, All, all-true}
+use Rattle.model.specs.File.{byteAt, heads, isHead, headOf}
+use Rattle.model.specs.Heap.{clean, heapOf, objectsOf}
+use Rattle.model.specs.Control.{registerBytes}
+use Rattle.model.specs.Calls.{pass, refuse, verdictOf, Checked, checked, answered, checkOf, Lent, withMap, After, answers, lengthTests, afterMap, afterCheck, tested}
+use Rattle.model.specs.Calls as model
+use Rattle.theory_checker.specs.Exact.{passed-as}
+use Rattle.theory_checker.specs.Walk.{first-head, after-head}
+use Rattle.check_scan.specs.Rest.{rest-inv, whole-inside, records-first}
+use Rattle.check_scan.specs.Heading.{Placed}
+use Rattle.checker.specs.Parts.{answerOf, Checks}
+use Rattle.check_flow.specs.declared.Verdict.{Verdict}
+use Rattle.check_flow.specs.declared.Verdict.the-variants.{Pass, Refuse}
+use Rattle.code_file.specs.Heads.{HeadIs, procHead, head-of}
+use Rattle.code_file.specs.declared.Head.{Head}
+use Rattle.audit_heap.specs.Table.{Unmarked, unmarked-fresh, Marks, Audited}
+use Rattle.audit_heap.specs.Answers.{audited-clean, audited-fault}
+use Rattle.audit_heap.specs.declared.HeapAudit.{HeapAudit}
+use Rattle.audit_heap.specs.declared.HeapAudit.the-variants.{Clean, Fault}
+use Rattle.model.specs.declared.Answer.the-variants.{Passed, Refused}
+
+-- refusal 10 on numbers, as the model's lengthTests has it
+abbrev pub lengthList : Head → ℕ → ℕ → ℕ → ℕ → List Test
+lengthList v main ptr ctl heap =
+    most 1 main ∷ most main 4096 ∷ most 1 ptr ∷ most ptr 4096 ∷ most 5 ctl ∷ most ctl 1280 ∷ most 2 heap ∷ most heap 16384 ∷ most (v .x) main
+    ∷ most (v .y) ptr ∷ []
+
+-- an empty table of heads, and one of marks, fresh and long enough for any heap that is not too long
+pub record Tables (table : List ℕ) (marks : List Bool) (heap : List ℕ) : Type 0 where
+  pub empty : table ≡ replicate 64 0
+  pub fresh : Unmarked marks
+  pub room : length heap ≤ 16384 → length heap ≤ length marks
+
+-- tables as the code makes them
+pub tables-fresh : (n : ℕ) (table : List ℕ) (marks : List Bool) (heap : List ℕ) → table ≡ replicate 64 0 → marks ≡ replicate n false →
+    (length heap ≤ 16384 → length heap ≤ n) → Tables table marks heap
+tables-fresh n table marks heap e f r =
+    record { empty = e; fresh = rw f (unmarked-fresh n); room = rw (f, length-replicate {A = Bool} n false) r }
+
+-- what goes on where the tests found nothing, and what is answered where they did
+abbrev pub admitted : Verdict → (Lent → After) → Lent → After
+admitted (Pass k) rest l = rest l
+admitted (Refuse n p) rest l = answers (Refused n p) l
+
+-- what the tests show where they found nothing; the file has k procedures
+pub record Shown (l : Lent) (map table : List ℕ) (k : ℕ) : Type 0 where
+  pub passes : verdictOf (l .file) (l .map) ≡ pass map
+  pub placed : Placed (l .file) table k
+  pub lengths : All (lengthTests (withMap map l))
+  pub heap-clean : heapOf (l .heap) ≡ clean (objectsOf (l .heap))
+  pub registers : length (l .bytes) ≡ registerBytes
+
+pub record Admitted (l : Lent) (map table : List ℕ) (v : Verdict) : Type 0 where
+  pub is : (rest : Lent → After) → tested l rest ≡ admitted v rest (withMap map l)
+  pub shown : (k : ℕ) → v ≡ Pass k → Shown l map table k
+
+-- the same, with the table of marks that is left behind
+pub record Marked (l : Lent) (map table : List ℕ) (marks : List Bool) (v : Verdict) : Type 0 where
+  pub found : Admitted l map table v
+  pub marks-are : (k : ℕ) → v ≡ Pass k → Marks (objectsOf (l .heap)) marks
+
+-- the first head of a passed file stands at place 0, and is whole
+pub first-whole : (f map new : List ℕ) → verdictOf f map ≡ pass new → (headOf f 0 ≡ 0) × (6 < length f)
+unfolding headOf heads isHead
+first-whole f map new e =
+    let P = passed-as f map new e .formed in
+    let w = P .records in
+    let z = first-head f (P .places) w in
+    let r = rest-inv f 0 (P .places) (P .some) (sym (records-first f z) ∙ w) in
+    let a = whole-inside f 0 (r .0) in
+    let b = after-head f (P .places) w 0 z in
+    (rw (w, r .1 .2, eq-eqb (byteAt f 0) 240 z), omega arith)
+
+-- a refusal is no pass
+refuse-pass : {A : Type 0} (n p k : ℕ) → Refuse n p ≡ Pass k → A
+refuse-pass n p k e = let y : _≡_ {A = ℕ} 0 1 = cc in absurd (omega arith)
+
+-- the check refused the file
+not-passed : (l : Lent) (map : List ℕ) (w : model.Verdict) (v : Verdict) → checked (answerOf v) map ≡ answered w →
+    ((k : ℕ) → v ≡ Pass k → ⊥) → (rest : Lent → After) → afterCheck l rest w ≡ admitted v rest (withMap map l)
+not-passed l map w (Pass k) e n rest = absurd (n k refl)
+not-passed l map (pass new) (Refuse k p) e n rest =
+    let a : Refused k p ≡ Passed = ap (λ (c : Checked). c .answer) e in
+    let y : _≡_ {A = ℕ} 0 1 = cc in absurd (omega arith)
+not-passed l map (refuse j q new) (Refuse k p) e n rest =
+    let a : Refused k p ≡ Refused j q = ap (λ (c : Checked). c .answer) e in
+    let b : map ≡ new = ap (λ (c : Checked). c .map) e in
+    rw (a, b)
+
+module _ (l : Lent) (map table : List ℕ) (marks : List Bool) (v : Verdict) (C : Checks (l .file) (l .map) map table v) where
+  pub admit-refused : ((k : ℕ) → v ≡ Pass k → ⊥) → Marked l map table marks v
+  unfolding checkOf
+  admit-refused n =
+      record {
+        found = record {
+          is = not-passed l map (verdictOf (l .file) (l .map)) v (C .is) n;
+          shown = λ k e. absurd (n k e);
+        };
+        marks-are = λ k e. absurd (n k e);
+      }
+
+  module _ (k : ℕ) (z : v ≡ Pass k) where
+    passes-with : (w : model.Verdict) → checked Passed map ≡ answered w → w ≡ pass map
+    passes-with (pass new) e = ap pass (sym (ap (λ (c : Checked). c .map) e))
+    passes-with (refuse j p new) e =
+        let w : Passed ≡ Refused j p = ap (λ (c : Checked). c .answer) e in
+        let y : _≡_ {A = ℕ} 0 1 = cc in absurd (omega arith)
+
+    pub admit-passes : verdictOf (l .file) (l .map) ≡ pass map
+    unfolding checkOf
+    admit-passes = passes-with (verdictOf (l .file) (l .map)) (sym (ap (λ (x : Verdict). checked (answerOf x) map) z) ∙ C .is)
+
+    refused : (n p : ℕ) → ((rest : Lent → After) → tested l rest ≡ answers (Refused n p) (withMap map l)) → Marked l map table marks (Refuse n p)
+    refused n p e =
+        record { found = record { is = e; shown = λ j z. refuse-pass n p j z }; marks-are = λ j z. refuse-pass n p j z }
+
+    go-on : (rest : Lent → After) → tested l rest ≡ afterMap (withMap map l) (rest (withMap map l))
+    go-on rest = rw admit-passes
+
+    module _ (head : Head) (head-is : HeadIs (l .file) 0 head) (right? : Bool)
+        (right-is : right? ≡ all (lengthList head (length (l .main)) (length (l .ptr)) (length (l .ctl)) (length (l .heap)))) where
+      list-is : lengthList head (length (l .main)) (length (l .ptr)) (length (l .ctl)) (length (l .heap)) ≡ lengthTests (withMap map l)
+      unfolding lengthTests procHead
+      list-is =
+          let e : head ≡ procHead (l .file) 0 = head-is .is ∙ head-of (l .file) 0 0 (sym (first-whole (l .file) (l .map) map admit-passes .0)) in
+          ap (λ (w : Head). lengthList w (length (l .main)) (length (l .ptr)) (length (l .ctl)) (length (l .heap))) e
+
+      tests-are : right? ≡ all (lengthTests (withMap map l))
+      tests-are = right-is ∙ ap all list-is
+
+      pub admit-lengths : right? ≡ false → Marked l map table marks (Refuse 10 0)
+      admit-lengths w = refused 10 0 (λ rest. go-on rest ∙ rw (sym tests-are ∙ w))
+
+      module _ (w : right? ≡ true) (h : HeapAudit) (h-is : Audited (l .heap) h marks) where
+        pub admit-heap : (q : ℕ) → h ≡ Fault q → Marked l map table marks (Refuse 11 q)
+        admit-heap q e = refused 11 q (λ rest. go-on rest ∙ rw (sym tests-are ∙ w, audited-fault q h-is e))
+
+        module _ (e : h ≡ Clean) where
+          clean-is : heapOf (l .heap) ≡ clean (objectsOf (l .heap))
+          clean-is = audited-clean h-is e
+
+          pub admit-bytes : (length (l .bytes) ≡ 28 → ⊥) → Marked l map table marks (Refuse 12 0)
+          admit-bytes n = refused 12 0 (λ rest. go-on rest ∙ rw (sym tests-are ∙ w, clean-is, ne-eqb (length (l .bytes)) 28 n))
+
+          pub admit-all : length (l .bytes) ≡ 28 → Marked l map table marks (Pass k)
+          admit-all n =
+              record {
+                found = record {
+                  is = λ rest. go-on rest ∙ rw (sym tests-are ∙ w, clean-is, eq-eqb (length (l .bytes)) 28 n);
+                  shown = λ j y.
+                      let x : k ≡ j = cc in
+                      record {
+                        passes = admit-passes;
+                        placed = rw x at (C .placed k z);
+                        lengths = all-true (lengthTests (withMap map l)) (sym tests-are ∙ w);
+                        heap-clean = clean-is;
+                        registers = n;
+                      };
+                };
+                marks-are = λ j y. h-is .marks e;
+              }
+
+pub test-self : (t : Bool) → t ≡ (if t then true else false)
+test-self true = refl
+test-self false = refl
+
+-- what start and run come to, once admitted or not
+module _ (l : Lent) (map table : List ℕ) (v : Verdict) (A : Admitted l map table v) (rest : Lent → After) where
+  pub tested-refused : (n p : ℕ) → v ≡ Refuse n p → answers (Refused n p) (withMap map l) ≡ tested l rest
+  tested-refused n p e = sym (A .is rest ∙ ap (λ (x : Verdict). admitted x rest (withMap map l)) e)
+
+  pub tested-on : (k : ℕ) → v ≡ Pass k → rest (withMap map l) ≡ tested l rest
+  tested-on k e = sym (A .is rest ∙ ap (λ (x : Verdict). admitted x rest (withMap map l)) e)

@@ -1,0 +1,198 @@
+// What start and run test: refusals 1 to 11 and 12 for the length of the register list; then, for run, the state.
+ghost use mathlib.Core.Path.{_≡_};
+ghost use Rattle.model.specs.Choice.{all};
+ghost use lib.ListN.{replicate};
+ghost use Rattle.call_tests.specs.Admit.{lengthList, Tables, Admitted, Marked};
+ghost use Rattle.call_tests.specs.Tested.{TestedAs};
+use code_file::Head;
+use check_flow::Verdict;
+use audit_heap::HeapAudit;
+use model::Regs;
+
+// A heap of so many words at most is short.
+const FEW: usize = 2048;
+
+// No heap has more words.
+const MOST: usize = 16384;
+
+// Refusal 10: the lent lengths, with the head of procedure 0.
+fn lengths_right(head: Head, main: usize, ptr: usize, ctl: usize, heap: usize) -> bool
+    ensures { λ r. ⌜ r ≡ all (lengthList head main ptr ctl heap) ⌝ }
+{
+    if main < 1 {
+        return false;
+    }
+    if 4096 < main {
+        return false;
+    }
+    if ptr < 1 {
+        return false;
+    }
+    if 4096 < ptr {
+        return false;
+    }
+    if ctl < 5 {
+        return false;
+    }
+    if 1280 < ctl {
+        return false;
+    }
+    if heap < 2 {
+        return false;
+    }
+    if 16384 < heap {
+        return false;
+    }
+    if main < head.x {
+        return false;
+    }
+    head.y <= ptr
+}
+
+// Refusals 1 to 11, and 12 for the length of the register list. Where there is none, the table has the heads of so many procedures, and the
+// heap's objects are marked.
+fn admit_with(
+    file: &[u8],
+    map: &mut [u16],
+    table: &mut [usize; 64],
+    marks: &mut [bool],
+    main: &[u32],
+    ptr: &[u32],
+    ctl: &[u32],
+    heap: &[u32],
+    bytes: &[u8],
+) -> Verdict
+    requires { ⌜ Tables (now table) (now marks) (now heap) ⌝ }
+    ensures { λ r. ⌜ Marked (record {
+      file = now (file .entry);
+      map = now (map .entry);
+      main = now (main .entry);
+      ptr = now (ptr .entry);
+      ctl = now (ctl .entry);
+      heap = now (heap .entry);
+      bytes = now (bytes .entry);
+    }) (now (map .exit)) (now (table .exit)) (now (marks .exit)) r ⌝ }
+{
+    let v = checker::check_with(file, map, table);
+    let Verdict::Pass(k) = v else {
+        return v;
+    };
+    let head = code_file::head_at(file, 0);
+    if lengths_right(head, main.len(), ptr.len(), ctl.len(), heap.len()) {
+        let audit = audit_heap::audit_heap(heap, marks);
+        match audit {
+            HeapAudit::Fault(q) => Verdict::Refuse(11, q),
+            HeapAudit::Clean => {
+                if bytes.len() == 28 {
+                    Verdict::Pass(k)
+                } else {
+                    Verdict::Refuse(12, 0)
+                }
+            }
+        }
+    } else {
+        Verdict::Refuse(10, 0)
+    }
+}
+
+// The same with marks of its own. A short heap is given a short table: to clear the long one takes longer than to test a short heap.
+pub fn admit(
+    file: &[u8],
+    map: &mut [u16],
+    table: &mut [usize; 64],
+    main: &[u32],
+    ptr: &[u32],
+    ctl: &[u32],
+    heap: &[u32],
+    bytes: &[u8],
+) -> Verdict
+    requires { ⌜ now table ≡ replicate 64 0 ⌝ }
+    ensures { λ r. ⌜ Admitted (record {
+      file = now (file .entry);
+      map = now (map .entry);
+      main = now (main .entry);
+      ptr = now (ptr .entry);
+      ctl = now (ctl .entry);
+      heap = now (heap .entry);
+      bytes = now (bytes .entry);
+    }) (now (map .exit)) (now (table .exit)) r ⌝ }
+{
+    if heap.len() <= FEW {
+        let mut few = [false; FEW];
+        return admit_with(file, map, table, &mut few, main, ptr, ctl, heap, bytes);
+    }
+    let mut marks = [false; MOST];
+    admit_with(file, map, table, &mut marks, main, ptr, ctl, heap, bytes)
+}
+
+// What the tests of a run find: a sound state of a file with so many procedures, and its registers; or a refusal, its number and its place.
+pub enum Tested {
+    Sound(usize, Regs),
+    Unfit(u32, usize),
+}
+
+// All that run tests, 1 to 12.
+fn test_with(
+    file: &[u8],
+    map: &mut [u16],
+    table: &mut [usize; 64],
+    marks: &mut [bool],
+    main: &[u32],
+    ptr: &[u32],
+    ctl: &[u32],
+    heap: &[u32],
+    bytes: &[u8],
+) -> Tested
+    requires { ⌜ Tables (now table) (now marks) (now heap) ⌝ }
+    ensures { λ r. ⌜ TestedAs (record {
+      file = now (file .entry);
+      map = now (map .entry);
+      main = now (main .entry);
+      ptr = now (ptr .entry);
+      ctl = now (ctl .entry);
+      heap = now (heap .entry);
+      bytes = now (bytes .entry);
+    }) (now (map .exit)) (now (table .exit)) r ⌝ }
+{
+    let v = admit_with(file, map, table, marks, main, ptr, ctl, heap, bytes);
+    match v {
+        Verdict::Refuse(n, p) => Tested::Unfit(n, p),
+        Verdict::Pass(k) => {
+            let regs = registers::regs_from(bytes);
+            if audit_state::sound_state(file, map, table, k, main, ptr, ctl, marks, regs) {
+                return Tested::Sound(k, regs);
+            }
+            Tested::Unfit(12, 0)
+        }
+    }
+}
+
+// The same with marks of its own.
+pub fn test_for_run(
+    file: &[u8],
+    map: &mut [u16],
+    table: &mut [usize; 64],
+    main: &[u32],
+    ptr: &[u32],
+    ctl: &[u32],
+    heap: &[u32],
+    bytes: &[u8],
+) -> Tested
+    requires { ⌜ now table ≡ replicate 64 0 ⌝ }
+    ensures { λ r. ⌜ TestedAs (record {
+      file = now (file .entry);
+      map = now (map .entry);
+      main = now (main .entry);
+      ptr = now (ptr .entry);
+      ctl = now (ctl .entry);
+      heap = now (heap .entry);
+      bytes = now (bytes .entry);
+    }) (now (map .exit)) (now (table .exit)) r ⌝ }
+{
+    if heap.len() <= FEW {
+        let mut few = [false; FEW];
+        return test_with(file, map, table, &mut few, main, ptr, ctl, heap, bytes);
+    }
+    let mut marks = [false; MOST];
+    test_with(file, map, table, &mut marks, main, ptr, ctl, heap, bytes)
+}

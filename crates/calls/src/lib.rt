@@ -1,0 +1,120 @@
+// start and run over lent lists.
+ghost use mathlib.Core.Path.{_≡_};
+ghost use lib.ListN.{length, replicate};
+ghost use Rattle.model.specs.Calls.{answers, startOf, runOf};
+ghost use Rattle.calls.specs.Starts.{firstRegs};
+use call_tests::Tested;
+use check_flow::Verdict;
+use model::Answer;
+use model::RECORD;
+use model::Regs;
+
+// Every word is 0.
+fn clear(l: &mut [u32])
+    ensures { λ _. ⌜ now (l .exit) ≡ replicate (length (now (l .entry))) 0 ⌝ }
+{
+    let mut i = 0;
+    while i < l.len() {
+        l[i] = 0;
+        i += 1;
+    }
+}
+
+// At the first instruction of procedure 0, in its frame, with empty stacks.
+fn first() -> Regs
+    ensures { λ r. ⌜ r ≡ firstRegs ⌝ }
+{
+    Regs {
+        place: 7,
+        frame: 1,
+        handler: 0,
+        mtop: 0,
+        ptop: 0,
+        ctop: RECORD,
+        state: 0,
+    }
+}
+
+// Tests 1 to 12, then the state at the first instruction of procedure 0.
+pub fn start(
+    file: &[u8],
+    map: &mut [u16],
+    main: &mut [u32],
+    ptr: &mut [u32],
+    ctl: &mut [u32],
+    heap: &[u32],
+    bytes: &mut [u8],
+) -> Answer
+    ensures { λ r. ⌜ answers r (record {
+      file = now (file .entry);
+      map = now (map .exit);
+      main = now (main .exit);
+      ptr = now (ptr .exit);
+      ctl = now (ctl .exit);
+      heap = now (heap .entry);
+      bytes = now (bytes .exit);
+    }) ≡ startOf (record {
+      file = now (file .entry);
+      map = now (map .entry);
+      main = now (main .entry);
+      ptr = now (ptr .entry);
+      ctl = now (ctl .entry);
+      heap = now (heap .entry);
+      bytes = now (bytes .entry);
+    }) ⌝ }
+{
+    let mut table = [0usize; 64];
+    let v = call_tests::admit(file, map, &mut table, main, ptr, ctl, heap, bytes);
+    match v {
+        Verdict::Refuse(n, p) => Answer::Refused(n, p),
+        Verdict::Pass(_) => {
+            clear(main);
+            clear(ptr);
+            clear(ctl);
+            registers::put_regs(bytes, first());
+            Answer::Ready
+        }
+    }
+}
+
+// Tests 1 to 12, then the run.
+pub fn run(
+    file: &[u8],
+    map: &mut [u16],
+    main: &mut [u32],
+    ptr: &mut [u32],
+    ctl: &mut [u32],
+    heap: &mut [u32],
+    bytes: &mut [u8],
+    budget: u32,
+) -> Answer
+    ensures { λ r. ⌜ answers r (record {
+      file = now (file .entry);
+      map = now (map .exit);
+      main = now (main .exit);
+      ptr = now (ptr .exit);
+      ctl = now (ctl .exit);
+      heap = now (heap .exit);
+      bytes = now (bytes .exit);
+    }) ≡ runOf budget (record {
+      file = now (file .entry);
+      map = now (map .entry);
+      main = now (main .entry);
+      ptr = now (ptr .entry);
+      ctl = now (ctl .entry);
+      heap = now (heap .entry);
+      bytes = now (bytes .entry);
+    }) ⌝ }
+{
+    let mut table = [0usize; 64];
+    let t = call_tests::test_for_run(file, map, &mut table, main, ptr, ctl, heap, bytes);
+    match t {
+        Tested::Unfit(n, p) => Answer::Refused(n, p),
+        Tested::Sound(_, regs) => {
+            let out = run::run_on(file, &table, main, ptr, ctl, heap, regs, budget);
+            let left = out.regs;
+            registers::put_regs(bytes, left);
+            out.answer
+        }
+    }
+}

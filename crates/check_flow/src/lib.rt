@@ -1,0 +1,388 @@
+// Refusals 5 to 9: the flow of depths and open handlers through the instructions of a file, in the part of the map that is its.
+ghost use mathlib.Core.Path.{_≡_};
+ghost use Prim.Native.Nat.{_+_, _*_, _<_, _≤_};
+ghost use mathlib.Core.List.{_∷_, []};
+ghost use lib.ListN.{length};
+ghost use Rattle.model.specs.File as model;
+ghost use Rattle.code_file.specs.Kinds.{NoneOf};
+ghost use Rattle.check_rows.specs.Shape.{Jump, Open, Close, Return};
+ghost use Rattle.check_rows.specs.Site.{Table};
+ghost use Rattle.check_rows.specs.Kinds.{Aside, elsewhere};
+ghost use Rattle.check_rows.specs.Tests.{asState};
+ghost use Rattle.check_flow.specs.Own.{ownIn};
+ghost use Rattle.check_flow.specs.Takes.{passOneIn, passAllIn, takeIn};
+ghost use Rattle.check_flow.specs.Faults.{passAns, takeAns, StateIs, OuterIs, Held, Fitting, endIn};
+ghost use Rattle.check_flow.specs.Ways.{leads, branchWay, Led, Among, Bounds, takenBy, Took};
+ghost use Rattle.check_flow.specs.Flowing.{Begun, Flowed};
+use check_rows::Limits;
+use check_rows::State;
+use check_rows::UNREACHED;
+
+// No instruction, no handler.
+const NONE: usize = 65535;
+
+const HEAD: u8 = 240;
+
+fn wide(x: u16) -> usize
+    ensures { λ r. ⌜ (r ≡ x) × (r < 65536) ⌝ }
+{
+    x as usize
+}
+
+// The three numbers at q.
+fn state_in(m: &[u16], q: usize) -> State
+    requires { ⌜ (3 * q + 2 < length (now m)) × (q < 4096) ⌝ }
+    ensures { λ r. ⌜ StateIs (now (m .entry)) q r ⌝ }
+{
+    let i = 3 * q;
+    State {
+        main: wide(m[i]),
+        ptr: wide(m[i + 1]),
+        inner: wide(m[i + 2]),
+    }
+}
+
+// An instruction starts at q, between a procedure's head and its end.
+fn own(m: &[u16], head: usize, end: usize, q: usize) -> bool
+    requires { ⌜ (3 * end ≤ length (now m)) × (end ≤ 4096) ⌝ }
+    ensures { λ r. ⌜ r ≡ ownIn (now (m .entry)) head end q ⌝ }
+{
+    if q <= head {
+        return false;
+    }
+    if end <= q {
+        return false;
+    }
+    m[3 * q] != 65535
+}
+
+// The state at the innermost open handler.
+fn outer_of(m: &[u16], s: State) -> State
+    requires { ⌜ Held (now m) (s .inner) ⌝ }
+    ensures { λ r. ⌜ OuterIs (now (m .entry)) (asState s) r ⌝ }
+{
+    let inner = s.inner;
+    if inner == NONE {
+        return State {
+            main: 0,
+            ptr: 0,
+            inner: NONE,
+        };
+    }
+    state_in(m, inner)
+}
+
+// A state passed to q: it is the first there, or the same as the one there.
+fn pass_one(m: &mut [u16], q: usize, s: State) -> bool
+    requires { ⌜ (3 * q + 2 < length (now m)) × (q < 4096) × (s .main < 65536) × (s .ptr < 65536) × (s .inner < 65536) ⌝ }
+    ensures { λ r. ⌜ passAns r (now (m .exit)) ≡ passOneIn (now (m .entry)) q (asState s) ⌝ }
+{
+    let t = state_in(m, q);
+    if UNREACHED <= t.main {
+        check_scan::put(m, q, s.main as u16, s.ptr as u16, s.inner as u16);
+        return true;
+    }
+    if t.main != s.main {
+        return false;
+    }
+    if t.ptr != s.ptr {
+        return false;
+    }
+    t.inner == s.inner
+}
+
+// A state passed to the next instruction, then one to a target: 9 or 0.
+fn pass_both(m: &mut [u16], next: usize, s: State, target: usize, t: State) -> u32
+    requires { ⌜ Fitting (now m) next (asState s) × Fitting (now m) target (asState t) ⌝ }
+    ensures { λ r. ⌜ takeAns r (now (m .exit)) ≡ passAllIn ((next, asState s) ∷ (target, asState t) ∷ []) (now (m .entry)) ⌝ }
+{
+    if pass_one(m, next, s) {
+        if pass_one(m, target, t) {
+            return 0;
+        }
+        return 9;
+    }
+    9
+}
+
+// 1 and 3: to the target alone. The depths stay, so that nothing is asked of them.
+fn jump(file: &[u8], m: &mut [u16], head: usize, limits: Limits, p: usize, target: usize) -> u32
+    requires { ⌜ Led (now file) (now m) head p 3 limits (leads Jump 0 target) ⌝ }
+    ensures { λ r. ⌜ takeAns r (now (m .exit)) ≡ takeIn (now (file .entry)) p (now (m .entry)) ⌝ }
+{
+    if own(m, head, limits.end, target) {
+        let s = state_in(m, p);
+        if UNREACHED <= s.main {
+            return 6;
+        }
+        if pass_one(m, target, s) {
+            return 0;
+        }
+        return 9;
+    }
+    5
+}
+
+// 2, 4, 5 and 6: a word is popped, and the state passes to the next instruction and to the target; 5 and 6 keep the word there.
+fn branch(
+    file: &[u8],
+    m: &mut [u16],
+    head: usize,
+    limits: Limits,
+    p: usize,
+    target: usize,
+    keep: bool,
+) -> u32
+    requires { ⌜ Led (now file) (now m) head p 3 limits (leads (branchWay keep) 1 target) ⌝ }
+    ensures { λ r. ⌜ takeAns r (now (m .exit)) ≡ takeIn (now (file .entry)) p (now (m .entry)) ⌝ }
+{
+    let next = p + 3;
+    if own(m, head, limits.end, target) {
+        let s = state_in(m, p);
+        if UNREACHED <= s.main {
+            return 6;
+        }
+        if limits.end <= next {
+            return 6;
+        }
+        let o = outer_of(m, s);
+        if check_rows::depths_ok(s, o, check_rows::effect(1, 0, 0, 0), limits) {
+            let rest = s.main - 1;
+            let then = State {
+                main: rest,
+                ptr: s.ptr,
+                inner: s.inner,
+            };
+            if keep {
+                return pass_both(m, next, then, target, s);
+            }
+            return pass_both(m, next, then, target, then);
+        }
+        return 7;
+    }
+    5
+}
+
+// 160: the handler gets the depths before it and one main word more.
+fn open(file: &[u8], m: &mut [u16], head: usize, limits: Limits, p: usize, target: usize) -> u32
+    requires { ⌜ Led (now file) (now m) head p 3 limits (leads Open 0 target) ⌝ }
+    ensures { λ r. ⌜ takeAns r (now (m .exit)) ≡ takeIn (now (file .entry)) p (now (m .entry)) ⌝ }
+{
+    let next = p + 3;
+    if own(m, head, limits.end, target) {
+        if target <= p {
+            return 5;
+        }
+        let s = state_in(m, p);
+        if UNREACHED <= s.main {
+            return 6;
+        }
+        if limits.end <= next {
+            return 6;
+        }
+        if limits.x <= s.main {
+            return 7;
+        }
+        let raised = s.main + 1;
+        let then = State {
+            main: s.main,
+            ptr: s.ptr,
+            inner: p,
+        };
+        let caught = State {
+            main: raised,
+            ptr: s.ptr,
+            inner: s.inner,
+        };
+        return pass_both(m, next, then, target, caught);
+    }
+    5
+}
+
+// 161: the innermost handler is closed.
+fn close(file: &[u8], m: &mut [u16], head: usize, limits: Limits, p: usize) -> u32
+    requires { ⌜ Led (now file) (now m) head p 1 limits (leads Close 0 0) ⌝ }
+    ensures { λ r. ⌜ takeAns r (now (m .exit)) ≡ takeIn (now (file .entry)) p (now (m .entry)) ⌝ }
+{
+    let next = p + 1;
+    let s = state_in(m, p);
+    if UNREACHED <= s.main {
+        return 6;
+    }
+    if limits.end <= next {
+        return 6;
+    }
+    if s.inner == NONE {
+        return 8;
+    }
+    let o = outer_of(m, s);
+    let then = State {
+        main: s.main,
+        ptr: s.ptr,
+        inner: o.inner,
+    };
+    if pass_one(m, next, then) {
+        return 0;
+    }
+    9
+}
+
+// 73: the state passes nowhere.
+fn leave(file: &[u8], m: &[u16], head: usize, limits: Limits, p: usize) -> u32
+    requires { ⌜ Led (now file) (now m) head p 1 limits (leads Return 0 0) ⌝ }
+    ensures { λ r. ⌜ takeAns r (now (m .entry)) ≡ takeIn (now (file .entry)) p (now (m .entry)) ⌝ }
+{
+    let h = code_file::head_at(file, head);
+    let s = state_in(m, p);
+    if UNREACHED <= s.main {
+        return 6;
+    }
+    if s.main != h.r {
+        return 8;
+    }
+    if s.ptr != h.s {
+        return 8;
+    }
+    if s.inner != NONE {
+        return 8;
+    }
+    0
+}
+
+// 1 to 6
+fn jumps(file: &[u8], m: &mut [u16], head: usize, limits: Limits, p: usize, kind: u8) -> u32
+    requires { ⌜ Among (now file) (now m) head p limits kind × (1 ≤ kind) × (kind ≤ 6) ⌝ }
+    ensures { λ r. ⌜ takeAns r (now (m .exit)) ≡ takeIn (now (file .entry)) p (now (m .entry)) ⌝ }
+{
+    match kind {
+        1 => jump(file, m, head, limits, p, code_file::forwards(file, p)),
+        3 => jump(file, m, head, limits, p, code_file::backwards(file, p)),
+        2 => branch(file, m, head, limits, p, code_file::forwards(file, p), false),
+        4 => branch(file, m, head, limits, p, code_file::backwards(file, p), false),
+        _ => branch(file, m, head, limits, p, code_file::forwards(file, p), true),
+    }
+}
+
+// What taking an instruction comes to: the number of its refusal, or 0 and the place behind it.
+pub struct Taken {
+    pub fault: u32,
+    pub next: usize,
+}
+
+fn done(fault: u32, next: usize) -> Taken
+    ensures { λ r. ⌜ r ≡ takenBy fault next ⌝ }
+{
+    Taken { fault, next }
+}
+
+// An instruction that leads to the next one alone, or nowhere.
+fn plain(
+    file: &[u8],
+    table: &[usize; 64],
+    m: &mut [u16],
+    k: usize,
+    head: usize,
+    limits: Limits,
+    p: usize,
+    kind: u8,
+) -> Taken
+    requires { ⌜ Table (now file) (now table) k × Among (now file) (now m) head p limits kind × Aside kind × NoneOf elsewhere kind ⌝ }
+    ensures { λ r. ⌜ Took (now (file .entry)) p (now (m .entry)) (now (m .exit)) r ⌝ }
+{
+    let s = state_in(m, p);
+    let o = outer_of(m, s);
+    let to = check_rows::plain_at(file, table, k, p, kind, s, o, limits);
+    let next = to.next;
+    if to.goes {
+        let then = State {
+            main: to.main,
+            ptr: to.ptr,
+            inner: s.inner,
+        };
+        if pass_one(m, next, then) {
+            return done(0, next);
+        }
+        return done(9, next);
+    }
+    done(to.fault, next)
+}
+
+// The instruction of this kind at p, of the procedure with this head and these limits, of k procedures.
+fn take(
+    file: &[u8],
+    table: &[usize; 64],
+    m: &mut [u16],
+    k: usize,
+    head: usize,
+    limits: Limits,
+    p: usize,
+    kind: u8,
+) -> Taken
+    requires { ⌜ Table (now file) (now table) k × Among (now file) (now m) head p limits kind × (kind ≡ 240 → ⊥) ⌝ }
+    ensures { λ r. ⌜ Took (now (file .entry)) p (now (m .entry)) (now (m .exit)) r ⌝ }
+{
+    match kind {
+        1..=6 => done(jumps(file, m, head, limits, p, kind), p + 3),
+        73 => done(leave(file, m, head, limits, p), p + 1),
+        160 => done(
+            open(file, m, head, limits, p, head + code_file::operand(file, p)),
+            p + 3,
+        ),
+        161 => done(close(file, m, head, limits, p), p + 1),
+        _ => plain(file, table, m, k, head, limits, p, kind),
+    }
+}
+
+// Where the procedure behind c heads ends, of k procedures in a file of n bytes.
+fn end_of(table: &[usize; 64], k: usize, c: usize, n: usize) -> usize
+    requires { ⌜ k ≤ 64 ⌝ }
+    ensures { λ r. ⌜ r ≡ endIn (now (table .entry)) k c n ⌝ }
+{
+    if c < k { table[c] } else { n }
+}
+
+// What the tests find: the file passes and has so many procedures, or it is refused with a number and a place.
+pub enum Verdict {
+    Pass(usize),
+    Refuse(u32, usize),
+}
+
+// What holds throughout the procedure with this head and this end.
+fn limits_of(file: &[u8], head: usize, end: usize) -> Limits
+    requires { ⌜ head + 6 < length (now file) ⌝ }
+    ensures { λ r. ⌜ (r .end ≡ end) × Bounds (now (file .entry)) head r ⌝ }
+{
+    Limits {
+        end,
+        x: code_file::wide(file[head + 5]),
+        y: code_file::wide(file[head + 6]),
+    }
+}
+
+// The instructions in file order.
+pub fn flow(file: &[u8], m: &mut [u16], table: &[usize; 64], k: usize) -> Verdict
+    requires { ⌜ Begun (now file) (now m) (now table) k ⌝ }
+    ensures { λ r. ⌜ Flowed (now (file .entry)) (now (m .exit)) k r ⌝ }
+{
+    let n = file.len();
+    let mut p = 0;
+    let mut c = 0;
+    let mut head = 0;
+    let mut limits = limits_of(file, 0, 0);
+    while p < n {
+        let kind = file[p];
+        if kind == HEAD {
+            head = p;
+            c += 1;
+            limits = limits_of(file, p, end_of(table, k, c, n));
+            p += 7;
+        } else {
+            let to = take(file, table, m, k, head, limits, p, kind);
+            if to.fault != 0 {
+                return Verdict::Refuse(to.fault, p);
+            }
+            p = to.next;
+        }
+    }
+    Verdict::Pass(k)
+}

@@ -1,0 +1,205 @@
+// Refusals 3 and 4: the records and the heads of a file, in the part of the map that is its.
+ghost use mathlib.Core.Path.{_≡_};
+ghost use Prim.Native.Nat.{_+_, _*_, _<_, _≤_};
+ghost use lib.ListN.{length, replicate, set};
+ghost use Rattle.model.specs.File as model;
+ghost use Rattle.model.specs.Checker.{state};
+ghost use Rattle.check_scan.specs.Marks.{putIn};
+ghost use Rattle.check_scan.specs.Scanning.{Scanned, listIn, lastIn};
+ghost use Rattle.check_scan.specs.Heading.{headOk, numberOk, startsAt, Marked, Headed};
+use code_file::Head;
+
+// No instruction, no handler.
+const NONE: u16 = 65535;
+// An instruction starts here that no state has reached yet; depths are at most 255.
+const UNREACHED: u16 = 65534;
+
+const HEAD: u8 = 240;
+
+const UNKNOWN: usize = 255;
+
+// What the records of a file come to.
+pub enum Found {
+    Broken(usize), // the place of the first that is at fault
+    Whole(usize, usize), // the number of heads, and the place of the 65th
+}
+
+// Every number is 65,535.
+pub fn fill(m: &mut [u16])
+    ensures { λ _. ⌜ now (m .exit) ≡ replicate (length (now (m .entry))) 65535 ⌝ }
+{
+    let mut i = 0;
+    while i < m.len() {
+        m[i] = NONE;
+        i += 1;
+    }
+}
+
+// An instruction with b bytes behind its kind starts at p: it is marked. The place behind it.
+fn mark(m: &mut [u16], p: usize, b: usize) -> usize
+    requires { ⌜ (3 * p < length (now m)) × (p < 4096) × (b < 256) ⌝ }
+    ensures map { λ _. ⌜ now (m .exit) ≡ set (now (m .entry)) (3 * p) 65534 ⌝ }
+    ensures place { λ r. ⌜ r ≡ p + 1 + b ⌝ }
+{
+    m[3 * p] = UNREACHED;
+    p + 1 + b
+}
+
+// Head k stands at p: the table has room for 64, and the place of the 65th is kept by itself.
+fn list(table: &mut [usize; 64], k: usize, last: usize, p: usize) -> usize
+    ensures heads { λ _. ⌜ now (table .exit) ≡ listIn (now (table .entry)) k p ⌝ }
+    ensures later { λ r. ⌜ r ≡ lastIn last k p ⌝ }
+{
+    if k < 64 {
+        table[k] = p;
+        return last;
+    }
+    if k == 64 { p } else { last }
+}
+
+// Refusal 3: the records in file order, the instructions among them marked, the heads listed. Each common length has a branch of its own:
+// the processor foresees where the next record starts, and does not wait for the length. The tests are mostly `<`: of equal tests the
+// compiler would make one jump by a table. Only the last record can be cut short, so that is asked once, behind the loop.
+pub fn scan(file: &[u8], m: &mut [u16], table: &mut [usize; 64]) -> Found
+    requires { ⌜ (1 ≤ length (now file)) × (length (now file) ≤ 4096) × (length (now m) ≡ 3 * length (now file)) × (now table ≡ replicate 64 0) ⌝ }
+    ensures { λ r. ⌜ Scanned (now (file .entry)) (now (m .entry)) (now (m .exit)) (now (table .exit)) r ⌝ }
+{
+    let n = file.len();
+    if file[0] != HEAD {
+        return Found::Broken(0);
+    }
+    let bodies = code_file::bodies();
+    let mut p = 0;
+    let mut k = 0;
+    let mut last = 0;
+    let mut from = 0;
+    while p < n {
+        from = p;
+        let kind = file[p];
+        let b = code_file::body(&bodies, kind);
+        if b < 1 {
+            p = mark(m, p, 0);
+        } else if b < 2 {
+            p = mark(m, p, 1);
+        } else if b < 3 {
+            p = mark(m, p, 2);
+        } else if b == 4 {
+            p = mark(m, p, 4);
+        } else if kind == HEAD {
+            last = list(table, k, last, p);
+            k += 1;
+            p += 7;
+        } else if b == UNKNOWN {
+            return Found::Broken(p);
+        } else {
+            p = mark(m, p, b);
+        }
+    }
+    if n < p {
+        Found::Broken(from)
+    } else {
+        Found::Whole(k, last)
+    }
+}
+
+// At most 64 procedures, and procedure 0 has no parameters.
+fn number_right(head: Head, k: usize) -> bool
+    ensures { λ r. ⌜ r ≡ numberOk head k ⌝ }
+{
+    if 64 <= k {
+        return false;
+    }
+    if k != 0 {
+        return true;
+    }
+    if head.a != 0 {
+        return false;
+    }
+    head.b == 0
+}
+
+// The rules of head k, behind which an instruction starts.
+fn head_right(head: Head, k: usize) -> bool
+    ensures { λ r. ⌜ r ≡ headOk head k ⌝ }
+{
+    if head.x < head.a {
+        return false;
+    }
+    if head.x < head.r {
+        return false;
+    }
+    if head.y < head.b {
+        return false;
+    }
+    if head.y < head.s {
+        return false;
+    }
+    number_right(head, k)
+}
+
+// An instruction starts at q, in a file of n bytes.
+fn follows(m: &[u16], n: usize, q: usize) -> bool
+    requires { ⌜ (length (now m) ≡ 3 * n) × (n ≤ 4096) ⌝ }
+    ensures { λ r. ⌜ r ≡ startsAt (now (m .entry)) n q ⌝ }
+{
+    if n <= q {
+        return false;
+    }
+    m[3 * q] != NONE
+}
+
+// The three numbers at q.
+pub fn put(m: &mut [u16], q: usize, main: u16, ptr: u16, inner: u16)
+    requires { ⌜ (3 * q + 2 < length (now m)) × (q < 4096) ⌝ }
+    ensures { λ _. ⌜ now (m .exit) ≡ putIn (now (m .entry)) q (state main ptr inner) ⌝ }
+{
+    let i = 3 * q;
+    m[i] = main;
+    m[i + 1] = ptr;
+    m[i + 2] = inner;
+}
+
+// What the heads of a file come to: the place of the first one at fault, or their number.
+pub enum Heads {
+    Wrong(usize),
+    Right(usize),
+}
+
+// A head at p is right: its first instruction gets its state.
+fn place_head(m: &mut [u16], head: Head, p: usize)
+    requires { ⌜ (3 * (p + 7) + 2 < length (now m)) × (p + 7 < 4096) × (head .a < 256) × (head .b < 256) ⌝ }
+    ensures { λ _. ⌜ now (m .exit) ≡ putIn (now (m .entry)) (p + 7) (state (head .a) (head .b) 65535) ⌝ }
+{
+    let a = head.a as u16;
+    let b = head.b as u16;
+    put(m, p + 7, a, b, NONE);
+}
+
+// Refusal 4: the n heads in file order, as the scan listed them; the 65th stands at last.
+pub fn heads_of(file: &[u8], m: &mut [u16], table: &[usize; 64], n: usize, last: usize) -> Heads
+    requires { ⌜ Marked (now file) (now m) (now table) n last ⌝ }
+    ensures { λ r. ⌜ Headed (now (file .entry)) (now (m .exit)) (now (table .entry)) r ⌝ }
+{
+    let size = file.len();
+    let mut k = 0;
+    while k < n {
+        if k == 64 {
+            return Heads::Wrong(last);
+        }
+        let p = table[k];
+        let there = follows(m, size, p + 7);
+        if there {
+            let head = code_file::head_at(file, p);
+            let right = head_right(head, k);
+            if right {
+                place_head(m, head, p);
+                k += 1;
+            } else {
+                return Heads::Wrong(p);
+            }
+        } else {
+            return Heads::Wrong(p);
+        }
+    }
+    Heads::Right(k)
+}

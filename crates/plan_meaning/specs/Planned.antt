@@ -1,0 +1,101 @@
+-- What the code plans for each instruction: its writes or the exception that it raises.
+use Prim.Native.Nat.{ℕ, _+_, _-_}
+use mathlib.Core.Bool.{Bool, true, false}
+use mathlib.Core.List.{List}
+use lib.Dec.{leb, eqb}
+use lib.ListN.{length}
+use Rattle.model.specs.Choice.{if_then_else_, all}
+use Rattle.model.specs.Words.{wordAt, truth, bit, operate, operate1}
+use Rattle.model.specs.File.{onMain, onPtr, keepMain, keepPtr, keepNone, Basic, local, assign, field, setField, make, form, literal, nil, root, setRoot, retract, binary, samePtr, unary, Ins, basic, jump, branch, branchKeep, call, return, enter, exit, raise, after, entry, insAt, paramsMain, paramsPtr}
+use Rattle.model.specs.Heap.{markOf, rootOf, inPtrs, inPlain}
+use Rattle.model.specs.Control.{Machine, running, recordWords}
+use Rattle.model.specs.Moves.{mtop, ptop, mainWord, ptrWord}
+use Rattle.model.specs.Instructions.{callTests}
+use Rattle.model.specs.declared.Value.{Value}
+use Rattle.model.specs.declared.Value.the-variants.{Word, Outside}
+use Rattle.plan_meaning.specs.declared.Into.{Into}
+use Rattle.plan_meaning.specs.declared.Into.the-variants.{Nothing, Pop, Push, Main, Pointer, Heap, Read, Drop, DropMain, DropPointer, View, Frame, Return, Handler, Close}
+use Rattle.plan_meaning.specs.declared.Put.{Put}
+use Rattle.plan_meaning.specs.declared.Plan.{Plan}
+use Rattle.plan_meaning.specs.declared.Plan.the-variants.{Write, OutOfRange, NilObject, NoSuchWord, HeapFull, NoRoom, Thrown}
+
+-- the next place, the tops of the main and the pointer stack, and the word that is written into a list at an index
+abbrev pub write : Into → ℕ → ℕ → ℕ → ℕ → ℕ → Plan
+write i q m p at w = Write (record { into = i; place = q; mtop = m; ptop = p; at = at; word = w })
+
+-- exception 2 for a nil object, then 3 where the word is not in the part asked for, else the plan
+abbrev pub onObject : ℕ → Bool → Plan → Plan
+onObject o inPart plan = if eqb o 0 then NilObject else if inPart then plan else NoSuchWord
+
+-- exception 1, or the plan for the word
+abbrev pub onValue : Value → (ℕ → Plan) → Plan
+onValue (Word w) plan = plan w
+onValue Outside plan = OutOfRange
+
+-- an instruction that works on words, with q the next place. In the order of the table:
+-- 20, 21 "push word s of the frame"; 22, 23 "pop, store in word s"; 30, 31 "pop object, push its word s"; 32, 33 "pop object, then
+-- pop value, store in word s"; 36 "pop that many words, pointers; push a new view of them", 4 if "the heap has too few free words"; 54, 56, 57;
+-- 58 "push heap word 1", 59 "pop into it"; 60, 62, 64 "set the top aside (not 64), drop main and pointer words, put it back";
+-- 140 to 143, 145 "pop B, pop A, push A op B"; 130, 195 to 204 push 1 or 0; 144, 146 on one word; 131 compares two pointers
+unfoldable pub basicPlan : Machine → ℕ → Basic → Plan
+basicPlan m q (local onMain s) = write Push q (mtop m + 1) (ptop m) (mtop m) (wordAt (m .main) (running m .mainBase + s))
+basicPlan m q (local onPtr s) = write Pointer q (mtop m) (ptop m + 1) (ptop m) (wordAt (m .ptr) (running m .ptrBase + s))
+basicPlan m q (assign onMain s) = write Main q (mtop m - 1) (ptop m) (running m .mainBase + s) (mainWord m 1)
+basicPlan m q (assign onPtr s) = write Pointer q (mtop m) (ptop m - 1) (running m .ptrBase + s) (ptrWord m 1)
+basicPlan m q (field onMain s) =
+    onObject (ptrWord m 1) (inPlain (m .heap) (ptrWord m 1) s)
+    (write Read q (mtop m + 1) (ptop m - 1) (mtop m) (wordAt (m .heap) (ptrWord m 1 + s)))
+basicPlan m q (field onPtr s) =
+    onObject (ptrWord m 1) (inPtrs (m .heap) (ptrWord m 1) s)
+    (write Pointer q (mtop m) (ptop m) (ptop m - 1) (wordAt (m .heap) (ptrWord m 1 + s)))
+basicPlan m q (setField onMain s) =
+    onObject (ptrWord m 1) (inPlain (m .heap) (ptrWord m 1) s)
+    (write Heap q (mtop m - 1) (ptop m - 1) (ptrWord m 1 + s) (mainWord m 1))
+basicPlan m q (setField onPtr s) =
+    onObject (ptrWord m 1) (inPtrs (m .heap) (ptrWord m 1) s)
+    (write Heap q (mtop m) (ptop m - 2) (ptrWord m 1 + s) (ptrWord m 2))
+basicPlan m q (make (form k n)) =
+    if leb (markOf (m .heap) + (2 + k + n)) (length (m .heap))
+    then write View q (mtop m - k) (ptop m - n + 1) (ptop m - n) (markOf (m .heap))
+    else HeapFull
+basicPlan m q (literal w) = write Push q (mtop m + 1) (ptop m) (mtop m) w
+basicPlan m q nil = write Pointer q (mtop m) (ptop m + 1) (ptop m) 0
+basicPlan m q root = write Pointer q (mtop m) (ptop m + 1) (ptop m) (rootOf (m .heap))
+basicPlan m q setRoot = write Heap q (mtop m) (ptop m - 1) 1 (ptrWord m 1)
+basicPlan m q (retract keepMain k n) = write DropMain q (mtop m - k) (ptop m - n) (mtop m - k - 1) (mainWord m 1)
+basicPlan m q (retract keepPtr k n) = write DropPointer q (mtop m - k) (ptop m - n) (ptop m - n - 1) (ptrWord m 1)
+basicPlan m q (retract keepNone k n) = write Drop q (mtop m - k) (ptop m - n) 0 0
+basicPlan m q (binary o) =
+    onValue (operate o (mainWord m 2) (mainWord m 1)) (λ w. write Main q (mtop m - 1) (ptop m) (mtop m - 2) w)
+basicPlan m q samePtr = write Read q (mtop m + 1) (ptop m - 2) (mtop m) (bit (eqb (ptrWord m 2) (ptrWord m 1)))
+basicPlan m q (unary o) = onValue (operate1 o (mainWord m 1)) (λ w. write Main q (mtop m) (ptop m) (mtop m - 1) w)
+
+-- q is the next place. 1 to 6: jumps; 72: the word and the index written are the new frame's bases; 73: back to the return place;
+-- 160, 161: the handler's record; 162 "pop a word, raise it"
+unfoldable pub planOf : List ℕ → Machine → ℕ → Ins → Plan
+planOf f m q (basic b) = basicPlan m q b
+planOf f m q (jump t) = write Nothing t (mtop m) (ptop m) 0 0
+planOf f m q (branch false t) = write Pop (if truth (mainWord m 1) then q else t) (mtop m - 1) (ptop m) 0 0
+planOf f m q (branch true t) = write Pop (if truth (mainWord m 1) then t else q) (mtop m - 1) (ptop m) 0 0
+planOf f m q (branchKeep false t) =
+    if truth (mainWord m 1) then write Pop q (mtop m - 1) (ptop m) 0 0 else write Nothing t (mtop m) (ptop m) 0 0
+planOf f m q (branchKeep true t) =
+    if truth (mainWord m 1) then write Nothing t (mtop m) (ptop m) 0 0 else write Pop q (mtop m - 1) (ptop m) 0 0
+planOf f m q (call n) =
+    if all (callTests f m n)
+    then write Frame (entry f n) (mtop m) (ptop m) (mtop m - paramsMain f n) (ptop m - paramsPtr f n)
+    else NoRoom
+planOf f m q return = write Return (running m .returns) (mtop m) (ptop m) 0 0
+planOf f m q (enter s) =
+    if leb (m .regs .ctop + recordWords) (length (m .ctl)) then write Handler q (mtop m) (ptop m) 0 0 else NoRoom
+planOf f m q exit = write Close q (mtop m) (ptop m) 0 0
+planOf f m q raise = Thrown
+
+-- the plan of the instruction at the machine's place
+unfoldable pub planAt : List ℕ → Machine → Plan
+planAt f m = planOf f m (after f (m .regs .place)) (insAt f (m .regs .place))
+
+-- what a return writes, as `planOf` has it
+abbrev pub returnPut : Machine → Put
+returnPut m =
+    record { into = Return; place = running m .returns; mtop = mtop m; ptop = ptop m; at = 0; word = 0 }

@@ -1,0 +1,89 @@
+-- What a plan's writes ask of the lists that they go to: the word written lies in its list, and no more words go than its case lets go.
+use Prim.Native.Nat.{ℕ, _+_, _-_, _<_, _≤_}
+use mathlib.Core.Path.{_≡_}
+use mathlib.Core.List.{List}
+use lib.ListN.{length}
+use Rattle.model.specs.File.{after}
+use Rattle.model.specs.Heap.{markOf}
+use Rattle.model.specs.Control.{Machine, recordWords}
+use Rattle.model.specs.Moves.{mtop, ptop}
+use Rattle.model.specs.declared.Regs.{Regs}
+use Rattle.plan_meaning.specs.declared.Into.{Into}
+use Rattle.plan_meaning.specs.declared.Into.the-variants.{Nothing, Pop, Push, Main, Pointer, Heap, Read, Drop, DropMain, DropPointer, View, Frame, Return, Handler, Close}
+use Rattle.plan_meaning.specs.declared.Put.{Put}
+use Rattle.plan_meaning.specs.declared.Plan.{Plan}
+use Rattle.plan_meaning.specs.declared.Plan.the-variants.{Write, OutOfRange, NilObject, NoSuchWord, HeapFull, NoRoom, Thrown}
+
+-- at most a words of the main stack go, and b of the pointer stack
+pub record Pops (a b : ℕ) (r : Regs) (put : Put) : Type 0 where
+  pub main : r .mtop ≤ put .mtop + a
+  pub ptr : r .ptop ≤ put .ptop + b
+
+-- words of both stacks go, or none
+pub record Drops (r : Regs) (put : Put) : Type 0 where
+  pub main : put .mtop ≤ r .mtop
+  pub ptr : put .ptop ≤ r .ptop
+
+-- a write into a list of the stacks or the heap, whose lengths are lm, lp and lh: the word lies in it, and so many words go at most, at `Pop`
+-- exactly one; of a retract only that none is added
+abbrev pub Fits : Into → ℕ → ℕ → ℕ → Regs → Put → Type 0
+Fits Nothing lm lp lh r put = Pops 0 0 r put
+Fits Pop lm lp lh r put = (put .mtop < r .mtop) × Pops 1 0 r put
+Fits Push lm lp lh r put = (put .at < lm) × Pops 0 0 r put
+Fits Main lm lp lh r put = (put .at < lm) × Pops 1 0 r put
+Fits Pointer lm lp lh r put = (put .at < lp) × Pops 0 1 r put
+Fits Heap lm lp lh r put = (put .at < lh) × Pops 1 2 r put
+Fits Read lm lp lh r put = (put .at < lm) × Pops 0 2 r put
+Fits Drop lm lp lh r put = Drops r put
+Fits DropMain lm lp lh r put = (put .at < lm) × Drops r put
+Fits DropPointer lm lp lh r put = (put .at < lp) × Drops r put
+Fits View lm lp lh r put = ⊥
+Fits Frame lm lp lh r put = ⊥
+Fits Return lm lp lh r put = ⊥
+Fits Handler lm lp lh r put = ⊥
+Fits Close lm lp lh r put = ⊥
+
+abbrev pub FitsIn : Into → Put → Machine → Type 0
+FitsIn i put m = Fits i (length (m .main)) (length (m .ptr)) (length (m .heap)) (m .regs) put
+
+-- 36: the words popped are there, and the heap has room for them
+pub record Forms (put : Put) (m : Machine) : Type 0 where
+  pub words : put .mtop ≤ mtop m
+  pub pointers : put .at ≤ ptop m
+  pub below : put .at < length (m .ptr)
+  pub room : markOf (m .heap) + (2 + ((ptop m - put .at) + (mtop m - put .mtop))) ≤ length (m .heap)
+
+-- 72: its operand is there, the base is that of words on the stack, and the record fits
+pub record Calls (f : List ℕ) (put : Put) (m : Machine) : Type 0 where
+  pub operand : m .regs .place + 2 < length f
+  pub behind : after f (m .regs .place) ≡ m .regs .place + 3
+  pub base : put .at ≤ mtop m
+  pub room : m .regs .ctop + recordWords ≤ length (m .ctl)
+
+-- a plan's writes, by where they go
+abbrev pub Suits : List ℕ → Into → Put → Machine → Type 0
+Suits f Nothing put m = FitsIn Nothing put m
+Suits f Pop put m = FitsIn Pop put m
+Suits f Push put m = FitsIn Push put m
+Suits f Main put m = FitsIn Main put m
+Suits f Pointer put m = FitsIn Pointer put m
+Suits f Heap put m = FitsIn Heap put m
+Suits f Read put m = FitsIn Read put m
+Suits f Drop put m = FitsIn Drop put m
+Suits f DropMain put m = FitsIn DropMain put m
+Suits f DropPointer put m = FitsIn DropPointer put m
+Suits f View put m = Forms put m
+Suits f Frame put m = Calls f put m
+Suits f Return put m = Unit {0}
+Suits f Handler put m = m .regs .ctop + recordWords ≤ length (m .ctl)
+Suits f Close put m = 1 ≤ m .regs .handler
+
+-- any plan; 162 has a word to pop
+abbrev pub Suited : List ℕ → Machine → Plan → Type 0
+Suited f m (Write put) = Suits f (put .into) put m
+Suited f m OutOfRange = Unit {0}
+Suited f m NilObject = Unit {0}
+Suited f m NoSuchWord = Unit {0}
+Suited f m HeapFull = Unit {0}
+Suited f m NoRoom = Unit {0}
+Suited f m Thrown = 1 ≤ mtop m

@@ -1,0 +1,216 @@
+-- `run_steps::go_on` meets its contract: each turn is one step of the model, done without a loop; soundness, kept by each step, gives what the plan and its writes ask.
+use mathlib.Core.Path.{_≡_, refl, sym, _∙_}
+use native.Mathlib.Omega.{arith}
+use borrow.Author.Needs.{needs}
+use Rattle.apply.proofs.Tags.{no-write}
+use Rattle.theory_step.specs.Planning.{alive-ready}
+use Rattle.theory_step.specs.Settling.{alive-settles}
+use Rattle.run_steps.specs.Going.{Going, going-start, going-trans, going-applied, paused-late, stopped-raise}
+use Rattle.run_steps.proofs.go_on.Statement.{statement}
+use Rattle.run_steps.proofs.go_on.Tie as tie
+
+abbrev Inv-loop : tie.InvT-loop
+Inv-loop file table main₀ ptr₀ ctl₀ heap₀ budget r₀ left₀ main ptr ctl heap r left =
+    Going file table budget (record { regs = r₀; main = main₀; ptr = ptr₀; ctl = ctl₀; heap = heap₀ }) left (record { regs = r; main = main; ptr = ptr; ctl = ctl; heap = heap })
+    × (r .state ≡ 1 → ⊥)
+
+abbrev μ-loop : tie.MeasureT-loop
+μ-loop file table main₀ ptr₀ ctl₀ heap₀ budget r₀ left₀ main ptr ctl heap r left = left
+
+loop-holds : tie.Need-loop-holds Inv-loop μ-loop
+loop-holds c =
+    let back5 = c .before .before .before .before .before in
+    let S = back5 in (
+      going-start (S .args .file .now) (S .args .table .now) (S .args .budget) (record {
+        regs = S .args .regs;
+        main = S .args .main .now;
+        ptr = S .args .ptr .now;
+        ctl = S
+            .args .ctl .now;
+        heap = S .args .heap .now;
+      }) (S .pre .0),
+      S .pre .1,
+    )
+
+sub-after : tie.Need-sub-after Inv-loop μ-loop
+sub-after c = omega arith
+
+plan-at-requires : tie.Need-plan-at-requires Inv-loop μ-loop
+plan-at-requires c κs =
+    let at-loop = c .before .before .before .before .before in
+    let L = at-loop .loop in alive-ready (L .inv .0 .runs .alive) (L .inv .1)
+
+enum-known-plan : tie.Need-enum-known-plan Inv-loop μ-loop
+enum-known-plan c = search needs
+
+stop-requires : tie.Need-stop-requires Inv-loop μ-loop
+stop-requires c κs = search needs
+
+same-length : tie.Need-same-length Inv-loop μ-loop
+same-length c =
+    let at-loop = c .before .before .before .before .before .before .before .before in
+    at-loop .loop .inv .0 .alike .main
+
+same-length-2 : tie.Need-same-length-2 Inv-loop μ-loop
+same-length-2 c =
+    let at-loop = c .before .before .before .before .before .before .before .before in
+    at-loop .loop .inv .0 .alike .ptr
+
+same-length-3 : tie.Need-same-length-3 Inv-loop μ-loop
+same-length-3 c =
+    let at-loop = c .before .before .before .before .before .before .before .before in
+    at-loop .loop .inv .0 .alike .ctl
+
+same-length-4 : tie.Need-same-length-4 Inv-loop μ-loop
+same-length-4 c =
+    let at-loop = c .before .before .before .before .before .before .before .before in
+    at-loop .loop .inv .0 .alike .heap
+
+returns : tie.Need-returns Inv-loop μ-loop
+returns c =
+    let at-loop = c .before .before .before .before .before .before .before .before in
+    let S = at-loop .before .before .before .before .before .before in
+    let L = at-loop .loop in
+    rw (c .stop .ensures)
+    (record {
+      going = L .inv .0;
+      on? = L .inv .1;
+      stopped = λ h. stopped-raise (S .args .file .now) (record { regs = L .r; main = L .main; ptr = L .ptr; ctl = L .ctl; heap = L .heap }) _ (c .before .before .plan-at .ensures)
+          (no-write _ (c .before .match .keys2));
+    })
+
+apply-requires : tie.Need-apply-requires Inv-loop μ-loop
+apply-requires c κs =
+    let at-plan = c .before .before .before .before .before in
+    let at-plan-at = at-plan .before .before in
+    let at-loop = at-plan-at .before .before .before .before .before .before in
+    let L = at-loop .loop in alive-settles (L .inv .0 .runs .alive) (L .inv .1) .writes _ (sym (at-plan-at .plan-at .ensures) ∙ at-plan .plan .given .1)
+
+loop-less : tie.Need-loop-less Inv-loop μ-loop
+loop-less c =
+    let far18 = c .before .before .before .before .before .before .before .before .before .before .before .before .before .before .before .before .before .before in
+    let at-loop-test = far18 .before .before .before .before .before in
+    let h = at-loop-test .loop-test .taken in omega (arith, h)
+
+loop-again : tie.Need-loop-again Inv-loop μ-loop
+loop-again c =
+    let at-apply = c .before .before .before .before .before .before .before .before .before .before in
+    let at-plan = at-apply .before .before .before .before .before .before in
+    let at-plan-at = at-plan .before .before in
+    let at-loop-test = at-plan-at .before .before .before .before .before in
+    let at-loop = at-loop-test .before in
+    let S = at-loop .before .before .before .before .before .before in
+    let L = at-loop .loop in
+    let A = at-apply .apply in (
+      going-trans (S .args .file .now) (S .args .table .now) (S .args .budget) (record {
+        regs = S .args .regs;
+        main = S .args .main .now;
+        ptr = S .args .ptr .now;
+        ctl = S .args .ctl .now;
+        heap = S .args .heap .now;
+      }) (L .left) (record { regs = L .r; main = L .main; ptr = L .ptr; ctl = L .ctl; heap = L .heap }) _ _ (L .inv .0)
+          (going-applied (S .args .file .now) (S .args .table .now) (L .left) (record { regs = L .r; main = L .main; ptr = L .ptr; ctl = L .ctl; heap = L .heap })
+          (L .inv .0 .runs) (at-loop-test .loop-test .taken) (L .inv .1) _ (A .result) _
+          (sym (at-plan .plan .given .1) ∙ at-plan-at .plan-at .ensures) (c .before .if1 .taken) (A .ensures .0)
+          (record { main = A .kept .1 .0; ptr = A .kept .1 .1 .0; ctl = A .kept .1 .1 .1 .0; heap = A .kept .1 .1 .1 .1 .0 })),
+      λ e. L .inv .1 (sym (A .ensures .1 .0) ∙ e),
+    )
+
+stop-requires-2 : tie.Need-stop-requires-2 Inv-loop μ-loop
+stop-requires-2 c κs = search needs
+
+same-length-5 : tie.Need-same-length-5 Inv-loop μ-loop
+same-length-5 c =
+    let at-apply = c .before .before .before .before .before .before .before .before .before .before in
+    let at-loop = at-apply .before .before .before .before .before .before .before .before .before .before .before .before .before .before in
+    at-apply .apply .kept .1 .0 ∙ at-loop .loop .inv .0 .alike .main
+
+same-length-6 : tie.Need-same-length-6 Inv-loop μ-loop
+same-length-6 c =
+    let at-apply = c .before .before .before .before .before .before .before .before .before .before in
+    let at-loop = at-apply .before .before .before .before .before .before .before .before .before .before .before .before .before .before in
+    at-apply .apply .kept .1 .1 .0 ∙ at-loop .loop .inv .0 .alike .ptr
+
+same-length-7 : tie.Need-same-length-7 Inv-loop μ-loop
+same-length-7 c =
+    let at-apply = c .before .before .before .before .before .before .before .before .before .before in
+    let at-loop = at-apply .before .before .before .before .before .before .before .before .before .before .before .before .before .before in
+    at-apply .apply .kept .1 .1 .1 .0 ∙ at-loop .loop .inv .0 .alike .ctl
+
+same-length-8 : tie.Need-same-length-8 Inv-loop μ-loop
+same-length-8 c =
+    let at-apply = c .before .before .before .before .before .before .before .before .before .before in
+    let at-loop = at-apply .before .before .before .before .before .before .before .before .before .before .before .before .before .before in
+    at-apply .apply .kept .1 .1 .1 .1 .0 ∙ at-loop .loop .inv .0 .alike .heap
+
+returns-2 : tie.Need-returns-2 Inv-loop μ-loop
+returns-2 c =
+    let at-apply = c .before .before .before .before .before .before .before .before .before .before in
+    let at-plan = at-apply .before .before .before .before .before .before in
+    let at-plan-at = at-plan .before .before in
+    let at-loop = at-plan-at .before .before .before .before .before .before in
+    let S = at-loop .before .before .before .before .before .before in
+    let L = at-loop .loop in
+    let A = at-apply .apply in
+    rw (c .stop2 .ensures)
+    (paused-late (S .args .file .now) (S .args .table .now) (S .args .budget) (record {
+      regs = S .args .regs;
+      main = S .args .main .now;
+      ptr = S .args .ptr .now;
+      ctl = S .args .ctl .now;
+      heap = S .args .heap .now;
+    }) (L .left) (record { regs = L .r; main = L .main; ptr = L .ptr; ctl = L .ctl; heap = L .heap }) _ _ (A .result) (L .inv .0)
+    (L .inv .1)
+    (sym (at-plan .plan .given .1) ∙ at-plan-at .plan-at .ensures) refl (c .before .if1 .left) (A .ensures .0) (A .ensures .1 .1))
+
+stop-requires-3 : tie.Need-stop-requires-3 Inv-loop μ-loop
+stop-requires-3 c κs = search needs
+
+same-length-9 : tie.Need-same-length-9 Inv-loop μ-loop
+same-length-9 c = c .before .before .loop .inv .0 .alike .main
+
+same-length-10 : tie.Need-same-length-10 Inv-loop μ-loop
+same-length-10 c = c .before .before .loop .inv .0 .alike .ptr
+
+same-length-11 : tie.Need-same-length-11 Inv-loop μ-loop
+same-length-11 c = c .before .before .loop .inv .0 .alike .ctl
+
+same-length-12 : tie.Need-same-length-12 Inv-loop μ-loop
+same-length-12 c = c .before .before .loop .inv .0 .alike .heap
+
+returns-3 : tie.Need-returns-3 Inv-loop μ-loop
+returns-3 c =
+    let L = c .before .before .loop in
+    rw (c .stop3 .ensures) (record { going = L .inv .0; on? = L .inv .1; stopped = λ h. absurd (omega (arith, h, c .before .loop-test .left)) })
+
+pub go-on-spec : {M : Type 1} → statement M
+go-on-spec =
+    tie.close
+    (tie.spec
+    Inv-loop
+    μ-loop
+    loop-holds
+    sub-after
+    plan-at-requires
+    enum-known-plan
+    stop-requires
+    same-length
+    same-length-2
+    same-length-3
+    same-length-4
+    returns
+    apply-requires
+    loop-less
+    loop-again
+    stop-requires-2
+    same-length-5
+    same-length-6
+    same-length-7
+    same-length-8
+    returns-2
+    stop-requires-3
+    same-length-9
+    same-length-10
+    same-length-11
+    same-length-12
+    returns-3)

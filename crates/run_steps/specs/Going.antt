@@ -1,0 +1,127 @@
+-- Steps of a run: what is left of the budget decides what the rest of the run comes to, and soundness is kept. Steps add up.
+use Prim.Native.Nat.{ℕ, suc, _+_, _-_, _<_, _≤_}
+use mathlib.Core.Bool.{Bool, true, false}
+use mathlib.Core.List.{List}
+use mathlib.Core.Path.{_≡_, refl, ap, sym, _∙_, subst}
+use native.Mathlib.Omega.{arith}
+use lib.ListN.{length}
+use borrow.Author.Tests.{ne-eqb}
+use Rattle.model.specs.Control.{Machine, setRegs}
+use Rattle.plan_meaning.specs.Planned.{planAt}
+use Rattle.model.specs.Step.{next, step, runOn}
+use Rattle.plan_meaning.specs.Settled.{settle}
+use Rattle.theory_step.specs.Alive.{Alive, alive-step}
+use Rattle.theory_step.specs.Settling.{alive-plan}
+use Rattle.apply.specs.Applies.{Late, Later, appliedIf}
+use Rattle.apply.specs.declared.Tried.{Tried}
+use Rattle.model.specs.declared.Regs.{Regs}
+use Rattle.run_steps.specs.declared.Pause.{Pause}
+use Rattle.plan_meaning.specs.declared.Put.{Put}
+use Rattle.plan_meaning.specs.declared.Plan.{Plan}
+use Rattle.plan_meaning.specs.declared.Plan.the-variants.{Write}
+
+-- a sound state of a passed file, with some map
+pub record Runs (f table : List ℕ) (m : Machine) : Type 0 where
+  pub map : List ℕ
+  pub alive : Alive f map table m
+
+-- the lists keep their lengths
+pub record Alike (m m₀ : Machine) : Type 0 where
+  pub main : length (m .main) ≡ length (m₀ .main)
+  pub ptr : length (m .ptr) ≡ length (m₀ .ptr)
+  pub ctl : length (m .ctl) ≡ length (m₀ .ctl)
+  pub heap : length (m .heap) ≡ length (m₀ .heap)
+
+abbrev pub pausedAt : Plan → Regs → ℕ → Pause
+pausedAt p r n = record { plan = p; regs = r; left = n }
+
+-- with n steps left the machine is at m, and with n′ left at m′: the rest of the run is the same, however many steps were done before
+pub record Going (f table : List ℕ) (n : ℕ) (m : Machine) (n′ : ℕ) (m′ : Machine) : Type 0 where
+  pub less : n′ ≤ n
+  pub same : (k : ℕ) → runOn f n k m ≡ runOn f n′ (k + (n - n′)) m′
+  pub runs : Runs f table m′
+  pub alike : Alike m′ m
+
+-- a plan that is settled apart: it is that of the next instruction, and it raises or is late
+pub record Stopped (f : List ℕ) (m : Machine) (plan : Plan) : Type 0 where
+  pub is : plan ≡ planAt f m
+  pub late : Later (m .regs) plan
+
+-- where the steps pause: at such a plan, or with no step left
+pub record Paused (f table : List ℕ) (n : ℕ) (m : Machine) (n′ : ℕ) (m′ : Machine) (plan : Plan) : Type 0 where
+  pub going : Going f table n m n′ m′
+  pub on? : m′ .regs .state ≡ 1 → ⊥
+  pub stopped : 0 < n′ → Stopped f m′ plan
+
+-- no plan writes, or the write was not done: the plan is settled apart
+pub stopped-raise : (f : List ℕ) (m : Machine) (plan : Plan) → plan ≡ planAt f m → ((put : Put) → plan ≡ Write put → ⊥) → Stopped f m plan
+stopped-raise f m plan e never = record { is = e; late = λ put u. absurd (never put u) }
+
+pub stopped-late : (f : List ℕ) (m : Machine) (put : Put) → Write put ≡ planAt f m → Late (put .into) (m .regs) → Stopped f m (Write put)
+stopped-late f m put e L = record { is = e; late = λ put′ u. subst (λ (p : Put). Late (p .into) (m .regs)) (write-one put put′ u) L }
+  where
+    write-one : (p q : Put) → Write p ≡ Write q → p ≡ q
+    write-one p q u = cc
+
+module _ (f table : List ℕ) where
+  -- a write that was not done left all as it was
+  pub paused-late : (n : ℕ) (m₀ : Machine) (n′ : ℕ) (m m′ : Machine) (put : Put) (t : Tried) → Going f table n m₀ n′ m →
+      (m .regs .state ≡ 1 → ⊥) → Write put ≡ planAt f m → m′ .regs ≡ m .regs → t .done ≡ false →
+      setRegs (t .regs) m′ ≡ appliedIf (t .done) f put m → (t .done ≡ false → Late (put .into) (m .regs)) →
+      Paused f table n m₀ n′ m′ (Write put)
+  paused-late n m₀ n′ m m′ put t G u e r d a l =
+      let k : m′ ≡ m = ap (setRegs (m′ .regs)) (a ∙ ap (λ (b : Bool). appliedIf b f put m) d) ∙ ap (λ (x : Regs). setRegs x m) r in
+      rw k (record { going = G; on? = u; stopped = λ h. stopped-late f m put e (l d) })
+
+  pub going-start : (n : ℕ) (m : Machine) → Runs f table m → Going f table n m n m
+  going-start n m R =
+      record {
+        less = omega arith;
+        same = λ k. let e : k ≡ k + (n - n) = omega arith in ap (λ (i : ℕ). runOn f n i m) e;
+        runs = R;
+        alike = record { main = refl; ptr = refl; ctl = refl; heap = refl };
+      }
+
+  pub going-trans : (n : ℕ) (m : Machine) (n′ : ℕ) (m′ : Machine) (n″ : ℕ) (m″ : Machine) → Going f table n m n′ m′ →
+      Going f table n′ m′ n″ m″ → Going f table n m n″ m″
+  going-trans n m n′ m′ n″ m″ G H =
+      let a = G .less in
+      let b = H .less in
+      record {
+        less = omega arith;
+        same =
+            λ k. let e : k + (n - n′) + (n′ - n″) ≡ k + (n - n″) = omega arith in
+            G .same k ∙ H .same (k + (n - n′)) ∙ ap (λ (i : ℕ). runOn f n″ i m″) e;
+        runs = H .runs;
+        alike =
+            record {
+              main = H .alike .main ∙ G .alike .main;
+              ptr = H .alike .ptr ∙ G .alike .ptr;
+              ctl = H .alike .ctl ∙ G .alike .ctl;
+              heap = H .alike .heap ∙ G .alike .heap;
+            };
+      }
+
+  -- one step further: one step less is left
+  module _ (n : ℕ) (m : Machine) (R : Runs f table m) (some : 0 < n) (on? : m .regs .state ≡ 1 → ⊥) where
+    left : n ≡ suc (n - 1)
+    left = omega arith
+
+    pub stepped : (m′ : Machine) → step f m ≡ next m′ → Alike m′ m → Going f table n m (n - 1) m′
+    unfolding runOn
+    stepped m′ w a =
+        record {
+          less = omega arith;
+          same =
+              λ k. let e : suc k ≡ k + (n - (n - 1)) = omega arith in
+              ap (λ (i : ℕ). runOn f i k m) left ∙ rw (ne-eqb (m .regs .state) 1 on?, w) (ap (λ (i : ℕ). runOn f (n - 1) i m′) e);
+          runs = record { map = R .map; alive = alive-step (R .alive) on? w };
+          alike = a;
+        }
+
+    -- a plan's writes are done
+    pub going-applied : (put : Put) (t : Tried) (m′ : Machine) → Write put ≡ planAt f m → t .done ≡ true →
+        m′ ≡ appliedIf (t .done) f put m → Alike m′ m → Going f table n m (n - 1) m′
+    unfolding settle
+    going-applied put t m′ e d a l =
+        stepped m′ (sym (alive-plan (R .alive) on?) ∙ rw (← e) (ap next (sym (a ∙ ap (λ (u : Bool). appliedIf u f put m) d)))) l

@@ -1,0 +1,224 @@
+-- Demand 3 on calls, over what is proved of heaps elsewhere: after a start that answered ready, every list of check, start and run calls
+-- keeps `Held`, from which each call's claim follows. By one induction on the calls.
+use Prim.Native.Nat.{ℕ}
+use mathlib.Core.Path.{_≡_, refl, sym, _∙_, subst}
+use mathlib.Core.Bool.{Bool, true, false, true≢false}
+use mathlib.Core.List.{List, [], _∷_}
+use mathlib.Core.Logic.{inl, inr}
+use native.Mathlib.Omega.{arith}
+use lib.ListN.{length}
+use borrow.Author.Tests.{eq-eqb}
+use Rattle.model.specs.Choice.{if_then_else_, all, All, all-true, true-all}
+use Rattle.model.specs.Words.{wordAt, cut}
+use Rattle.model.specs.Heap.{Heap, Pointer, Audit, fault, clean, heapOf, objectsOf}
+use Rattle.model.specs.Control.{Machine, setRegs, registerBytes}
+use Rattle.model.specs.Step.{next, uncaught, step}
+use Rattle.model.specs.Sound.{sound?}
+use Rattle.model.specs.Calls.{toldOf, Verdict, pass, refuse, verdictOf, checkOf, Lent, machineOf, leaving, withMap, lengthTests, registerTests, soundTests, After, answers, demand, audited, afterMap, afterCheck, tested, started, startOf, ranFrom, runOf}
+use Rattle.model.specs.Claim.{Call, check, start, run, callOf, NotRefused, Depths, Pointers, Before, Claim, Bytes, Calls}
+use Rattle.model.specs.declared.Answer.the-variants as answer
+use Rattle.theory_checker.specs.Exact.{passed-again}
+use Rattle.theory_checker.specs.Leaves.{uncaught-stays}
+use Rattle.theory_state.specs.Tests.{true-pointer}
+use Rattle.theory_state.specs.Lists.{length-cut, length-put}
+use Rattle.theory_state.specs.Laws.{CodeLaws, code-laws}
+use Rattle.theory_state.specs.Sound.{Sound, Audited, sound-with, true-sound?, running-depths}
+use Rattle.theory_state.specs.Keep.{start-sound}
+use Rattle.theory_state.specs.Rules.{HeapLaws, Kept, kept-here, kept-on, step-keeps}
+use Rattle.theory_state.specs.Runs.{after-keeps, run-keeps}
+use Rattle.theory_state.specs.Registers.{registers-length, registers-back, sound-small}
+
+-- a state between the steps of a run on the lists l
+abbrev pub Between : Lent → Machine → Type 0
+Between l m = Kept (l .file) (l .map) (machineOf l) m
+
+passed-told : NotRefused answer.Passed
+unfolding toldOf
+passed-told e = omega arith
+
+ready-told : NotRefused answer.Ready
+unfolding toldOf
+ready-told e = omega arith
+
+-- what holds of the lists from a ready start on
+pub record Held (l : Lent) : Type 0 where
+  pub bytes : Bytes (l .file)
+  pub passes : verdictOf (l .file) (l .map) ≡ pass (l .map)
+  pub sizes : All (lengthTests l)
+  pub registers : length (l .bytes) ≡ registerBytes
+  pub state : Between l (machineOf l)
+
+pointers-of : (l : Lent) (m : Machine) → Between l m → Pointers m
+pointers-of l m B = record { objects = B .objects; heap = B .heap; stack = go (B .sound) }
+  where
+    go : Sound (l .file) (l .map) (Pointer (B .objects)) m → (i : ℕ) → Pointer (B .objects) (wordAt (m .ptr) i)
+    go (inl S) = S .3 .words .pointers
+    go (inr D) = D .words .pointers
+
+depths-of : (l : Lent) (m : Machine) → Between l m → (m .regs .state ≡ 1 → ⊥) → Depths (l .map) m
+depths-of l m B u = go (B .sound)
+  where
+    go : Sound (l .file) (l .map) (Pointer (B .objects)) m → Depths (l .map) m
+    go (inl S) = running-depths (l .file) (l .map) (Pointer (B .objects)) m (S .0) (S .1) (S .2) (S .3)
+    go (inr D) = absurd (u (D .state-is))
+
+module _ (H : HeapLaws) where
+  module _ (l : Lent) (B : Bytes (l .file)) (P : verdictOf (l .file) (l .map) ≡ pass (l .map)) (T : All (lengthTests l)) where
+    L : CodeLaws (l .file) (l .map)
+    L = code-laws (l .file) (l .map) (l .map) B P
+
+    -- a step, hence a run, stays between
+    pub between-step : (m m′ : Machine) → Between l m → (m .regs .state ≡ 1 → ⊥) → step (l .file) m ≡ next m′ → Between l m′
+    unfolding lengthTests
+    between-step m m′ S u e = go (S .sound)
+      where
+        go : Sound (l .file) (l .map) (Pointer (S .objects)) m → Between l m′
+        go (inl R) =
+            let h = S .same-heap in
+            kept-on S
+            (step-keeps (l .file) (l .map) m (S .objects) (R .1) (R .2) (R .0) L H (R .3) (S .heap) (omega arith) m′ e)
+        go (inr D) = absurd (u (D .state-is))
+
+    -- an uncaught instruction leaves the state as it was
+    pub between-stays : (m m′ : Machine) (code : ℕ) → Between l m → step (l .file) m ≡ uncaught code m′ → Between l m′
+    between-stays m m′ code S e = subst (Between l) (sym (uncaught-stays (l .file) m m′ code e)) S
+
+    -- what a state leaves is held: its registers come back from their bytes
+    left-held : (m : Machine) → Between l m → Held (leaving l m)
+    unfolding lengthTests
+    left-held m S =
+        let e1 = S .same-main in
+        let e2 = S .same-ptr in
+        let e3 = S .same-ctl in
+        let small =
+        sound-small (l .file) (l .map) (Pointer (S .objects)) m L (omega arith) (omega arith) (omega arith) (omega arith) (omega arith)
+        (S .sound) in
+        let r = registers-back (m .regs) small in
+        let w : m ≡ machineOf (leaving l m) = λ i. setRegs (sym r i) m in
+        record {
+          bytes = B;
+          passes = P;
+          sizes = rw (S .same-main, S .same-ptr, S .same-ctl, S .same-heap) T;
+          registers = registers-length (m .regs);
+          state = subst (λ (x : Machine). Kept (l .file) (l .map) x x) w (kept-here m (S .objects) (S .heap) (S .sound));
+        }
+
+    start-held : (os : List ℕ) → Heap (l .heap) os → Held (leaving l (started l))
+    unfolding lengthTests started
+    start-held os K =
+        left-held (started l)
+        (record {
+          objects = os;
+          heap = K;
+          sound =
+              inl (
+                1,
+                0,
+                0,
+                start-sound (Pointer os) l L (inl refl) (T .1 .1 .1 .1 .1 .1 .1 .1 .0) (T .1 .1 .1 .1 .1 .1 .1 .1 .1 .0) (T .1 .1 .1 .1 .0),
+              );
+          same-main = length-cut 0 (l .main);
+          same-ptr = length-cut 0 (l .ptr);
+          same-ctl = length-put (cut 0 (l .ctl)) 0 _ ∙ length-cut 0 (l .ctl);
+          same-heap = refl;
+        })
+
+  -- the tests of start and run pass
+  tests-pass : (l : Lent) → Held l → (rest : Lent → After) → tested l rest ≡ rest l
+  tests-pass l I rest =
+      rw (
+        I .passes,
+        true-all (lengthTests l) (I .sizes),
+        H .clean-audit (l .heap) (I .state .objects) (I .state .heap),
+        eq-eqb (length (l .bytes)) registerBytes (I .registers),
+      )
+
+  audited-sound : (l : Lent) → Held l → sound? (l .file) (l .map) (machineOf l) ≡ true
+  unfolding objectsOf
+  audited-sound l I =
+      true-sound? (l .file) (l .map) (machineOf l)
+      (sound-with (l .file) (l .map) (Pointer (I .state .objects)) (Audited (machineOf l)) (machineOf l)
+      (λ v p. rw (H .clean-audit (l .heap) (I .state .objects) (I .state .heap)) (true-pointer (I .state .objects) v p))
+      (I .state .sound))
+
+  -- a run's tests pass, and the run follows, by the map that they left
+  run-is : (n : ℕ) (l : Lent) → Held l → runOf n l ≡ ranFrom n l
+  unfolding runOf
+  run-is n l I = tests-pass l I (λ l′. demand (soundTests l′) 12 l′ (ranFrom n l′)) ∙ rw (audited-sound l I)
+
+  call-held : (c : Call) (l : Lent) → Held l → NotRefused (callOf c l .answer) × Held (callOf c l .lists)
+  unfolding callOf checkOf startOf
+  call-held check l I = rw (I .passes) (passed-told, I)
+  call-held start l I =
+      rw (tests-pass l I (λ l′. answers answer.Ready (leaving l′ (started l′))))
+      (ready-told, start-held l (I .bytes) (I .passes) (I .sizes) (I .state .objects) (I .state .heap))
+  call-held (run n) l I =
+      let B = between-step l (I .bytes) (I .passes) (I .sizes) in
+      let S = between-stays l (I .bytes) (I .passes) (I .sizes) in
+      let R = run-keeps (l .file) (Between l) B S n 0 (machineOf l) (I .state) in
+      rw (run-is n l I) (R .1, left-held l (I .bytes) (I .passes) (I .sizes) _ (R .0))
+
+  before : (c : Call) (l : Lent) → Held l → Before c l
+  before check l I = tt
+  before start l I = tt
+  before (run n) l I =
+      let B = between-step l (I .bytes) (I .passes) (I .sizes) in
+      let S = between-stays l (I .bytes) (I .passes) (I .sizes) in
+      rw (run-is n l I)
+      (record {
+        right =
+            λ k m h e u.
+            let T = after-keeps (l .file) (Between l) B S k (machineOf l) m (I .state) e in
+            record { depths = depths-of l m T u; pointers = pointers-of l m T };
+      })
+
+  pub claims : (cs : List Call) (l : Lent) → Held l → Claim cs l
+  claims [] l I = tt
+  claims (c ∷ cs) l I =
+      let r = call-held c l I in
+      let l′ = callOf c l .lists in (
+        record { not-refused = r .0; before = before c l I; pointers = pointers-of l′ (machineOf l′) (r .1 .state) },
+        claims cs l′ (r .1),
+      )
+
+  -- a start that answers ready passed each test
+  module _ (l : Lent) (B : Bytes (l .file)) where
+    abbrev ready : Lent → After
+    ready l′ = answers answer.Ready (leaving l′ (started l′))
+
+    abbrev Readied : After → Type 0
+    Readied a = a .answer ≡ answer.Ready → Held (a .lists)
+
+    by-registers : Held (leaving l (started l)) → Readied (demand (registerTests l) 12 l (ready l))
+    by-registers h = go (all (registerTests l))
+      where
+        go : (t : Bool) → Readied (if t then ready l else answers (answer.Refused 12 0) l)
+        go true e = h
+        go false e = absurd (true≢false (cc))
+
+    by-heap : verdictOf (l .file) (l .map) ≡ pass (l .map) → All (lengthTests l) → (a : Audit) → heapOf (l .heap) ≡ a →
+        Readied (audited a l (demand (registerTests l) 12 l (ready l)))
+    by-heap P T (fault q) d e = absurd (true≢false (cc))
+    by-heap P T (clean os) d e = by-registers (start-held l B P T os (H .audit-clean (l .heap) os d)) e
+
+    by-lengths : verdictOf (l .file) (l .map) ≡ pass (l .map) → Readied (afterMap l (ready l))
+    by-lengths P = go (all (lengthTests l)) refl
+      where
+        go : (t : Bool) → all (lengthTests l) ≡ t →
+            Readied (if t then audited (heapOf (l .heap)) l (demand (registerTests l) 12 l (ready l)) else answers (answer.Refused 10 0) l)
+        go true u e = by-heap P (all-true (lengthTests l) u) (heapOf (l .heap)) refl e
+        go false u e = absurd (true≢false (cc))
+
+  ready-held : (l : Lent) → Bytes (l .file) → startOf l .answer ≡ answer.Ready → Held (startOf l .lists)
+  unfolding startOf
+  ready-held l B = go (verdictOf (l .file) (l .map)) refl
+    where
+      go : (v : Verdict) → verdictOf (l .file) (l .map) ≡ v →
+          afterCheck l (ready l B) v .answer ≡ answer.Ready → Held (afterCheck l (ready l B) v .lists)
+      go (pass map) u e = by-lengths (withMap map l) B (passed-again (l .file) (l .map) map u) e
+      go (refuse n p map) u e = absurd (true≢false (cc))
+
+  pub calls : Calls
+  calls l B e =
+      let I = ready-held l B e in
+      (pointers-of (startOf l .lists) (machineOf (startOf l .lists)) (I .state), λ cs. claims cs (startOf l .lists) I)

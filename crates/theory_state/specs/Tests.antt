@@ -1,0 +1,39 @@
+-- Computed tests taken apart: what a choice, a list of tests or a test for pointers says where it comes out true. By cases on the tests.
+use Prim.Native.Nat.{ℕ}
+use mathlib.Core.Path.{_≡_, refl, sym}
+use mathlib.Core.Bool.{Bool, true, false, true≢false, _||_}
+use mathlib.Core.List.{List}
+use mathlib.Core.Logic.{inl, inr}
+use lib.Dec.{eqb}
+use borrow.Author.Tests.{eq-eqb, eqb-true}
+use Rattle.model.specs.Choice.{if_then_else_, if-both, Test, all, All, all-true, member}
+use Rattle.model.specs.Heap.{Pointer, isPointer}
+use Rattle.theory_checker.specs.Walk.{member-in, in-member}
+
+pub if-cases : (t a b : Bool) {C : Type 0} → (t ≡ true → a ≡ true → C) → (t ≡ false → b ≡ true → C) →
+    (if t then a else b) ≡ true → C
+if-cases true a b k l e = k refl e
+if-cases false a b k l e = l refl e
+
+-- tests, and then more
+pub if-all : (ts : List Test) (b : Bool) {C : Type 0} → (All ts → b ≡ true → C) → (if all ts then b else false) ≡ true → C
+if-all ts b k e = let g = if-both (all ts) b e in k (all-true ts (g .0)) (g .1)
+
+-- a pointer, as a test and as a statement
+pub pointer-true : (os : List ℕ) (v : ℕ) → isPointer os v ≡ true → Pointer os v
+unfolding isPointer
+pointer-true os v e = go (eqb v 0) refl (member v os) refl e
+  where
+    go : (t : Bool) → eqb v 0 ≡ t → (u : Bool) → member v os ≡ u → (t || u) ≡ true → Pointer os v
+    go true a u b c = inl (eqb-true v 0 a)
+    go false a true b c = inr (member-in v os b)
+    go false a false b c = absurd (true≢false (sym c))
+
+pub true-pointer : (os : List ℕ) (v : ℕ) → Pointer os v → isPointer os v ≡ true
+unfolding isPointer
+true-pointer os v (inl e) = rw (eq-eqb v 0 e)
+true-pointer os v (inr h) = rw (in-member v os h) (or-true (eqb v 0))
+  where
+    or-true : (t : Bool) → (t || true) ≡ true
+    or-true true = refl
+    or-true false = refl
