@@ -16,10 +16,9 @@ use Rattle.model.specs.declared.Regs.{Regs}
 use Rattle.plan_meaning.specs.declared.Into.{Into}
 use Rattle.plan_meaning.specs.declared.Into.the-variants as into
 use Rattle.plan_meaning.specs.declared.Put.{Put}
-use Rattle.theory_state.specs.Lists.{Topped}
+use Rattle.laws.specs.Cuts.{Topped}
 use Rattle.apply_records.specs.Asks.{Pushes, Room}
-use Rattle.apply_words.specs.Asks.{Plain, Retract, Dropping, onwards, plainly, triedOn}
-use Rattle.apply_words.specs.Asks.{tried as written}
+use Rattle.apply_words.specs.Asks.{Plain, Retract, Dropping, onwards, plainly, triedOn, tried as written}
 use Rattle.apply.specs.declared.Tried.{Tried}
 use Rattle.plan_meaning.specs.Suits.{FitsIn, Forms, Calls, Suits}
 use Rattle.apply.specs.Applies.{Applies, Late, Lately, tried, appliedIf}

@@ -16,7 +16,7 @@ use Rattle.model.specs.declared.Regs.{Regs}
 use Rattle.plan_meaning.specs.declared.Plan.{Plan}
 use Rattle.plan_meaning.specs.declared.Plan.the-variants.{Write}
 use Rattle.apply.specs.declared.Tried.{Tried}
-use Rattle.theory_state.specs.Lists.{Topped}
+use Rattle.laws.specs.Cuts.{Topped}
 use Rattle.plan_meaning.specs.Suits.{Suits}
 use Rattle.apply_words.specs.Asks.{Retract, Dropping}
 use Rattle.apply_records.specs.Asks.{Room}

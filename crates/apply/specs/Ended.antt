@@ -20,7 +20,7 @@ use Rattle.plan_meaning.specs.declared.Plan.the-variants.{Write, OutOfRange, Ni
 use Rattle.apply.specs.declared.Outcome.{Outcome}
 use Rattle.control_stack.specs.declared.Handler.{Handler}
 use Rattle.control_stack.specs.Layout.{theHandler}
-use Rattle.theory_state.specs.Lists.{Topped}
+use Rattle.laws.specs.Cuts.{Topped}
 use Rattle.apply.specs.Applies.{Stands, Applies}
 
 -- the step leads on to a state, or to an uncaught exception, with the state that stays

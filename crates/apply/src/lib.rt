@@ -9,7 +9,7 @@ ghost use Rattle.model.specs.Words.{cut};
 ghost use Rattle.model.specs.Control.{frameOf};
 ghost use Rattle.model.specs.Step.{raised};
 ghost use Rattle.plan_meaning.specs.Settled.{applied, settle};
-ghost use Rattle.theory_state.specs.Lists.{Topped};
+ghost use Rattle.laws.specs.Cuts.{Topped};
 ghost use Rattle.apply_words.specs.Asks.{onwards};
 ghost use Rattle.apply.specs.Applies.{Applies, Late, Lately, Later, tried, appliedIf};
 ghost use Rattle.apply.specs.Ended.{Targets, Raises, Settles, endedOf, resumed, raisedBy};

@@ -8,7 +8,7 @@ use lib.Seq.{sets, slice, length-slice}
 use Rattle.model.specs.Heap.{markOf, viewKind, made}
 use Rattle.model.specs.declared.Regs.{Regs}
 use Rattle.plan_meaning.specs.declared.Put.{Put}
-use Rattle.apply_records.specs.Lists.{sets-append}
+use Rattle.laws.specs.Stores.{sets-append}
 use Rattle.apply_records.specs.Asks.{Room}
 
 -- the header, the pointers and the plain words, then the mark

@@ -7,7 +7,7 @@ ghost use lib.Seq.{sets, slice};
 ghost use Rattle.model.specs.File.{after};
 ghost use Rattle.model.specs.Heap.{viewKind, made};
 ghost use Rattle.plan_meaning.specs.Settled.{called, returned, opened, closed};
-ghost use Rattle.theory_state.specs.Lists.{Topped};
+ghost use Rattle.laws.specs.Cuts.{Topped};
 ghost use Rattle.apply_records.specs.Asks.{Pushes, Room};
 use plan_meaning::Put;
 use control_stack::Frame;

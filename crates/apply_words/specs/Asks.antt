@@ -12,7 +12,7 @@ use Rattle.model.specs.declared.Regs.{Regs}
 use Rattle.plan_meaning.specs.declared.Into.{Into}
 use Rattle.plan_meaning.specs.declared.Into.the-variants as into
 use Rattle.plan_meaning.specs.declared.Put.{Put}
-use Rattle.theory_state.specs.Lists.{Topped}
+use Rattle.laws.specs.Cuts.{Topped}
 
 -- a plain write: the stacks have their tops, and the write fits the lists
 pub record Plain (lh : ℕ) (main ptr : List ℕ) (r : Regs) (put : Put) : Type 0 where

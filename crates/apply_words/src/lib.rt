@@ -7,7 +7,7 @@ ghost use lib.ListN.{length};
 ghost use Rattle.model.specs.Words.{cut};
 ghost use Rattle.model.specs.Control.{Machine};
 ghost use Rattle.model.specs.Moves.{finished};
-ghost use Rattle.theory_state.specs.Lists.{Topped};
+ghost use Rattle.laws.specs.Cuts.{Topped};
 ghost use Rattle.apply_words.specs.Asks.{Plain, Retract, Dropping, InMain, InPtr, onwards, plainly, tried, triedOn};
 use plan_meaning::Into;
 use plan_meaning::Put;

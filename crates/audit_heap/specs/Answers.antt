@@ -15,7 +15,8 @@ use Rattle.audit_heap.specs.declared.HeapAudit.{HeapAudit}
 use Rattle.audit_heap.specs.declared.HeapAudit.the-variants.{Clean, Fault}
 use Rattle.audit_heap.specs.First.{firstBad, walked, freeWords, told, orElse, orAudit, pointerAt, zeroAt, bad-append}
 use Rattle.audit_heap.specs.Audited.{heap-clean, clean-heap, heap-judged, heap-walk-fault, heap-mark-fault, walk-shows}
-use Rattle.audit_heap.specs.Table.{Small, Marks, isMarked, markedAt, marked-pointer, Range, found, Walked, Audited}
+use Rattle.audit_heap.specs.Table.{Marks, isMarked, markedAt, marked-pointer, Range, found, Walked, Audited}
+use Rattle.numbers.specs.Small.{Small}
 
 -- the walk found the objects
 pub walked-objects : (h : List ℕ) (t : List Bool) (r : HeapAudit) (n : ℕ) → Range h → Walked h r n t → r ≡ Clean → walked h ≡ clean (found h)

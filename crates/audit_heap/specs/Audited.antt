@@ -12,7 +12,7 @@ use lib.ListN.{length, List·getD-eq-default}
 use borrow.Author.Tests.{eq-eqb, eqb-true, eqb-false, leb-true, leb-false, le-leb, lt-leb, ltb-true, ltb-false, le-ltb, not-true, not-false}
 use Rattle.model.specs.Choice.{if_then_else_, Mem, member}
 use Rattle.model.specs.Words.{wordAt}
-use Rattle.model.specs.Lists.{member-in, in-member}
+use Rattle.laws.specs.Members.{member-in, in-member}
 use Rattle.model.specs.Heap.{markOf, rootOf, firstObject, ptrsAt, sizeAt, kindOf, Object, Objects, Pointer, Heap, Audit, fault, clean, andObject, badHeader, badSize, walk, isPointer, range, pointerWords, zerosFirst, judge, heapOf}
 use Rattle.audit_heap.specs.declared.HeapAudit.{HeapAudit}
 use Rattle.audit_heap.specs.declared.HeapAudit.the-variants.{Clean, Fault}

@@ -10,7 +10,7 @@ use lib.ListN.{length, length-set, length-append, List·getD-append}
 use lib.Seq.{sets, length-sets, getD-set-same, getD-set-other}
 use Rattle.model.specs.Choice.{Mem}
 use Rattle.model.specs.Words.{wordAt}
-use Rattle.model.specs.Lists.{sets-other, sets-at}
+use Rattle.laws.specs.Stores.{sets-other, sets-at}
 use Rattle.model.specs.Heap.{markOf, rootOf, firstObject, kindAt, ptrsAt, sizeAt, kinds, kindIn, kindOf, objectOf, made, Object, Objects, Pointer, Heap}
 use Rattle.audit_heap.specs.First.{mem-append, mem-more, mem-right}
 use Rattle.audit_heap.specs.Objects.{Alike, ptrs-alike, size-alike, objects-alike}

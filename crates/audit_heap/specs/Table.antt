@@ -12,11 +12,6 @@ use Rattle.audit_heap.specs.declared.HeapAudit.{HeapAudit}
 use Rattle.audit_heap.specs.declared.HeapAudit.the-variants.{Clean, Fault}
 use Rattle.audit_heap.specs.First.{walked, told}
 
--- the answer is the value, and lies below the bound
-pub record Small (bound value r : ℕ) : Type 0 where
-  pub is : r ≡ value
-  pub small : r < bound
-
 -- the mark of a word; past the table's end there is none
 unfoldable pub isMarked : List Bool → ℕ → Bool
 isMarked t v = getD t v false

@@ -20,7 +20,8 @@ use Rattle.audit_heap.specs.First.{firstBad, walked, orElse, orAudit, ze
 use Rattle.audit_heap.specs.Views.{row-ptrs, row-view}
 use Rattle.audit_heap.specs.Audited.{good-object}
 use Rattle.audit_heap.specs.Every.{oneIf}
-use Rattle.audit_heap.specs.Table.{Small, Unmarked, Marks, isMarked, markedAt, Range, judged, found, Linked, Walked}
+use Rattle.audit_heap.specs.Table.{Unmarked, Marks, isMarked, markedAt, Range, judged, found, Linked, Walked}
+use Rattle.numbers.specs.Small.{Small}
 
 -- A range of words
 

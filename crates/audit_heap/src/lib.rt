@@ -11,7 +11,8 @@ ghost use Rattle.model.specs.Heap.{markOf, kindAt, ptrsAt, sizeAt, viewKind, in
 ghost use Rattle.model.specs.Sound.{pointers, zeros};
 ghost use Rattle.audit_heap.specs.First.{firstBad, zeroAt, freeWords};
 ghost use Rattle.audit_heap.specs.Every.{oneIf, Every};
-ghost use Rattle.audit_heap.specs.Table.{Small, Unmarked, Marks, isMarked, markedAt, found, Range, judged, Linked, Walked, Audited};
+ghost use Rattle.audit_heap.specs.Table.{Unmarked, Marks, isMarked, markedAt, found, Range, judged, Linked, Walked, Audited};
+ghost use Rattle.numbers.specs.Small.{Small};
 
 // What the audit answers: the heap is sound, or the index of the word at fault.
 pub enum HeapAudit {
@@ -25,18 +26,12 @@ struct Walk {
     links: usize,
 }
 
-fn wide(w: u32) -> usize
-    ensures { λ r. ⌜ Small 4294967296 w r ⌝ }
-{
-    w as usize
-}
-
 // The number of pointer words of the object at `q`.
 pub fn ptrs_at(heap: &[u32], q: usize) -> usize
     requires { ⌜ q < length (now heap) ⌝ }
     ensures { λ r. ⌜ Small 16777216 (ptrsAt (now (heap .entry)) q) r ⌝ }
 {
-    wide(heap[q]) % 16777216
+    numbers::word(heap[q]) % 16777216
 }
 
 // The size in words of the object at `q`.
@@ -45,7 +40,7 @@ pub fn size_at(heap: &[u32], q: usize) -> usize
     ensures { λ r. ⌜ Small 4294967296 (sizeAt (now (heap .entry)) q) r ⌝ }
 {
     let at = q + 1;
-    wide(heap[at])
+    numbers::word(heap[at])
 }
 
 // Word `s` of the object at `q` is one of its pointer words.
@@ -68,7 +63,7 @@ fn is_view(heap: &[u32], q: usize) -> bool
     requires { ⌜ q < length (now heap) ⌝ }
     ensures { λ r. ⌜ r ≡ eqb (kindAt (now (heap .entry)) q) viewKind ⌝ }
 {
-    wide(heap[q]) / 16777216 == 1
+    numbers::word(heap[q]) / 16777216 == 1
 }
 
 // The fault of the object at `q`, which is to end at `mark` or before it.
@@ -99,7 +94,7 @@ fn mark_objects(heap: &[u32], marks: &mut [bool]) -> Walk
     ensures { λ r. ⌜ Walked (now (heap .entry)) (r .answer) (r .links) (now (marks .exit)) ⌝ }
 {
     marks[0] = true;
-    let mark = wide(heap[0]);
+    let mark = numbers::word(heap[0]);
     let mut links = 0;
     let mut q = 2;
     while q < mark {
@@ -125,7 +120,7 @@ fn mark_objects(heap: &[u32], marks: &mut [bool]) -> Walk
 fn pointer_count(marks: &[bool], v: u32) -> usize
     ensures { λ r. ⌜ Small 2 (oneIf (isMarked (now (marks .entry)) v)) r ⌝ }
 {
-    let i = wide(v);
+    let i = numbers::word(v);
     if marks.len() <= i {
         return 0;
     }
@@ -178,7 +173,7 @@ fn pointers_right(heap: &[u32], marks: &[bool], links: usize) -> HeapAudit
     if links == 0 {
         return HeapAudit::Clean;
     }
-    let mark = wide(heap[0]);
+    let mark = numbers::word(heap[0]);
     let mut q = 2;
     while q < mark {
         let from = q + 2;
@@ -211,7 +206,7 @@ fn free_zero(heap: &[u32]) -> HeapAudit
     requires { ⌜ Range (now heap) ⌝ }
     ensures { λ r. ⌜ r ≡ firstBad (zeroAt (now (heap .entry))) (freeWords (now (heap .entry))) ⌝ }
 {
-    let mark = wide(heap[0]);
+    let mark = numbers::word(heap[0]);
     if all_zero(heap, mark, heap.len()) {
         return HeapAudit::Clean;
     }
@@ -230,7 +225,7 @@ pub fn audit_heap(heap: &[u32], marks: &mut [bool]) -> HeapAudit
     requires { ⌜ (2 ≤ length (now heap)) × (length (now heap) ≤ 16384) × (length (now heap) ≤ length (now marks)) × Unmarked (now marks) ⌝ }
     ensures { λ r. ⌜ Audited (now (heap .entry)) r (now (marks .exit)) ⌝ }
 {
-    let mark = wide(heap[0]);
+    let mark = numbers::word(heap[0]);
     if mark < 2 {
         return HeapAudit::Fault(0);
     }

@@ -15,7 +15,8 @@ use Rattle.model.specs.Checker.{none, State}
 use Rattle.model.specs.Sound.{mainAt, isIns}
 use Rattle.model.specs.Calls.{pass, verdictOf}
 use Rattle.model.specs.Claim.{Bytes}
-use Rattle.theory_checker.specs.Walk.{member-in, in-member, getD-in, upTo-most, upTo-least, upTo-less, heads-rise, first-head, head-in, ins-in, Walk, walk, walk-above, after-head, instruction-below, procs-some, proc-below}
+use Rattle.laws.specs.Members.{member-in, in-member, getD-in}
+use Rattle.laws_file.specs.Walk.{upTo-most, upTo-least, upTo-less, heads-rise, first-head, head-in, ins-in, Walk, walk, walk-above, after-head, instruction-below, procs-some, proc-below}
 use Rattle.theory_checker.specs.Exact.{passed-as, passed-shape, passed-rest}
 use Rattle.code_file.specs.declared.Head.{Head}
 use Rattle.code_file.specs.Heads.{HeadIs, procHead, head-of}

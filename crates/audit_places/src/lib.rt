@@ -5,7 +5,7 @@ ghost use Prim.Native.Nat.{_+_, _*_, _<_};
 ghost use lib.ListN.{getD};
 ghost use Rattle.model.specs.File.{byteAt, operand};
 ghost use Rattle.model.specs.Sound.{mainAt, ptrAt, innerAt};
-ghost use Rattle.code_file.specs.Parts.{Small};
+ghost use Rattle.numbers.specs.Small.{Small};
 ghost use Rattle.check_scan.specs.Heading.{Placed};
 ghost use Rattle.audit_places.specs.Places.{Tabled, Ready, endOf, inProc, HeadFor};
 use code_file::Head;
@@ -18,7 +18,7 @@ pub fn byte_at(file: &[u8], p: usize) -> usize
     ensures { λ r. ⌜ Small 256 (byteAt (now (file .entry)) p) r ⌝ }
 {
     if p < file.len() {
-        code_file::wide(file[p])
+        numbers::byte(file[p])
     } else {
         0
     }

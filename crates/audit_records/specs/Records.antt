@@ -20,7 +20,7 @@ use Rattle.control_stack.specs.Layout.{theFrame, theHandler}
 use Rattle.audit_records.specs.declared.Look.{Look as LookRead}
 use Rattle.audit_records.specs.declared.Below.{Below}
 use Rattle.audit_records.specs.declared.Below.the-variants.{End, On}
-use Rattle.audit_records.specs.Tests.{fails-at}
+use Rattle.laws.specs.Tests.{fails-at}
 use Rattle.code_file.specs.declared.Head.{Head}
 use Rattle.audit_places.specs.Places.{Shows, beyond, inProc, HeadFor}
 

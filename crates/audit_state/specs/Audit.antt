@@ -16,7 +16,7 @@ use Rattle.model.specs.declared.Regs.{Regs}
 use Rattle.audit_records.specs.declared.Look.{Look}
 use Rattle.code_file.specs.declared.Head.{Head}
 use Rattle.audit_places.specs.Places.{HeadFor}
-use Rattle.audit_records.specs.Tests.{Fails, test, fails, decided, all-both}
+use Rattle.laws.specs.Tests.{Fails, test, fails, decided, all-both}
 use Rattle.audit_records.specs.Records.{theLook}
 
 module _ (map : List ℕ) (r : Regs) (n : ℕ) where

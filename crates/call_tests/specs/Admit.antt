@@ -14,8 +14,8 @@ use Rattle.model.specs.Control.{registerBytes}
 use Rattle.model.specs.Calls.{pass, refuse, verdictOf, Checked, checked, answered, checkOf, Lent, withMap, After, answers, lengthTests, afterMap, afterCheck, tested}
 use Rattle.model.specs.Calls as model
 use Rattle.theory_checker.specs.Exact.{passed-as}
-use Rattle.theory_checker.specs.Walk.{first-head, after-head}
-use Rattle.check_scan.specs.Rest.{rest-inv, whole-inside, records-first}
+use Rattle.laws_file.specs.Walk.{first-head, after-head}
+use Rattle.laws_file.specs.Rest.{rest-inv, whole-inside, records-first}
 use Rattle.check_scan.specs.Heading.{Placed}
 use Rattle.checker.specs.Parts.{answerOf, Checks}
 use Rattle.check_flow.specs.declared.Verdict.{Verdict}

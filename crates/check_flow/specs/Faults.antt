@@ -12,7 +12,8 @@ use Rattle.model.specs.Choice.{if_then_else_}
 use Rattle.model.specs.Checker.{none, State, state, outer, Step, bad, next, meet, andThen}
 use Rattle.check_rows.specs.declared.State.{State as Numbers}
 use Rattle.check_rows.specs.Tests.{asState}
-use Rattle.check_scan.specs.Marks.{unreached, stateIn, putIn, getD-any}
+use Rattle.check_scan.specs.Marks.{unreached, stateIn, putIn}
+use Rattle.laws.specs.Members.{getD-any}
 use Rattle.check_flow.specs.Takes.{passOneIn, passAllIn}
 
 -- a state is passed on, or another one is there

@@ -13,9 +13,10 @@ use borrow.Author.Tests.{lt-ltb, le-ltb, eq-eqb, ne-eqb, eqb-true}
 use Rattle.model.specs.Choice.{if_then_else_, Mem, member}
 use Rattle.model.specs.File.{unknown, bodies, bodyOf, byteAt, after, whole?, Records, starts, recordsOf, startsIn, isHead, select, instructions, heads, procs, headOf, procAt, mostMain, mostPtr}
 use Rattle.model.specs.Checker.{none, State, state, isSet, Known, stateAt, outer, own, firsts, Step, bad, next, refused, passed, goOn, take, takeAll, flow, mapFrom}
-use Rattle.theory_checker.specs.Walk.{instructions-others, instructions-are, Walk, walk, walk-above, records-walk, after-above, after-head, head-in, first-head, member-in, in-member, instruction-below, HeadsHold, select-in, getD-in, procs-some, in-select}
+use Rattle.laws_file.specs.Walk.{instructions-others, instructions-are, Walk, walk, walk-above, records-walk, after-above, after-head, head-in, first-head, instruction-below, HeadsHold, procs-some}
+use Rattle.laws.specs.Members.{member-in, in-member, select-in, getD-in, in-select}
 use Rattle.theory_checker.specs.Flow.{own-in, keeps-shape, flow-keeps, flow-rest}
-use Rattle.check_scan.specs.Rest.{restOf, rest-end, rest-inv, whole-inside, records-first}
+use Rattle.laws_file.specs.Rest.{restOf, rest-end, rest-inv, whole-inside, records-first}
 use Rattle.check_scan.specs.Marks.{stateIn}
 use Rattle.check_scan.specs.Heading.{Placed}
 use Rattle.check_rows.specs.Site.{Table}

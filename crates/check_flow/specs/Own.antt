@@ -13,8 +13,8 @@ use borrow.Author.Tests.{lt-ltb, le-ltb, eq-eqb, ne-eqb}
 use Rattle.model.specs.Choice.{if_then_else_, member}
 use Rattle.model.specs.File.{byteAt, instructions, heads, procs, headOf, procAt, upTo, recordsOf, starts, headKind}
 use Rattle.model.specs.Checker.{none, Known, own}
-use Rattle.theory_checker.specs.Pass.{Rising}
-use Rattle.theory_checker.specs.Walk.{member-in, instruction-below, heads-rise, head-in, ins-in, getD-in, walk, walk-above, after-above, upTo-most, upTo-least, upTo-less}
+use Rattle.laws.specs.Members.{Rising, member-in, getD-in}
+use Rattle.laws_file.specs.Walk.{instruction-below, heads-rise, head-in, ins-in, walk, walk-above, after-above, upTo-most, upTo-least, upTo-less}
 use Rattle.check_scan.specs.Marks.{Shows, starts-here}
 
 -- where procedure n ends: at the next head, or with the file

@@ -13,7 +13,8 @@ use Rattle.model.specs.Choice.{if_then_else_, all, all-true, Mem, member}
 use Rattle.model.specs.File.{Ins, insAt, instructions, headOf, procAt, mostMain, mostPtr, recordsOf, starts}
 use Rattle.model.specs.Checker.{none, State, state, isSet, sameState, Known, stateAt, outer, passes, targetTests, nextTests, depthTests, leaveTests, Step, bad, next, need, meet, andThen, passAll, takeWith, take}
 use Rattle.model.specs.Claim.{Bytes}
-use Rattle.theory_checker.specs.Walk.{in-member, member-in, instruction-below}
+use Rattle.laws.specs.Members.{in-member, member-in}
+use Rattle.laws_file.specs.Walk.{instruction-below}
 use Rattle.theory_checker.specs.Flow.{Within, Depths, Inner, Moves, moves}
 use Rattle.check_scan.specs.Marks.{unreached, stateIn, putIn, Shows, put-shows}
 use Rattle.check_rows.specs.Rows.{isSetIn}

@@ -12,7 +12,7 @@ use borrow.Author.Tests.{ltb-true}
 use Rattle.model.specs.Choice.{if_then_else_}
 use Rattle.model.specs.File.{Ins, basic, jump, branch, branchKeep, call, return, enter, exit, raise, bodyOf, byteAt, insOf, insAt, after, headOf, procAt, resultsMain, resultsPtr, mostMain, mostPtr}
 use Rattle.model.specs.Checker.{none, State, state, effect, moved, outer, own, Step, bad, next, need}
-use Rattle.code_file.specs.Kinds.{NoneOf}
+use Rattle.laws_file.specs.Kinds.{NoneOf}
 use Rattle.check_rows.specs.declared.State.{State as Numbers}
 use Rattle.check_rows.specs.declared.Limits.{Limits}
 use Rattle.check_rows.specs.declared.Onward.{Onward}
@@ -22,7 +22,7 @@ use Rattle.check_rows.specs.Site.{Site}
 use Rattle.check_rows.specs.Tests.{asState, goesBy, jumpsBy, targetOk, stacksOk, depthOk, leaveOk, effectIn, nextState, targetState, Fits, stacks-fit, target-tests, next-tests, depth-tests, leave-tests, passes-are}
 use Rattle.check_rows.specs.Rows.{row, rowShape, isSetIn, onwardBy, plainly, Bounded, still}
 use Rattle.check_rows.specs.Kinds.{Aside, elsewhere, straight?, straight}
-use Rattle.theory_checker.specs.Walk.{after-above}
+use Rattle.laws_file.specs.Walk.{after-above}
 use Rattle.check_scan.specs.Marks.{stateIn}
 use Rattle.check_flow.specs.declared.Taken.{Taken}
 use Rattle.check_flow.specs.Own.{ownIn}

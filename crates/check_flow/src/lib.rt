@@ -4,7 +4,7 @@ ghost use Prim.Native.Nat.{_+_, _*_, _<_, _≤_};
 ghost use mathlib.Core.List.{_∷_, []};
 ghost use lib.ListN.{length};
 ghost use Rattle.model.specs.File as model;
-ghost use Rattle.code_file.specs.Kinds.{NoneOf};
+ghost use Rattle.laws_file.specs.Kinds.{NoneOf};
 ghost use Rattle.check_rows.specs.Shape.{Jump, Open, Close, Return};
 ghost use Rattle.check_rows.specs.Site.{Table};
 ghost use Rattle.check_rows.specs.Kinds.{Aside, elsewhere};
@@ -23,12 +23,6 @@ const NONE: usize = 65535;
 
 const HEAD: u8 = 240;
 
-fn wide(x: u16) -> usize
-    ensures { λ r. ⌜ (r ≡ x) × (r < 65536) ⌝ }
-{
-    x as usize
-}
-
 // The three numbers at q.
 fn state_in(m: &[u16], q: usize) -> State
     requires { ⌜ (3 * q + 2 < length (now m)) × (q < 4096) ⌝ }
@@ -36,9 +30,9 @@ fn state_in(m: &[u16], q: usize) -> State
 {
     let i = 3 * q;
     State {
-        main: wide(m[i]),
-        ptr: wide(m[i + 1]),
-        inner: wide(m[i + 2]),
+        main: numbers::half(m[i]),
+        ptr: numbers::half(m[i + 1]),
+        inner: numbers::half(m[i + 2]),
     }
 }
 
@@ -354,8 +348,8 @@ fn limits_of(file: &[u8], head: usize, end: usize) -> Limits
 {
     Limits {
         end,
-        x: code_file::wide(file[head + 5]),
-        y: code_file::wide(file[head + 6]),
+        x: numbers::byte(file[head + 5]),
+        y: numbers::byte(file[head + 6]),
     }
 }
 

@@ -10,7 +10,7 @@ use lib.Dec.{eqb}
 use borrow.Author.Tests.{ne-eqb}
 use Rattle.model.specs.Choice.{if_then_else_}
 use Rattle.model.specs.File.{codes, bodies, unknown, bodyOf, Ins, basic, jump, branch, branchKeep, call, return, enter, exit, raise, insOf}
-use Rattle.code_file.specs.Kinds.{OneOf, NoneOf, every, ins-other, body-other}
+use Rattle.laws_file.specs.Kinds.{OneOf, NoneOf, every, ins-other, body-other}
 
 -- what holds at each of n numbers from a on
 abbrev pub Each : (ℕ → Type 0) → ℕ → ℕ → Type 0

@@ -5,7 +5,7 @@ ghost use mathlib.Core.Logic.{_⊎_};
 ghost use Prim.Native.Nat.{_+_, _<_, _≤_};
 ghost use lib.ListN.{length};
 ghost use Rattle.model.specs.File as model;
-ghost use Rattle.code_file.specs.Kinds.{NoneOf};
+ghost use Rattle.laws_file.specs.Kinds.{NoneOf};
 ghost use Rattle.check_rows.specs.Shape.{shapeOf, Next, Raise};
 ghost use Rattle.check_rows.specs.Site.{Table, Site};
 ghost use Rattle.check_rows.specs.Kinds.{Aside, elsewhere};

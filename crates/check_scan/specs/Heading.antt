@@ -12,7 +12,8 @@ use borrow.Author.Tests.{eq-eqb, ne-eqb, lt-ltb, le-ltb, le-leb, lt-leb}
 use Rattle.model.specs.Choice.{if_then_else_, Test, same, most, yes?, all, All, all-true, member}
 use Rattle.model.specs.File.{byteAt, starts, recordsOf, instructions, heads, procs, headOf, entry, headTests, wrong, right, headsFrom, headsOf, paramsMain, paramsPtr}
 use Rattle.model.specs.Checker.{none, state, firsts}
-use Rattle.theory_checker.specs.Walk.{walk, walk-above, head-in, after-head, getD-in, instruction-below, member-in}
+use Rattle.laws_file.specs.Walk.{walk, walk-above, head-in, after-head, instruction-below}
+use Rattle.laws.specs.Members.{getD-in, member-in}
 use Rattle.code_file.specs.Heads.{procHead, HeadIs, head-of}
 use Rattle.code_file.specs.declared.Head.{Head}
 use Rattle.check_scan.specs.Marks.{putIn, Shows, starts-here, put-shows}

@@ -1,4 +1,3 @@
-pub mod Rest
 pub mod Marks
 pub mod Scanning
 pub mod Heading

@@ -14,7 +14,7 @@ use borrow.Author.Tests.{eq-eqb, ne-eqb}
 use Rattle.model.specs.Choice.{if_then_else_, Mem, member}
 use Rattle.model.specs.File.{starts, recordsOf, isHead, select, instructions}
 use Rattle.model.specs.Checker.{none, State, state, unset, isSet, Known, stateAt}
-use Rattle.theory_checker.specs.Walk.{instructions-are}
+use Rattle.laws_file.specs.Walk.{instructions-are}
 
 abbrev pub unreached : ℕ
 unreached = 65534
@@ -163,10 +163,6 @@ marked-shows f ps e h =
     }
 
 -- reading a number with another default
-pub getD-any : (l : List ℕ) (i d d′ : ℕ) → i < length l → getD l i d ≡ getD l i d′
-getD-any [] i d d′ h = absurd (omega arith)
-getD-any (x ∷ l) zero d d′ h = refl
-getD-any (x ∷ l) (suc i) d d′ h = getD-any l i d d′ (omega arith)
 
 module _ (f : List ℕ) (k : Known) (m : List ℕ) (S : Shows f k m) where
   shown-main : (t : Bool) (s : State) → (isSet s ≡ true → t ≡ true) → eqb (shown t s .main) none ≡ not t

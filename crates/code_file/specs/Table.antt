@@ -9,7 +9,7 @@ use lib.Dec.{T, eqb, eqb→eq}
 use lib.ListN.{length, getD}
 use Rattle.model.specs.Choice.{if_then_else_}
 use Rattle.model.specs.File.{codes, bodies, bodyOf}
-use Rattle.code_file.specs.Kinds.{and-both}
+use Rattle.laws_file.specs.Kinds.{and-both}
 
 -- the entries, from kind 0 on
 unfoldable pub lengths : List ℕ

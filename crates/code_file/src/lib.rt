@@ -3,7 +3,7 @@ ghost use mathlib.Core.Path.{_≡_};
 ghost use Prim.Native.Nat.{_+_, _<_};
 ghost use lib.ListN.{length};
 ghost use Rattle.model.specs.File as model;
-ghost use Rattle.code_file.specs.Parts.{Small};
+ghost use Rattle.numbers.specs.Small.{Small};
 ghost use Rattle.code_file.specs.Table.{lengths};
 ghost use Rattle.code_file.specs.Heads.{HeadIs};
 
@@ -267,13 +267,6 @@ const BODY: [u8; 256] = [
     255, // 255
 ];
 
-// A byte as a number.
-pub fn wide(b: u8) -> usize
-    ensures { λ r. ⌜ Small 256 b r ⌝ }
-{
-    b as usize
-}
-
 // A copy of the table. The compiler makes a constant array anew at each use: the scan takes one copy and reads that.
 pub fn bodies() -> [u8; 256]
     ensures { λ r. ⌜ r ≡ lengths ⌝ }
@@ -286,8 +279,8 @@ pub fn body(bodies: &[u8; 256], kind: u8) -> usize
     requires { ⌜ now bodies ≡ lengths ⌝ }
     ensures { λ r. ⌜ Small 256 (model.bodyOf kind) r ⌝ }
 {
-    let i = wide(kind);
-    wide(bodies[i])
+    let i = numbers::byte(kind);
+    numbers::byte(bodies[i])
 }
 
 // The 16-bit operand of the instruction at p, most significant byte first.
@@ -295,8 +288,8 @@ pub fn operand(file: &[u8], p: usize) -> usize
     requires { ⌜ p + 2 < length (now file) ⌝ }
     ensures { λ r. ⌜ Small 65536 (model.operand (now (file .entry)) p) r ⌝ }
 {
-    let high = wide(file[p + 1]);
-    let low = wide(file[p + 2]);
+    let high = numbers::byte(file[p + 1]);
+    let low = numbers::byte(file[p + 2]);
     high * 256 + low
 }
 
@@ -361,11 +354,11 @@ pub fn head_at(file: &[u8], h: usize) -> Head
     requires { ⌜ h + 6 < length (now file) ⌝ }
     ensures { λ r. ⌜ HeadIs (now (file .entry)) h r ⌝ }
 {
-    let a = wide(file[h + 1]);
-    let b = wide(file[h + 2]);
-    let r = wide(file[h + 3]);
-    let s = wide(file[h + 4]);
-    let x = wide(file[h + 5]);
-    let y = wide(file[h + 6]);
+    let a = numbers::byte(file[h + 1]);
+    let b = numbers::byte(file[h + 2]);
+    let r = numbers::byte(file[h + 3]);
+    let s = numbers::byte(file[h + 4]);
+    let x = numbers::byte(file[h + 5]);
+    let y = numbers::byte(file[h + 6]);
     Head { a, b, r, s, x, y }
 }

@@ -7,7 +7,7 @@ use native.Mathlib.Omega.{arith}
 use lib.ListN.{length, set, replicate}
 use lib.Seq.{sets, getD-set-other}
 use Rattle.model.specs.Words.{wordAt, cut}
-use Rattle.model.specs.Lists.{cut-same}
+use Rattle.laws.specs.Cuts.{cut-same}
 use Rattle.model.specs.Control.{Frame, Handler, asFrame, frameRec, handlerRec, recAt, putRec, recordWords}
 use Rattle.control_stack.specs.declared.Frame.{Frame as FrameRead}
 use Rattle.control_stack.specs.declared.Handler.{Handler as HandlerRead}

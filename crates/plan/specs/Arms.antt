@@ -11,7 +11,7 @@ use Rattle.model.specs.Checker.{effectOf}
 use Rattle.model.specs.Control.{Machine, running}
 use Rattle.model.specs.Moves.{mtop, ptop}
 use Rattle.audit_heap.specs.Stores.{Lies, object-lies}
-use Rattle.code_file.specs.Bodies.{after-above}
+use Rattle.laws_file.specs.Walk.{after-above}
 use Rattle.plan_meaning.specs.Planned.{planAt}
 use Rattle.plan_meaning.specs.declared.Plan.{Plan}
 use Rattle.control_stack.specs.Layout.{Numbered}

@@ -3,7 +3,7 @@ use Prim.Native.Nat.{ℕ}
 use mathlib.Core.List.{List, [], _∷_, _++_}
 use mathlib.Core.Path.{_≡_}
 use Rattle.model.specs.File.{raise, insOf}
-use Rattle.code_file.specs.Kinds.{OneOf, NoneOf, ins-other}
+use Rattle.laws_file.specs.Kinds.{OneOf, NoneOf, ins-other}
 use Rattle.plan_flow.specs.Given.{other}
 
 -- the last arm's first

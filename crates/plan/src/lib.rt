@@ -14,7 +14,7 @@ ghost use Rattle.model.specs.Words.{wordAt};
 ghost use Rattle.model.specs.File as model;
 ghost use Rattle.model.specs.Control.{Machine, frameOf, setRegs, setMain, setPtr, setCtl, setHeap};
 ghost use Rattle.plan_meaning.specs.Planned.{planAt};
-ghost use Rattle.code_file.specs.Kinds.{NoneOf};
+ghost use Rattle.laws_file.specs.Kinds.{NoneOf};
 ghost use Rattle.audit_heap.specs.Stores.{Lies};
 ghost use Rattle.control_stack.specs.Layout.{Numbered};
 ghost use Rattle.plan_flow.specs.Given.{planned, Body, Within};
@@ -62,7 +62,7 @@ fn plain_fields(file: &[u8], main: &[u32], ptr: &[u32], heap: &[u32], regs: Regs
 {
     let place = regs.place;
     let top = regs.ptop - 1;
-    let object = plan_flow::wide(ptr[top]);
+    let object = numbers::word(ptr[top]);
     if object == 0 {
         return Plan::NilObject; // before the field is looked for: 2, not 3
     }
@@ -94,7 +94,7 @@ fn ptr_fields(file: &[u8], ptr: &[u32], heap: &[u32], regs: Regs, kind: u8) -> P
 {
     let place = regs.place;
     let top = regs.ptop - 1;
-    let view = plan_flow::wide(ptr[top]);
+    let view = numbers::word(ptr[top]);
     if view == 0 {
         return Plan::NilObject;
     }
@@ -127,7 +127,7 @@ fn forms(file: &[u8], heap: &[u32], regs: Regs) -> Plan
     let plain = code_file::operand(file, place);
     let ptrs = code_file::operand2(file, place);
     let mark = heap[0];
-    if heap.len() < plan_flow::wide(mark) + (2 + plain + ptrs) {
+    if heap.len() < numbers::word(mark) + (2 + plain + ptrs) {
         return Plan::HeapFull;
     }
     let at = regs.ptop - ptrs;

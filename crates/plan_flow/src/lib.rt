@@ -13,7 +13,7 @@ ghost use Prim.Native.Nat.{ℕ, _+_, _<_, _≤_};
 ghost use Rattle.model.specs.Words.{valueOf};
 ghost use Rattle.model.specs.Control.{Machine, setRegs, setMain, setPtr, setCtl};
 ghost use Rattle.plan_meaning.specs.Planned.{write, onValue};
-ghost use Rattle.code_file.specs.Parts.{Small};
+ghost use Rattle.numbers.specs.Small.{Small};
 ghost use Rattle.control_stack.specs.Layout.{Numbered};
 ghost use Rattle.plan_flow.specs.Given.{planned, Body, Within, Callee, Binary};
 
@@ -48,12 +48,6 @@ fn result(value: Value, place: usize, mtop: usize, ptop: usize, at: usize) -> Pl
         Value::Word(w) => writes(Into::Main, place, mtop, ptop, at, w),
         Value::Outside => Plan::OutOfRange,
     }
-}
-
-pub fn wide(w: u32) -> usize
-    ensures { λ r. ⌜ Small 4294967296 w r ⌝ }
-{
-    w as usize
 }
 
 // A pointer pushed by an instruction of one byte.

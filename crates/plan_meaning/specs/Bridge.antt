@@ -11,7 +11,7 @@ use lib.Seq.{length-slice}
 use lib.Dec.{leb, eqb}
 use borrow.Author.Tests.{eqb-false, leb-true}
 use Rattle.model.specs.Choice.{if_then_else_, all, all-true}
-use Rattle.model.specs.Lists.{cut-same}
+use Rattle.laws.specs.Cuts.{cut-same}
 use Rattle.model.specs.Words.{wordAt, truth, operate, operate1, cut}
 use Rattle.model.specs.File.{onMain, onPtr, keepMain, keepPtr, keepNone, Basic, local, assign, field, setField, make, form, makerPops, literal, nil, root, setRoot, retract, binary, samePtr, unary, Ins, basic, jump, branch, branchKeep, call, return, enter, exit, raise, after, insAt}
 use Rattle.model.specs.Checker.{basicEffect, effectOf}
@@ -22,7 +22,7 @@ use Rattle.model.specs.Instructions.{codeOf, nilObject, noSuchWord, heapFull, n
 use Rattle.model.specs.Step.{next, outcome, instruct, step}
 use Rattle.model.specs.declared.Value.{Value}
 use Rattle.model.specs.declared.Value.the-variants.{Word, Outside}
-use Rattle.code_file.specs.Codes.{call-byte, callee-is, call-after}
+use Rattle.laws_file.specs.Codes.{call-byte, callee-is, call-after}
 use Rattle.plan_meaning.specs.declared.Into.the-variants.{Nothing, Pop, View}
 use Rattle.plan_meaning.specs.declared.Put.{Put}
 use Rattle.plan_meaning.specs.declared.Plan.{Plan}

@@ -4,7 +4,7 @@ ghost use mathlib.Core.Path.{_≡_};
 ghost use Prim.Native.Nat.{_+_, _*_, _/_, _<_};
 ghost use lib.ListN.{length};
 ghost use Rattle.model.specs.Control.{registers, registerBytes, wordFrom, regsFrom, regBytes};
-ghost use Rattle.code_file.specs.Parts.{Small};
+ghost use Rattle.numbers.specs.Small.{Small};
 ghost use Rattle.registers.specs.Registers.{Words, Stored};
 use model::Regs;
 
@@ -14,8 +14,8 @@ fn word_from(bytes: &[u8], i: usize) -> usize
     ensures { λ r. ⌜ Small 4294967296 (wordFrom (now (bytes .entry)) i) r ⌝ }
 {
     let at = 4 * i;
-    let high = code_file::wide(bytes[at]) * 256 + code_file::wide(bytes[at + 1]);
-    let low = code_file::wide(bytes[at + 2]) * 256 + code_file::wide(bytes[at + 3]);
+    let high = numbers::byte(bytes[at]) * 256 + numbers::byte(bytes[at + 1]);
+    let low = numbers::byte(bytes[at + 2]) * 256 + numbers::byte(bytes[at + 3]);
     high * 65536 + low
 }
 

@@ -16,8 +16,8 @@ use Rattle.model.specs.Rules.{Assignment, Keeps}
 use Rattle.model.specs.Sound.{mainAt, ptrAt, innerAt}
 use Rattle.model.specs.Calls.{mapSize, overMap, Verdict, pass, refuse, flowed, headed, scanned, verdictOf}
 use Rattle.model.specs.Claim.{Bytes, assigned, InOrder}
-use Rattle.theory_checker.specs.Pass.{and-true}
-use Rattle.theory_checker.specs.Walk.{heads-right, right-heads, instruction-below}
+use Rattle.laws.specs.Choices.{and-true}
+use Rattle.laws_file.specs.Walk.{heads-right, right-heads, instruction-below}
 use Rattle.theory_checker.specs.Flow.{taken-targets, Shape, keeps-shape, keeps-same, flow-rest, flow-keeps, keeps-flow}
 
 -- three numbers a place

@@ -16,8 +16,10 @@ use Rattle.model.specs.Checker.{none, State, state, unset, isSet, Known, stateA
 use Rattle.model.specs.Rules.{Assignment, Opens, Fine, First, Got, Keeps}
 use Rattle.model.specs.Claim.{Bytes}
 use Rattle.theory_checker.specs.Pass as Pass
-use Rattle.theory_checker.specs.Pass.{and-true, goOn-inv, Set, Sent, Linked, outer-none, outerAt, Places, unset-at, Code, Taken, Laws, Ran, ran, ran-places, Found, found}
-use Rattle.theory_checker.specs.Walk.{member-in, HeadsHold, instructions-rise, entry-in, entry-proc}
+use Rattle.theory_checker.specs.Pass.{goOn-inv, Set, Sent, Linked, outer-none, outerAt, Places, unset-at, Code, Taken, Laws, Ran, ran, ran-places, Found, found}
+use Rattle.laws.specs.Choices.{and-true}
+use Rattle.laws.specs.Members.{member-in}
+use Rattle.laws_file.specs.Walk.{HeadsHold, instructions-rise, entry-in, entry-proc}
 
 -- only code 160 opens a handler
 abbrev isEnter : Ins → Bool

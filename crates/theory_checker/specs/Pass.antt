@@ -12,10 +12,7 @@ use lib.Dec.{eqb}
 use borrow.Author.Tests.{eqb-true, eq-eqb, ne-eqb}
 use Rattle.model.specs.Choice.{if_then_else_, Mem}
 use Rattle.model.specs.Checker.{none, State, state, unset, isSet, sameState, Known, stateAt, outer, Step, bad, next, Result, passed, meet, andThen, goOn, passOne, passAll}
-
-pub and-true : (a b : Bool) → (a && b) ≡ true → (a ≡ true) × (b ≡ true)
-and-true true b e = (refl, e)
-and-true false b e = (e, absurd (true≢false (sym e)))
+use Rattle.laws.specs.Members.{Rising}
 
 -- a state that is known
 abbrev pub Set : State → Type 0
@@ -212,10 +209,6 @@ pub record Code : Type 1 where
   pub sends : ℕ → State → State → List (ℕ × State)
   pub step : ℕ → Known → Step Known
   pub run : List ℕ → Known → Result Known
-
-abbrev pub Rising : List ℕ → Type 0
-Rising [] = Unit {0}
-Rising (p ∷ ps) = ((q : ℕ) → Mem q ps → p < q) × Rising ps
 
 module _ (C : Code) where
   open Code C using (Fits, sends, step, run)

@@ -20,7 +20,8 @@ use Rattle.model.specs.declared.Answer.the-variants as answer
 use Rattle.theory_checker.specs.Exact.{passed-again}
 use Rattle.theory_checker.specs.Leaves.{uncaught-stays}
 use Rattle.theory_state.specs.Tests.{true-pointer}
-use Rattle.theory_state.specs.Lists.{length-cut, length-put}
+use Rattle.laws.specs.Cuts.{length-cut}
+use Rattle.laws.specs.Records.{length-put}
 use Rattle.theory_state.specs.Laws.{CodeLaws, code-laws}
 use Rattle.theory_state.specs.Sound.{Sound, Audited, sound-with, true-sound?, running-depths}
 use Rattle.theory_state.specs.Keep.{start-sound}

@@ -19,9 +19,10 @@ use Rattle.model.specs.Instructions.{callTests, called}
 use Rattle.model.specs.Step.{caught}
 use Rattle.model.specs.Sound.{mainAt, ptrAt, innerAt, isIns, isCode, callBefore, Look}
 use Rattle.model.specs.Calls.{Lent, firstFrame, started}
-use Rattle.code_file.specs.Codes.{call-byte, byte-call, callee-is, call-after}
-use Rattle.theory_checker.specs.Pass.{and-true}
-use Rattle.theory_state.specs.Lists.{Zero, Each, length-cut, cut-zero, cut-each, set-zero, length-put, put-zero, down-put, down-cut, down-length}
+use Rattle.laws_file.specs.Codes.{call-byte, byte-call, callee-is, call-after}
+use Rattle.laws.specs.Choices.{and-true}
+use Rattle.laws.specs.Cuts.{Zero, Each, length-cut, cut-zero, cut-each, set-zero}
+use Rattle.laws.specs.Records.{length-put, put-zero, down-put, down-cut, down-length}
 use Rattle.theory_state.specs.Stack.{taking, Stack, first, frame, handler, stack-here, stack-move, stack-some, stack-frame, Found, find}
 use Rattle.theory_state.specs.Laws.{Is, CodeLaws, some, small, at-entry, no-params, at-call, at-return, at-enter, at-exit, inner-opens, depth-most}
 use Rattle.theory_state.specs.Sound.{Words, looking, Running, Sound}

@@ -9,15 +9,16 @@ use native.Mathlib.Omega.{arith}
 use lib.Dec.{eqb}
 use borrow.Author.Tests.{eqb-false, not-true}
 use Rattle.model.specs.Choice.{Mem}
-use Rattle.model.specs.Laws.{taken-most}
+use Rattle.laws.specs.Choices.{taken-most}
 use Rattle.model.specs.File.{Ins, call, return, enter, exit, after, procs, procAt, entry, headTests, instructions, operand, insAt, paramsMain, paramsPtr, resultsMain, resultsPtr, mostMain, mostPtr}
 use Rattle.model.specs.Checker.{State, state, none, passes, outer, effectOf, handlerAt, targetTests, depthTests, leaveTests}
 use Rattle.model.specs.Rules.{Passes, Fine, Keeps}
 use Rattle.model.specs.Calls.{pass, verdictOf}
 use Rattle.model.specs.Claim.{Bytes, assigned, InOrder}
 use Rattle.model.specs.Sound.{mainAt, ptrAt, innerAt, isIns}
-use Rattle.code_file.specs.Codes.{byte-enter}
-use Rattle.theory_checker.specs.Walk.{member-in, in-member, instruction-below, procs-some, entry-proc}
+use Rattle.laws_file.specs.Codes.{byte-enter}
+use Rattle.laws.specs.Members.{member-in, in-member}
+use Rattle.laws_file.specs.Walk.{instruction-below, procs-some, entry-proc}
 use Rattle.theory_checker.specs.Flow.{Open, Shape, moves}
 use Rattle.theory_checker.specs.Exact.{passed-as, passed-keeps, passed-shape}
 

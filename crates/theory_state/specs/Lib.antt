@@ -1,5 +1,4 @@
 pub mod Tests
-pub mod Lists
 pub mod Stack
 pub mod Laws
 pub mod Sound
@@ -8,3 +7,4 @@ pub mod Rules
 pub mod Runs
 pub mod Registers
 pub mod Claims
+pub mod Demand

@@ -23,8 +23,9 @@ use Rattle.model.specs.Sound.{mainAt, innerAt, isIns}
 use Rattle.model.specs.declared.Value.{Value}
 use Rattle.model.specs.declared.Value.the-variants.{Word, Outside}
 use Rattle.model.specs.Claim.{assigned}
-use Rattle.theory_checker.specs.Pass.{and-true}
-use Rattle.theory_state.specs.Lists.{Zero, Each, length-cut, cut-zero, cut-each, set-zero, set-each, slice-each, length-put}
+use Rattle.laws.specs.Choices.{and-true}
+use Rattle.laws.specs.Cuts.{Zero, Each, length-cut, cut-zero, cut-each, set-zero, set-each, slice-each}
+use Rattle.laws.specs.Records.{length-put}
 use Rattle.theory_state.specs.Stack.{stack-frame}
 use Rattle.theory_state.specs.Laws.{CodeLaws, leads, pops, rules}
 use Rattle.theory_state.specs.Sound.{Running, Sound}

@@ -15,8 +15,8 @@ use Rattle.model.specs.Heap.{isPointer, objectsOf}
 use Rattle.model.specs.Control.{Machine, down, recordWords, records, rootWords}
 use Rattle.model.specs.Sound.{mainAt, ptrAt, innerAt, Look, topmost, stackTests, runningTests, finishedTests, sound?}
 use Rattle.model.specs.Claim.{Depths}
-use Rattle.theory_state.specs.Tests.{if-cases}
-use Rattle.theory_state.specs.Lists.{Zero, Each, zeros-true, true-zeros, pointers-true, true-pointers}
+use Rattle.laws.specs.Choices.{if-cases}
+use Rattle.laws.specs.Cuts.{Zero, Each, zeros-true, true-zeros, pointers-true, true-pointers}
 use Rattle.theory_state.specs.Stack.{Stack, stack?-true, true-stack?, stack-frame}
 
 -- what is demanded of the stacks' words; Ptr: what every word of the pointer stack is

@@ -14,8 +14,8 @@ use Rattle.model.specs.File.{procAt, insAt}
 use Rattle.model.specs.Checker.{none, Effect, effectOf}
 use Rattle.model.specs.Control.{Rec, asFrame, asHandler, recAt, frameOf, down}
 use Rattle.model.specs.Sound.{innerAt, isIns, callBefore, Look, frameTests, firstTests, callerTests, caller, handlerTests, outside, stack?}
-use Rattle.theory_state.specs.Tests.{if-cases, if-all}
-use Rattle.theory_state.specs.Lists.{down-length}
+use Rattle.laws.specs.Choices.{if-cases, if-all}
+use Rattle.laws.specs.Records.{down-length}
 
 -- what a call pops
 abbrev pub taking : List ℕ → ℕ → Effect

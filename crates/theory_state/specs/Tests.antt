@@ -8,16 +8,7 @@ use lib.Dec.{eqb}
 use borrow.Author.Tests.{eq-eqb, eqb-true}
 use Rattle.model.specs.Choice.{if_then_else_, if-both, Test, all, All, all-true, member}
 use Rattle.model.specs.Heap.{Pointer, isPointer}
-use Rattle.theory_checker.specs.Walk.{member-in, in-member}
-
-pub if-cases : (t a b : Bool) {C : Type 0} → (t ≡ true → a ≡ true → C) → (t ≡ false → b ≡ true → C) →
-    (if t then a else b) ≡ true → C
-if-cases true a b k l e = k refl e
-if-cases false a b k l e = l refl e
-
--- tests, and then more
-pub if-all : (ts : List Test) (b : Bool) {C : Type 0} → (All ts → b ≡ true → C) → (if all ts then b else false) ≡ true → C
-if-all ts b k e = let g = if-both (all ts) b e in k (all-true ts (g .0)) (g .1)
+use Rattle.laws.specs.Members.{member-in, in-member}
 
 -- a pointer, as a test and as a statement
 pub pointer-true : (os : List ℕ) (v : ℕ) → isPointer os v ≡ true → Pointer os v

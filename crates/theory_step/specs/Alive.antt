@@ -23,7 +23,7 @@ use Rattle.theory_state.specs.Laws.{CodeLaws, code-laws}
 use Rattle.theory_state.specs.Sound.{Running, Sound, Audited, sound-with, sound?-true}
 use Rattle.theory_state.specs.Rules.{step-keeps}
 use Rattle.audit_heap.specs.Audited.{heap-clean}
-use Rattle.theory_demand.specs.Demand.{heap-laws}
+use Rattle.theory_state.specs.Demand.{heap-laws}
 
 -- the lists' lengths: refusal 10
 pub record Sizes (f : List ℕ) (m : Machine) : Type 0 where

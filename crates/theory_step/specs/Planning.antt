@@ -14,13 +14,14 @@ use Rattle.model.specs.Heap.{Pointer}
 use Rattle.model.specs.Control.{Machine, running, down}
 use Rattle.model.specs.Moves.{mtop, ptop}
 use Rattle.model.specs.Sound.{isIns, frameTests}
-use Rattle.theory_checker.specs.Walk.{member-in, getD-in, walk, walk-above, head-in, after-head, instruction-whole}
+use Rattle.laws.specs.Members.{member-in, getD-in}
+use Rattle.laws_file.specs.Walk.{walk, walk-above, head-in, after-head, instruction-whole}
 use Rattle.theory_state.specs.Stack.{stack-frame, stack-numbers}
 use Rattle.theory_state.specs.Laws.{CodeLaws, rules, pops}
 use Rattle.theory_state.specs.Sound.{looking, Running}
 use Rattle.theory_state.specs.Keep.{running-here, running-fits}
 use Rattle.theory_state.specs.Rules.{bases, frame-words}
-use Rattle.theory_demand.specs.Demand.{heap-laws}
+use Rattle.theory_state.specs.Demand.{heap-laws}
 use Rattle.plan.specs.Ready.{Ready, placeOf, here}
 use Rattle.theory_step.specs.Alive.{Alive, alive-laws, alive-running}
 

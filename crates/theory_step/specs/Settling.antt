@@ -19,11 +19,11 @@ use Rattle.plan_meaning.specs.Bridge.{Apt, bridge, suited}
 use Rattle.plan_meaning.specs.Planned.{planAt}
 use Rattle.plan_meaning.specs.Settled.{settle}
 use Rattle.plan_meaning.specs.Suits.{Suited}
-use Rattle.code_file.specs.Codes.{enter-after}
-use Rattle.theory_checker.specs.Walk.{instruction-below, instruction-whole, proc-below}
+use Rattle.laws_file.specs.Codes.{enter-after}
+use Rattle.laws_file.specs.Walk.{instruction-below, instruction-whole, proc-below}
 use Rattle.audit_heap.specs.Stores.{read-ptr, read-plain}
 use Rattle.audit_heap.specs.Views.{may-set-plain, may-set-ptr}
-use Rattle.theory_state.specs.Lists.{down-length}
+use Rattle.laws.specs.Records.{down-length}
 use Rattle.theory_state.specs.Stack.{Stack, first, frame, handler, stack-here, stack-frame, stack-numbers, Found, find}
 use Rattle.theory_state.specs.Laws.{CodeLaws, at-exit, depth-most, inner-opens}
 use Rattle.theory_state.specs.Sound.{looking, Running}

@@ -1,7 +1,7 @@
 -- `apply::apply_late` meets its contract: each arm knows which of the late writes it has, and leaves what the model applies.
 use native.Mathlib.Omega.{arith}
 use mathlib.Core.Path.{_∙_}
-use Rattle.theory_state.specs.Lists.{length-cut}
+use Rattle.laws.specs.Cuts.{length-cut}
 use Rattle.apply.specs.Applied.{view-applied, finish-applied, drop-applied}
 use Rattle.apply.proofs.Tags.{late-return, late-retract}
 use borrow.Author.Needs.{needs}

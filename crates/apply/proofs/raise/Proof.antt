@@ -1,7 +1,7 @@
 -- `apply::raise` meets its contract: no handler, and nothing is written; or the stacks are cut to the handler's tops, its record and
 -- those above it go, and the code is pushed.
 use native.Mathlib.Omega.{arith}
-use Rattle.theory_state.specs.Lists.{length-cut}
+use Rattle.laws.specs.Cuts.{length-cut}
 use Rattle.apply.specs.Ended.{uncaught-ends, caught-ends, guard-top, guard-targets}
 use borrow.Author.Needs.{needs}
 use Rattle.apply.proofs.raise.Statement.{statement}

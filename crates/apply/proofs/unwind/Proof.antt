@@ -1,7 +1,7 @@
 -- `apply::unwind` meets its contract: the topmost record goes, then the rest down to the handler's.
 use native.Mathlib.Omega.{arith}
 use mathlib.Core.Path.{_∙_}
-use Rattle.apply_words.specs.Lists.{cut-cut, cut-topped}
+use Rattle.laws.specs.Cuts.{cut-cut, cut-topped}
 use borrow.Author.Needs.{needs}
 use Rattle.apply.proofs.unwind.Statement.{statement}
 use Rattle.apply.proofs.unwind.Tie as tie

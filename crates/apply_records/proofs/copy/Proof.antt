@@ -6,7 +6,7 @@ use native.Mathlib.Omega.{arith}
 use lib.ListN.{length, getD, set, length-set}
 use lib.Seq.{sets, slice, slice-empty}
 use borrow.Author.Needs.{needs}
-use Rattle.apply_records.specs.Lists.{copy-more}
+use Rattle.laws.specs.Stores.{copy-more}
 use Rattle.apply_records.proofs.copy.Statement.{statement}
 use Rattle.apply_records.proofs.copy.Tie as tie
 

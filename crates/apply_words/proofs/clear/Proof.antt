@@ -5,7 +5,7 @@ use native.Mathlib.Omega.{arith}
 use lib.ListN.{length, length-set}
 use borrow.Author.Needs.{needs}
 use Rattle.model.specs.Words.{cut}
-use Rattle.apply_words.specs.Lists.{cut-above, cut-next}
+use Rattle.laws.specs.Cuts.{cut-above, cut-next}
 use Rattle.apply_words.proofs.clear.Statement.{statement}
 use Rattle.apply_words.proofs.clear.Tie as tie
 

@@ -1,5 +1,5 @@
 -- `apply_words::cut_to` meets its contract: a cut to above the top changes nothing, below it the words between go, few without a loop.
-use Rattle.apply_words.specs.Lists.{cut-above}
+use Rattle.laws.specs.Cuts.{cut-above}
 use borrow.Author.Needs.{needs}
 use Rattle.apply_words.proofs.cut_to.Statement.{statement}
 use Rattle.apply_words.proofs.cut_to.Tie as tie

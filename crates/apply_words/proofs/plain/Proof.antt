@@ -1,8 +1,7 @@
 -- `apply_words::plain` meets its contract: an arm knows where the word goes, and there so many words go as the arm pops; the last arm is a retract's.
 use mathlib.Core.Bool.{true≢false}
 use native.Mathlib.Omega.{arith}
-use Rattle.theory_state.specs.Lists.{length-cut}
-use Rattle.apply_words.specs.Lists.{cut-above}
+use Rattle.laws.specs.Cuts.{length-cut, cut-above}
 use Rattle.apply_words.specs.Laws.{nothing-plainly, pop-plainly, push-plainly, main-plainly, read-plainly, ptr-plainly, heap-plainly, fits-at}
 use Rattle.apply_words.proofs.Tags.{dropping}
 use borrow.Author.Needs.{needs}

@@ -1,6 +1,6 @@
 -- `apply_words::pop_last` meets its contract: the one word that goes is that at the new top.
 use native.Mathlib.Omega.{arith}
-use Rattle.apply_words.specs.Lists.{cut-one}
+use Rattle.laws.specs.Cuts.{cut-one}
 use borrow.Author.Needs.{needs}
 use Rattle.apply_words.proofs.pop_last.Statement.{statement}
 use Rattle.apply_words.proofs.pop_last.Tie as tie

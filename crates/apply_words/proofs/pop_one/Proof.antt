@@ -1,5 +1,5 @@
 -- `apply_words::pop_one` meets its contract: no word goes, or the one at the new top.
-use Rattle.apply_words.specs.Lists.{cut-above, cut-one}
+use Rattle.laws.specs.Cuts.{cut-above, cut-one}
 use borrow.Author.Needs.{needs}
 use Rattle.apply_words.proofs.pop_one.Statement.{statement}
 use Rattle.apply_words.proofs.pop_one.Tie as tie

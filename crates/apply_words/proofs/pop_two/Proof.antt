@@ -1,7 +1,7 @@
 -- `apply_words::pop_two` meets its contract: no word goes, or one or two; a single one is zeroed twice.
 use native.Mathlib.Omega.{arith}
 use lib.ListN.{length-set}
-use Rattle.apply_words.specs.Lists.{cut-above, cut-two}
+use Rattle.laws.specs.Cuts.{cut-above, cut-two}
 use borrow.Author.Needs.{needs}
 use Rattle.apply_words.proofs.pop_two.Statement.{statement}
 use Rattle.apply_words.proofs.pop_two.Tie as tie

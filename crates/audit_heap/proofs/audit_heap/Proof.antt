@@ -7,17 +7,17 @@ use Rattle.audit_heap.specs.Answers.{audited-mark, audited-walk, audited
 use Rattle.audit_heap.proofs.audit_heap.Statement.{statement}
 use Rattle.audit_heap.proofs.audit_heap.Tie as tie
 
-shared-slice-read-wide : tie.Need-shared-slice-read-wide
-shared-slice-read-wide c = search needs
+shared-slice-read-word : tie.Need-shared-slice-read-word
+shared-slice-read-word c = search needs
 
-wide-requires : tie.Need-wide-requires
-wide-requires c κs = search needs
+word-requires : tie.Need-word-requires
+word-requires c κs = search needs
 
 returns : tie.Need-returns
-returns c = audited-mark _ _ _ _ (c .before .wide .ensures) (inl (c .if1 .taken))
+returns c = audited-mark _ _ _ _ (c .before .word .ensures) (inl (c .if1 .taken))
 
 returns-2 : tie.Need-returns-2
-returns-2 c = audited-mark _ _ _ _ (c .before .before .wide .ensures) (inr (c .if2 .taken))
+returns-2 c = audited-mark _ _ _ _ (c .before .before .word .ensures) (inr (c .if2 .taken))
 
 in-range : (c : tie.Else2) → Range (c .before .before .before .before .before .before .args .heap .now)
 in-range c = omega arith
@@ -99,8 +99,8 @@ pub audit-heap-spec : {M : Type 1} → statement M
 audit-heap-spec =
     tie.close
     (tie.spec
-    shared-slice-read-wide
-    wide-requires
+    shared-slice-read-word
+    word-requires
     returns
     returns-2
     mark-objects-requires

@@ -18,11 +18,11 @@ Inv-loop heap mark i₀ i = Scan (zeroAt heap) (markOf heap) (length heap) i
 abbrev μ-loop : tie.MeasureT-loop
 μ-loop heap mark i₀ i = length heap - i
 
-shared-slice-read-wide : tie.Need-shared-slice-read-wide Inv-loop μ-loop
-shared-slice-read-wide c = omega arith
+shared-slice-read-word : tie.Need-shared-slice-read-word Inv-loop μ-loop
+shared-slice-read-word c = omega arith
 
-wide-requires : tie.Need-wide-requires Inv-loop μ-loop
-wide-requires c κs = search needs
+word-requires : tie.Need-word-requires Inv-loop μ-loop
+word-requires c κs = search needs
 
 all-zero-requires : tie.Need-all-zero-requires Inv-loop μ-loop
 all-zero-requires c κs = search needs
@@ -30,12 +30,12 @@ all-zero-requires c κs = search needs
 returns : tie.Need-returns Inv-loop μ-loop
 returns c =
     let h = c .before .before .before .before .before .args .heap .now in
-    let S = c .before .before .wide .ensures in
+    let S = c .before .before .word .ensures in
     rw (← S .is)
     (every-clean (zeroAt h) _ (length h) (omega arith) (subst (Every (zeroAt h) _ (length h)) (c .if1 .taken) (c .before .all-zero .ensures)))
 
 loop-holds : tie.Need-loop-holds Inv-loop μ-loop
-loop-holds c = rw (← c .before .before .wide .ensures .is) (scan-none _ _ _)
+loop-holds c = rw (← c .before .before .word .ensures .is) (scan-none _ _ _)
 
 mul-if2 : tie.Need-mul-if2 Inv-loop μ-loop
 mul-if2 c = search needs
@@ -64,8 +64,8 @@ free-zero-spec =
     (tie.spec
     Inv-loop
     μ-loop
-    shared-slice-read-wide
-    wide-requires
+    shared-slice-read-word
+    word-requires
     all-zero-requires
     returns
     loop-holds

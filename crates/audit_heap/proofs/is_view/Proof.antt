@@ -4,18 +4,18 @@ use Rattle.model.specs.Heap.{kindAt}
 use Rattle.audit_heap.proofs.is_view.Statement.{statement}
 use Rattle.audit_heap.proofs.is_view.Tie as tie
 
-mul-wide : tie.Need-mul-wide
-mul-wide c = search needs
+mul-word : tie.Need-mul-word
+mul-word c = search needs
 
-shared-slice-read-wide : tie.Need-shared-slice-read-wide
-shared-slice-read-wide c = search needs
+shared-slice-read-word : tie.Need-shared-slice-read-word
+shared-slice-read-word c = search needs
 
-wide-requires : tie.Need-wide-requires
-wide-requires c κs = search needs
+word-requires : tie.Need-word-requires
+word-requires c κs = search needs
 
 returns : tie.Need-returns
 unfolding kindAt
-returns c = rw (c .wide .ensures .is)
+returns c = rw (c .word .ensures .is)
 
 pub is-view-spec : {M : Type 1} → statement M
-is-view-spec = tie.close (tie.spec mul-wide shared-slice-read-wide wide-requires returns)
+is-view-spec = tie.close (tie.spec mul-word shared-slice-read-word word-requires returns)

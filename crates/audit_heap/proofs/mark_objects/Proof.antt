@@ -20,11 +20,11 @@ abbrev μ-loop : tie.MeasureT-loop
 slice-write-marks : tie.Need-slice-write-marks Inv-loop μ-loop
 slice-write-marks c = omega arith
 
-shared-slice-read-wide : tie.Need-shared-slice-read-wide Inv-loop μ-loop
-shared-slice-read-wide c = omega arith
+shared-slice-read-word : tie.Need-shared-slice-read-word Inv-loop μ-loop
+shared-slice-read-word c = omega arith
 
-wide-requires : tie.Need-wide-requires Inv-loop μ-loop
-wide-requires c κs = search needs
+word-requires : tie.Need-word-requires Inv-loop μ-loop
+word-requires c κs = search needs
 
 loop-holds : tie.Need-loop-holds Inv-loop μ-loop
 loop-holds c =
@@ -45,7 +45,7 @@ same-length c =
 returns : tie.Need-returns Inv-loop μ-loop
 returns c =
     let turn = c .before .before .before .before in
-    marking-fault _ _ _ _ _ _ (turn .before .loop .inv .1) (turn .before .before .wide .ensures) _ _ _ (turn .loop-test .taken)
+    marking-fault _ _ _ _ _ _ (turn .before .loop .inv .1) (turn .before .before .word .ensures) _ _ _ (turn .loop-test .taken)
     (c .before .before .before .judge-object .ensures) (c .before .a .given .1)
 
 enum-told : tie.Need-enum-told Inv-loop μ-loop
@@ -55,11 +55,11 @@ slice-write-marks-2 : tie.Need-slice-write-marks-2 Inv-loop μ-loop
 slice-write-marks-2 c = omega arith
 
 object : (c : tie.After-enum-told Inv-loop μ-loop) →
-    Object (c .before .before .before .before .before .before .before .before .before .args .heap .now) (c .before .before .before .before .loop .q) (c .before .before .before .before .before .wide
+    Object (c .before .before .before .before .before .before .before .before .before .args .heap .now) (c .before .before .before .before .loop .q) (c .before .before .before .before .before .word
     .result)
 object c =
     let turn = c .before .before .before .before in
-    marking-object _ _ _ _ _ _ (turn .loop .inv .1) (turn .before .wide .ensures) _ (c .before .before .judge-object .ensures) (c .enum-told .given .1)
+    marking-object _ _ _ _ _ _ (turn .loop .inv .1) (turn .before .word .ensures) _ (c .before .before .judge-object .ensures) (c .enum-told .given .1)
 
 ptrs-at-requires : tie.Need-ptrs-at-requires Inv-loop μ-loop
 ptrs-at-requires c κs = omega (arith, object c)
@@ -82,7 +82,7 @@ loop-again c =
     let turn = judged .before .before .before in
     let l = turn .before .loop in (
       length-set (l .marks) (l .q) true ∙ l .inv .0,
-      marking-more _ _ _ _ _ _ (l .inv .1) (turn .before .before .wide .ensures) _ _ _ _ _ (turn .before .before .before .before .before .before .pre .0)
+      marking-more _ _ _ _ _ _ (l .inv .1) (turn .before .before .word .ensures) _ _ _ _ _ (turn .before .before .before .before .before .before .pre .0)
           (turn .loop-test .taken) (judged .before .before .judge-object .ensures) (judged .enum-told .given .1) (c .before .ptrs-at .ensures) (c .size-at .ensures),
     )
 
@@ -90,7 +90,7 @@ same-length-2 : tie.Need-same-length-2 Inv-loop μ-loop
 same-length-2 c = c .before .loop .inv .0 ∙ length-set (c .before .before .before .before .before .before .args .marks .now) 0 true
 
 returns-2 : tie.Need-returns-2 Inv-loop μ-loop
-returns-2 c = marking-end _ _ _ _ _ _ (c .before .loop .inv .1) (c .before .before .wide .ensures) (c .loop-test .left)
+returns-2 c = marking-end _ _ _ _ _ _ (c .before .loop .inv .1) (c .before .before .word .ensures) (c .loop-test .left)
 
 pub mark-objects-spec : {M : Type 1} → statement M
 mark-objects-spec =
@@ -99,8 +99,8 @@ mark-objects-spec =
     Inv-loop
     μ-loop
     slice-write-marks
-    shared-slice-read-wide
-    wide-requires
+    shared-slice-read-word
+    word-requires
     loop-holds
     judge-object-requires
     enum-known-a

@@ -17,11 +17,11 @@ abbrev μ-loop : tie.MeasureT-loop
 returns : tie.Need-returns Inv-loop μ-loop
 returns c = pointing-nothing _ _ _ (c .before .before .before .pre .2) (c .if1 .taken)
 
-shared-slice-read-wide : tie.Need-shared-slice-read-wide Inv-loop μ-loop
-shared-slice-read-wide c = omega arith
+shared-slice-read-word : tie.Need-shared-slice-read-word Inv-loop μ-loop
+shared-slice-read-word c = omega arith
 
-wide-requires : tie.Need-wide-requires Inv-loop μ-loop
-wide-requires c κs = search needs
+word-requires : tie.Need-word-requires Inv-loop μ-loop
+word-requires c κs = search needs
 
 loop-holds : tie.Need-loop-holds Inv-loop μ-loop
 loop-holds c = pointing-none _ _ (c .before .before .before .before .before .pre .0) (c .before .before .before .before .before .pre .1)
@@ -37,7 +37,7 @@ add-end c = omega (arith, c .ptrs-at .ensures .small)
 
 object : (c : tie.In-loop Inv-loop μ-loop) →
     Object (c .before .before .before .before .before .before .before .args .heap .now) (c .before .loop .q) (markOf (c .before .before .before .before .before .before .before .args .heap .now))
-object c = pointing-object _ _ _ _ _ (c .before .loop .inv) (c .before .before .wide .ensures) (c .loop-test .taken)
+object c = pointing-object _ _ _ _ _ (c .before .loop .inv) (c .before .before .word .ensures) (c .loop-test .taken)
 
 bad-pointer-requires : tie.Need-bad-pointer-requires Inv-loop μ-loop
 bad-pointer-requires c κs = omega (arith, object (c .before), c .ptrs-at .ensures .is)
@@ -48,7 +48,7 @@ enum-known-a c = search needs
 returns-2 : tie.Need-returns-2 Inv-loop μ-loop
 returns-2 c =
     let turn = c .before .before .before .before .before in
-    pointing-bad _ _ _ _ _ (turn .before .loop .inv) (turn .before .before .wide .ensures) _ _ _ _ (turn .loop-test .taken)
+    pointing-bad _ _ _ _ _ (turn .before .loop .inv) (turn .before .before .word .ensures) _ _ _ _ (turn .loop-test .taken)
     (c .before .before .before .before .ptrs-at .ensures) (c .before .before .before .bad-pointer .ensures) (c .before .a .given .1)
 
 enum-told : tie.Need-enum-told Inv-loop μ-loop
@@ -66,11 +66,11 @@ loop-less c = omega (arith, object (c .before .before .before .before .before), 
 loop-again : tie.Need-loop-again Inv-loop μ-loop
 loop-again c =
     let turn = c .before .before .before .before .before in
-    pointing-more _ _ _ _ _ (turn .before .loop .inv) (turn .before .before .wide .ensures) _ _ _ _ _ (turn .loop-test .taken)
+    pointing-more _ _ _ _ _ (turn .before .loop .inv) (turn .before .before .word .ensures) _ _ _ _ _ (turn .loop-test .taken)
     (c .before .before .before .before .ptrs-at .ensures) (c .before .before .before .bad-pointer .ensures) (c .before .enum-told .given .1) (c .size-at .ensures)
 
 returns-3 : tie.Need-returns-3 Inv-loop μ-loop
-returns-3 c = pointing-end _ _ _ _ _ (c .before .loop .inv) (c .before .before .wide .ensures) (c .loop-test .left)
+returns-3 c = pointing-end _ _ _ _ _ (c .before .loop .inv) (c .before .before .word .ensures) (c .loop-test .left)
 
 pub pointers-right-spec : {M : Type 1} → statement M
 pointers-right-spec =
@@ -79,8 +79,8 @@ pointers-right-spec =
     Inv-loop
     μ-loop
     returns
-    shared-slice-read-wide
-    wide-requires
+    shared-slice-read-word
+    word-requires
     loop-holds
     add-from
     ptrs-at-requires

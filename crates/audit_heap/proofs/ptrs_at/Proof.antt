@@ -5,18 +5,18 @@ use Rattle.model.specs.Heap.{ptrsAt}
 use Rattle.audit_heap.proofs.ptrs_at.Statement.{statement}
 use Rattle.audit_heap.proofs.ptrs_at.Tie as tie
 
-mul-wide : tie.Need-mul-wide
-mul-wide c = search needs
+mul-word : tie.Need-mul-word
+mul-word c = search needs
 
-shared-slice-read-wide : tie.Need-shared-slice-read-wide
-shared-slice-read-wide c = search needs
+shared-slice-read-word : tie.Need-shared-slice-read-word
+shared-slice-read-word c = search needs
 
-wide-requires : tie.Need-wide-requires
-wide-requires c κs = search needs
+word-requires : tie.Need-word-requires
+word-requires c κs = search needs
 
 returns : tie.Need-returns
 unfolding ptrsAt
-returns c = record { is = rw (c .wide .ensures .is); small = omega arith }
+returns c = record { is = rw (c .word .ensures .is); small = omega arith }
 
 pub ptrs-at-spec : {M : Type 1} → statement M
-ptrs-at-spec = tie.close (tie.spec mul-wide shared-slice-read-wide wide-requires returns)
+ptrs-at-spec = tie.close (tie.spec mul-word shared-slice-read-word word-requires returns)

@@ -6,11 +6,11 @@ use Rattle.audit_places.specs.Places.{beyond}
 use Rattle.audit_places.proofs.byte_at.Statement.{statement}
 use Rattle.audit_places.proofs.byte_at.Tie as tie
 
-shared-slice-read-wide : tie.Need-shared-slice-read-wide
-shared-slice-read-wide c = search needs
+shared-slice-read-byte : tie.Need-shared-slice-read-byte
+shared-slice-read-byte c = search needs
 
-wide-requires : tie.Need-wide-requires
-wide-requires c κs = search needs
+byte-requires : tie.Need-byte-requires
+byte-requires c κs = search needs
 
 returns : tie.Need-returns
 returns c = search needs
@@ -19,4 +19,4 @@ returns-2 : tie.Need-returns-2
 returns-2 c = record { is = sym (beyond (c .before .before .args .file .now) (c .before .before .args .p) 0 (omega arith)); small = omega arith }
 
 pub byte-at-spec : {M : Type 1} → statement M
-byte-at-spec = tie.close (tie.spec shared-slice-read-wide wide-requires returns returns-2)
+byte-at-spec = tie.close (tie.spec shared-slice-read-byte byte-requires returns returns-2)

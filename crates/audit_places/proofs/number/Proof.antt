@@ -2,7 +2,7 @@
 use mathlib.Core.Path.{sym}
 use native.Mathlib.Omega.{arith}
 use borrow.Author.Needs.{needs}
-use Rattle.check_scan.specs.Marks.{getD-any}
+use Rattle.laws.specs.Members.{getD-any}
 use Rattle.audit_places.specs.Places.{beyond}
 use Rattle.audit_places.proofs.number.Statement.{statement}
 use Rattle.audit_places.proofs.number.Tie as tie

@@ -9,7 +9,7 @@ use borrow.Author.Needs.{needs}
 use Rattle.model.specs.File.{insAt}
 use Rattle.model.specs.Checker.{effectOf}
 use Rattle.model.specs.Sound.{callerTests}
-use Rattle.audit_records.specs.Tests.{fails, decided}
+use Rattle.laws.specs.Tests.{fails, decided}
 use Rattle.control_stack.specs.Layout.{theFrame}
 use Rattle.audit_records.specs.Records.{call-after, call-pops, is-call, not-call}
 use Rattle.audit_records.proofs.caller_right.Statement.{statement}

@@ -2,7 +2,7 @@
 use mathlib.Core.Path.{refl}
 use borrow.Author.Tests.{eqb-true}
 use Rattle.model.specs.Sound.{firstTests}
-use Rattle.audit_records.specs.Tests.{fails, decided}
+use Rattle.laws.specs.Tests.{fails, decided}
 use Rattle.control_stack.specs.Layout.{theFrame}
 use Rattle.audit_records.specs.Records.{theLook}
 use Rattle.audit_records.proofs.first_right.Statement.{statement}

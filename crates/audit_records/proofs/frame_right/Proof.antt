@@ -7,7 +7,7 @@ use borrow.Author.Tests.{not-true, not-false, leb-true}
 use borrow.Author.Needs.{needs}
 use Rattle.model.specs.Sound.{frameTests}
 use Rattle.audit_places.specs.Places.{in-proc-true, in-proc-below}
-use Rattle.audit_records.specs.Tests.{fails, decided}
+use Rattle.laws.specs.Tests.{fails, decided}
 use Rattle.control_stack.specs.Layout.{theFrame}
 use Rattle.audit_records.specs.Records.{theLook, not-within}
 use Rattle.audit_records.proofs.frame_right.Statement.{statement}

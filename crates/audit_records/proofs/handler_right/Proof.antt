@@ -4,7 +4,7 @@ use native.Mathlib.Omega.{arith}
 use borrow.Author.Tests.{eqb-true}
 use borrow.Author.Needs.{needs}
 use Rattle.model.specs.Sound.{handlerTests}
-use Rattle.audit_records.specs.Tests.{fails, decided}
+use Rattle.laws.specs.Tests.{fails, decided}
 use Rattle.control_stack.specs.Layout.{theHandler}
 use Rattle.audit_records.specs.Records.{theLook}
 use Rattle.audit_records.proofs.handler_right.Statement.{statement}

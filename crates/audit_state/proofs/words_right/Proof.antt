@@ -4,7 +4,7 @@ use borrow.Author.Tests.{not-true, not-false}
 use borrow.Author.Needs.{needs}
 use Rattle.model.specs.Control.{Machine}
 use Rattle.model.specs.Sound.{stackTests}
-use Rattle.audit_records.specs.Tests.{fails}
+use Rattle.laws.specs.Tests.{fails}
 use Rattle.audit_state.specs.Audit.{rest-last}
 use Rattle.audit_state.proofs.words_right.Statement.{statement}
 use Rattle.audit_state.proofs.words_right.Tie as tie

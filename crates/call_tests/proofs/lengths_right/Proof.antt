@@ -1,5 +1,5 @@
 -- `call_tests::lengths_right` meets its contract: the model's tests in their order.
-use Rattle.model.specs.Laws.{cases}
+use Rattle.laws.specs.Choices.{cases}
 use Rattle.call_tests.specs.Admit.{test-self}
 use Rattle.call_tests.proofs.lengths_right.Statement.{statement}
 use Rattle.call_tests.proofs.lengths_right.Tie as tie

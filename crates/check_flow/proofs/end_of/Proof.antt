@@ -1,5 +1,5 @@
 -- `check_flow::end_of` meets its contract: the next head, or the end of the file.
-use Rattle.model.specs.Laws.{cases}
+use Rattle.laws.specs.Choices.{cases}
 use borrow.Author.Needs.{needs}
 use Rattle.check_flow.proofs.end_of.Statement.{statement}
 use Rattle.check_flow.proofs.end_of.Tie as tie

@@ -3,7 +3,7 @@ use mathlib.Core.Path.{_≡_, refl, sym}
 use Prim.Native.Nat.{_-_}
 use native.Mathlib.Omega.{arith}
 use lib.ListN.{length}
-use Rattle.theory_checker.specs.Walk.{after-above}
+use Rattle.laws_file.specs.Walk.{after-above}
 use Rattle.check_flow.specs.Ways.{Bounds}
 use Rattle.check_flow.specs.Flowing.{Flowing, first-whole, begun-table, head-size, flowing-start, flowing-inside, flowing-head, flowing-here, flowing-fault, flowing-take, flowing-end}
 use Rattle.check_flow.proofs.flow.Statement.{statement}

@@ -3,7 +3,6 @@ use native.Mathlib.Omega.{arith}
 use Rattle.check_rows.specs.Tests.{asState}
 use Rattle.check_flow.specs.Faults.{outer-none, outer-some}
 use mathlib.Core.Logic.{⊎-elim}
-use Rattle.check_flow.specs.Faults.{outer-none, outer-some}
 use Rattle.check_flow.proofs.outer_of.Statement.{statement}
 use Rattle.check_flow.proofs.outer_of.Tie as tie
 

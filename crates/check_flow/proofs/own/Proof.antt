@@ -1,5 +1,5 @@
 -- `check_flow::own` meets its contract: outside the procedure nothing is its own, within it the map tells.
-use Rattle.model.specs.Laws.{cases}
+use Rattle.laws.specs.Choices.{cases}
 use borrow.Author.Needs.{needs}
 use Rattle.check_flow.proofs.own.Statement.{statement}
 use Rattle.check_flow.proofs.own.Tie as tie

@@ -6,7 +6,7 @@ use mathlib.Core.Path.{_≡_, _∙_, refl, ap}
 use native.Mathlib.Omega.{arith}
 use Rattle.model.specs.File.{codes, bodies, bodyOf, insOf}
 use Rattle.model.specs.Checker.{basicEffect}
-use Rattle.code_file.specs.Kinds.{every}
+use Rattle.laws_file.specs.Kinds.{every}
 use Rattle.check_rows.specs.Shape.{Next, Raise, shapeOf}
 use Rattle.check_rows.specs.Site.{room, low}
 use Rattle.check_rows.specs.Kinds.{body-locals, body-blocks, ins-raise, body-raise}

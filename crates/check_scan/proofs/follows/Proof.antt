@@ -1,6 +1,6 @@
 -- `check_scan::follows` meets its contract: past the file nothing starts, in it the map tells.
 use borrow.Author.Needs.{needs}
-use Rattle.model.specs.Laws.{cases}
+use Rattle.laws.specs.Choices.{cases}
 use Rattle.check_scan.specs.Heading.{startsAt}
 use Rattle.check_scan.proofs.follows.Statement.{statement}
 use Rattle.check_scan.proofs.follows.Tie as tie

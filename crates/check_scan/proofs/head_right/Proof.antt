@@ -1,5 +1,5 @@
 -- `check_scan::head_right` meets its contract: each rule is tested in the model's order.
-use Rattle.model.specs.Laws.{cases, if-true}
+use Rattle.laws.specs.Choices.{cases, if-true}
 use Rattle.check_scan.specs.Heading.{headOk, numberOk}
 use borrow.Author.Needs.{needs}
 use Rattle.check_scan.proofs.head_right.Statement.{statement}

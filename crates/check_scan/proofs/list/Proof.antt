@@ -1,7 +1,7 @@
 -- `check_scan::list` meets its contract: each branch decides the two choices.
 use native.Mathlib.Omega.{arith}
 use borrow.Author.Tests.{ne-eqb}
-use Rattle.model.specs.Laws.{cases}
+use Rattle.laws.specs.Choices.{cases}
 use Rattle.check_scan.specs.Scanning.{listIn, lastIn}
 use borrow.Author.Needs.{needs}
 use Rattle.check_scan.proofs.list.Statement.{statement}

@@ -8,23 +8,23 @@ use borrow.Author.Needs.{needs}
 use Rattle.code_file.proofs.body.Statement.{statement}
 use Rattle.code_file.proofs.body.Tie as tie
 
-wide-requires : tie.Need-wide-requires
-wide-requires c κs = search needs
+byte-requires : tie.Need-byte-requires
+byte-requires c κs = search needs
 
-element-copy-out-wide : tie.Need-element-copy-out-wide
-element-copy-out-wide c = search needs
+element-copy-out-byte : tie.Need-element-copy-out-byte
+element-copy-out-byte c = search needs
 
-wide-requires-2 : tie.Need-wide-requires-2
-wide-requires-2 c κs = search needs
+byte-requires-2 : tie.Need-byte-requires-2
+byte-requires-2 c κs = search needs
 
 returns : tie.Need-returns
 returns c = record {
-  is = c .wide2 .ensures .is
-      ∙ ap (λ (l : List ℕ). getD l (c .before .before .wide .result) 0) (c .before .before .before .pre)
-      ∙ ap (λ (i : ℕ). getD lengths i 0) (c .before .before .wide .ensures .is)
+  is = c .byte2 .ensures .is
+      ∙ ap (λ (l : List ℕ). getD l (c .before .before .byte .result) 0) (c .before .before .before .pre)
+      ∙ ap (λ (i : ℕ). getD lengths i 0) (c .before .before .byte .ensures .is)
       ∙ lengths-are (c .before .before .before .args .kind) (search needs);
-  small = c .wide2 .ensures .small;
+  small = c .byte2 .ensures .small;
 }
 
 pub body-spec : {M : Type 1} → statement M
-body-spec = tie.close (tie.spec wide-requires element-copy-out-wide wide-requires-2 returns)
+body-spec = tie.close (tie.spec byte-requires element-copy-out-byte byte-requires-2 returns)

@@ -4,23 +4,23 @@ use borrow.Author.Needs.{needs}
 use Rattle.code_file.proofs.operand.Statement.{statement}
 use Rattle.code_file.proofs.operand.Tie as tie
 
-add-wide : tie.Need-add-wide
-add-wide c = search needs
+add-byte : tie.Need-add-byte
+add-byte c = search needs
 
-shared-slice-read-wide : tie.Need-shared-slice-read-wide
-shared-slice-read-wide c = search needs
+shared-slice-read-byte : tie.Need-shared-slice-read-byte
+shared-slice-read-byte c = search needs
 
-wide-requires : tie.Need-wide-requires
-wide-requires c κs = search needs
+byte-requires : tie.Need-byte-requires
+byte-requires c κs = search needs
 
-add-wide-2 : tie.Need-add-wide-2
-add-wide-2 c = search needs
+add-byte-2 : tie.Need-add-byte-2
+add-byte-2 c = search needs
 
-shared-slice-read-wide-2 : tie.Need-shared-slice-read-wide-2
-shared-slice-read-wide-2 c = search needs
+shared-slice-read-byte-2 : tie.Need-shared-slice-read-byte-2
+shared-slice-read-byte-2 c = search needs
 
-wide-requires-2 : tie.Need-wide-requires-2
-wide-requires-2 c κs = search needs
+byte-requires-2 : tie.Need-byte-requires-2
+byte-requires-2 c κs = search needs
 
 mul-result : tie.Need-mul-result
 mul-result c = search needs
@@ -36,12 +36,12 @@ pub operand-spec : {M : Type 1} → statement M
 operand-spec =
     tie.close
     (tie.spec
-    add-wide
-    shared-slice-read-wide
-    wide-requires
-    add-wide-2
-    shared-slice-read-wide-2
-    wide-requires-2
+    add-byte
+    shared-slice-read-byte
+    byte-requires
+    add-byte-2
+    shared-slice-read-byte-2
+    byte-requires-2
     mul-result
     add-result
     returns)

@@ -1,5 +1,5 @@
 -- `code_file::signed_byte`: by the definition's own test.
-use Rattle.model.specs.Laws.{cases}
+use Rattle.laws.specs.Choices.{cases}
 use Rattle.model.specs.File.{signedByte}
 use borrow.Author.Needs.{needs}
 use Rattle.code_file.proofs.signed_byte.Statement.{statement}

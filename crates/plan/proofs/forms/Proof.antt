@@ -20,8 +20,8 @@ operand2-requires c κs = search needs
 shared-slice-read-mark : tie.Need-shared-slice-read-mark
 shared-slice-read-mark c = search needs
 
-wide-requires : tie.Need-wide-requires
-wide-requires c κs = search needs
+word-requires : tie.Need-word-requires
+word-requires c κs = search needs
 
 add-if1 : tie.Need-add-if1
 add-if1 c = search needs
@@ -43,7 +43,7 @@ returns c =
     omega (
       arith,
       c .if1 .taken,
-      c .before .wide .ensures .is,
+      c .before .word .ensures .is,
       c .before .before .before .operand2 .ensures .is,
       c .before .before .before .before .operand .ensures .is,
     )
@@ -76,7 +76,7 @@ returns-2 c =
     omega (
       arith,
       c .before .before .before .if1 .left,
-      c .before .before .before .before .wide .ensures .is,
+      c .before .before .before .before .word .ensures .is,
       c .before .before .before .before .before .before .operand2 .ensures .is,
       c .before .before .before .before .before .before .before .operand .ensures .is,
     )
@@ -95,7 +95,7 @@ forms-spec =
     operand-requires
     operand2-requires
     shared-slice-read-mark
-    wide-requires
+    word-requires
     add-if1
     add-if1-2
     add-if1-3

@@ -8,9 +8,9 @@ use native.Mathlib.Omega.{arith}
 use lib.Dec.{leb, eqb}
 use lib.ListN.{length}
 use borrow.Author.Tests.{lt-ltb, le-ltb, lt-leb, eq-eqb, ne-eqb, le-leb, leb-true}
-use Rattle.model.specs.Choice.{if_then_else_}
 use Rattle.model.specs.File.{byteAt, bodyOf, unknown, after, whole?, Records, broken, starts, more, recordsFrom, recordsOf}
-use Rattle.theory_checker.specs.Walk.{after-above}
+use Rattle.laws_file.specs.Walk.{after-above}
+use Rattle.model.specs.Choice.{if_then_else_}
 
 -- the records from p on
 unfoldable pub restOf : List ℕ → ℕ → Records

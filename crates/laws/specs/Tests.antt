@@ -6,7 +6,7 @@ use mathlib.Core.List.{List, [], _∷_, _++_}
 use mathlib.Core.Path.{_≡_, refl, sym}
 use lib.ListN.{getD}
 use borrow.Author.Tests.{ne-eqb, lt-leb}
-use Rattle.model.specs.Choice.{if_then_else_, Test, same, most, yes?, holds, all, All, true-all}
+use Rattle.model.specs.Choice.{Test, same, most, yes?, holds, all, All, true-all, if_then_else_}
 
 -- a test fails
 abbrev pub Fails : Test → Type 0

@@ -8,7 +8,7 @@ use mathlib.Core.Path.{_≡_, refl}
 use native.Mathlib.Decide.{ℕ-discrete}
 use lib.Dec.{T, eqb, eqb→eq}
 use borrow.Author.Tests.{ne-eqb}
-use Rattle.model.specs.Choice.{if_then_else_, member}
+use Rattle.model.specs.Choice.{member, if_then_else_}
 use Rattle.model.specs.File as model
 use Rattle.model.specs.File.{unknown, find, bodies, bodyOf, raise, insOf}
 

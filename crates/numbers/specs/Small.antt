@@ -1,4 +1,4 @@
--- What the functions over a code file hand out.
+-- What is said of a number that a function hands out.
 use Prim.Native.Nat.{ℕ, _<_}
 use mathlib.Core.Path.{_≡_}
 

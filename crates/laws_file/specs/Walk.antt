@@ -11,47 +11,10 @@ use native.Mathlib.Omega.{arith}
 use lib.Dec.{ltb, leb, eqb}
 use lib.ListN.{length, getD}
 use borrow.Author.Tests.{ltb-true, ltb-false, leb-true, eqb-true, eqb-false, not-true, le-leb, lt-leb, eq-eqb}
-use Rattle.model.specs.Choice.{if_then_else_, all, All, all-true, true-all, Mem}
+use Rattle.model.specs.Choice.{all, All, all-true, true-all, Mem, if_then_else_, same}
 use Rattle.model.specs.File.{byteAt, headKind, headSize, codes, bodies, find, bodyOf, unknown, after, whole?, Records, broken, starts, more, recordsFrom, recordsOf, startsIn, isHead, listed, isInstruction, select, heads, instructions, procs, headOf, entry, upTo, procAt, headTests, wrong, right, headsFrom, headsOf}
-pub use Rattle.model.specs.Lists.{member-in, in-member}
-use Rattle.theory_checker.specs.Pass.{and-true, Rising}
-
--- members of a list
-pub getD-in : (l : List ℕ) (n d : ℕ) → n < length l → Mem (getD l n d) l
-getD-in [] n d h = absurd (omega arith)
-getD-in (a ∷ l) zero d h = inl refl
-getD-in (a ∷ l) (suc n) d h = inr (getD-in l n d (omega arith))
-
-some : (a : ℕ) (l : List ℕ) → Mem a l → 0 < length l
-some a (b ∷ l) h = omega arith
-
--- what a selection keeps
-module _ (t : ℕ → Bool) where
-  pub select-in : (l : List ℕ) (q : ℕ) → Mem q (select t l) → Mem q l × (t q ≡ true)
-  select-in [] q h = absurd h
-  select-in (p ∷ l) q h = go (t p) refl (select-in l q) h
-    where
-      go : (b : Bool) → t p ≡ b → (Mem q (select t l) → Mem q l × (t q ≡ true)) →
-          Mem q (if b then p ∷ select t l else select t l) → Mem q (p ∷ l) × (t q ≡ true)
-      go true e r (inl h) = (inl h, rw h e)
-      go true e r (inr h) = let w = r h in (inr (w .0), w .1)
-      go false e r h = let w = r h in (inr (w .0), w .1)
-
-  pub in-select : (l : List ℕ) (q : ℕ) → Mem q l → t q ≡ true → Mem q (select t l)
-  in-select (p ∷ l) q (inl h) e = let w : t p ≡ true = rw h at e in rw w (inl h)
-  in-select (p ∷ l) q (inr h) e = go (t p) (in-select l q h e)
-    where
-      go : (b : Bool) → Mem q (select t l) → Mem q (if b then p ∷ select t l else select t l)
-      go true r = inr r
-      go false r = r
-
-  select-rising : (l : List ℕ) → Rising l → Rising (select t l)
-  select-rising [] r = tt
-  select-rising (p ∷ l) r = go (t p) (select-rising l (r .1))
-    where
-      go : (b : Bool) → Rising (select t l) → Rising (if b then p ∷ select t l else select t l)
-      go true w = (λ q h. r .0 q (select-in l q h .0), w)
-      go false w = w
+use Rattle.laws.specs.Choices.{and-true}
+use Rattle.laws.specs.Members.{Rising, getD-in, select-in, member-in, select-rising, has-some, in-select}
 
 -- the records from p on: each begins where the last one ends
 abbrev pub Walk : List ℕ → ℕ → List ℕ → Type 0
@@ -269,7 +232,7 @@ module _ (f ps : List ℕ) (e : recordsOf f ≡ starts ps) where
 
   pub procs-some : 0 < procs f
   unfolding procs heads isHead
-  procs-some = rw e (some 0 (select (isHead f) ps) (in-select (isHead f) ps 0 (zero-in ps walk) (eq-eqb (byteAt f 0) headKind first-head)))
+  procs-some = rw e (has-some 0 (select (isHead f) ps) (in-select (isHead f) ps 0 (zero-in ps walk) (eq-eqb (byteAt f 0) headKind first-head)))
 
   pub proc-below : (p : ℕ) → procAt f p < procs f
   unfolding procs procAt

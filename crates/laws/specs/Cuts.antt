@@ -1,22 +1,22 @@
--- Lists of words and of control records: what a cut, a store and a stored record leave, read word by word or record by record from the
--- top. Each law is an induction on the list, or follows from one of its words.
-use Prim.Native.Nat.{ℕ, zero, suc, _+_, _*_, _<_, _≤_}
-use mathlib.Core.Path.{_≡_, refl, ap, _∙_}
+-- Stacks as lists of words: what is left where words above a top are zeroed, all at once or one by one, and where a word is stored.
+-- Each law is an induction on the list, or follows from one of its words.
+use Prim.Native.Nat.{ℕ, zero, suc, _+_, _<_, _≤_, _-_}
 use mathlib.Core.Bool.{true}
 use mathlib.Core.List.{List, [], _∷_}
-use mathlib.Core.Logic.{_⊎_, inl, inr}
+use mathlib.Core.Logic.{_⊎_, ⊎-elim}
+use mathlib.Core.Path.{_≡_, refl, ap, sym, _∙_, subst}
 use native.Mathlib.Omega.{arith}
-use native.Mathlib.Decide.{ℕ-discrete, decLt}
-use lib.ListN.{length, take, drop, set}
-use lib.Seq.{length-sets, getD-set-same, getD-set-other, set-out, getD-drop, slice}
 use lib.Dec.{eqb}
+use lib.ListN.{length, set, take, drop}
+use lib.Seq.{getD-set-same, getD-set-other, set-out, getD-drop, slice}
 use borrow.Author.Tests.{eqb-true, eq-eqb}
-use Rattle.model.specs.Lists.{sets-other, sets-at}
-use Rattle.model.specs.Choice.{if-both}
+use Rattle.model.specs.Choice.{if-both, all}
 use Rattle.model.specs.Words.{wordAt, cut}
+use native.Mathlib.Decide.{ℕ-discrete, decLt}
 use Rattle.model.specs.Heap.{isPointer}
-use Rattle.model.specs.Control.{Rec, recordWords, recAt, down, putRec}
+use Rattle.model.specs.Control.{down}
 use Rattle.model.specs.Sound.{zeros, pointers}
+use native.Mathlib.Nat.{eq-or-lt-of-le}
 
 -- the words from t on are 0; every word has a property
 abbrev pub Zero : ℕ → List ℕ → Type 0
@@ -109,56 +109,59 @@ pub true-pointers : (os l : List ℕ) → Each (λ v. isPointer os v ≡ true) l
 true-pointers os [] h = refl
 true-pointers os (v ∷ l) h = rw (h 0) (true-pointers os l (λ i. h (suc i)))
 
--- records: the same words, the same records
-pub rec-same : {r s : Rec} → r .w0 ≡ s .w0 → r .w1 ≡ s .w1 → r .w2 ≡ s .w2 → r .w3 ≡ s .w3 → r .w4 ≡ s .w4 → r ≡ s
-rec-same a b c d e i = record { w0 = a i; w1 = b i; w2 = c i; w3 = d i; w4 = e i }
+-- where the words are 0 already, a cut changes nothing
+pub cut-same : (t : ℕ) (l : List ℕ) → ((i : ℕ) → t ≤ i → wordAt l i ≡ 0) → cut t l ≡ l
+unfolding cut
+cut-same t [] z = refl
+cut-same zero (w ∷ l) z = rw (z 0 (omega arith), cut-same zero l (λ i h. z (suc i) (omega arith)))
+cut-same (suc t) (w ∷ l) z = ap (λ (k : List ℕ). w ∷ k) (cut-same t l (λ i h. z (suc i) (omega arith)))
 
-pub down-alike : (l l′ : List ℕ) (n : ℕ) → ((i : ℕ) → i < recordWords * n → wordAt l i ≡ wordAt l′ i) → down l n ≡ down l′ n
-unfolding recAt
-down-alike l l′ zero h = refl
-down-alike l l′ (suc k) h =
-    let at = recordWords * k in
-    let r : recAt l k ≡ recAt l′ k =
-    rec-same (h (at + 0) (omega arith)) (h (at + 1) (omega arith)) (h (at + 2) (omega arith)) (h (at + 3) (omega arith))
-    (h (at + 4) (omega arith)) in
-    let rs = down-alike l l′ k (λ i w. h i (omega arith)) in
-    λ i. r i ∷ rs i
+-- one word further down
+pub cut-down : (i : ℕ) (l : List ℕ) → set (cut (suc i) l) i 0 ≡ cut i l
+unfolding cut
+cut-down i [] = refl
+cut-down zero (w ∷ l) = refl
+cut-down (suc i) (w ∷ l) = ap (λ (k : List ℕ). w ∷ k) (cut-down i l)
 
-pub down-cut : (l : List ℕ) (n t : ℕ) → recordWords * n ≤ t → down (cut t l) n ≡ down l n
-down-cut l n t h = down-alike (cut t l) l n (λ i w. cut-word t l i (omega arith))
+pub cut-next : (n i : ℕ) (l₀ l : List ℕ) → n < i → l ≡ cut i l₀ → set l (i - 1) 0 ≡ cut (i - 1) l₀
+cut-next n i l₀ l h e =
+    let s : i ≡ suc (i - 1) = omega arith in
+    ap (λ (x : List ℕ). set x (i - 1) 0) (e ∙ ap (λ (k : ℕ). cut k l₀) s) ∙ cut-down (i - 1) l₀
 
-pub down-length : (l : List ℕ) (n : ℕ) → length (down l n) ≡ n
-down-length l zero = refl
-down-length l (suc k) = ap suc (down-length l k)
+pub cut-cut : (s t : ℕ) (l : List ℕ) → s ≤ t → cut s (cut t l) ≡ cut s l
+unfolding cut
+cut-cut s t [] h = refl
+cut-cut zero zero (w ∷ l) h = ap (λ (k : List ℕ). 0 ∷ k) (cut-cut zero zero l (omega arith))
+cut-cut zero (suc t) (w ∷ l) h = ap (λ (k : List ℕ). 0 ∷ k) (cut-cut zero t l (omega arith))
+cut-cut (suc s) zero (w ∷ l) h = absurd (omega arith)
+cut-cut (suc s) (suc t) (w ∷ l) h = ap (λ (k : List ℕ). w ∷ k) (cut-cut s t l (omega arith))
 
--- a record put on top of k others
-abbrev wordsOf : Rec → List ℕ
-wordsOf r = r .w0 ∷ r .w1 ∷ r .w2 ∷ r .w3 ∷ r .w4 ∷ []
+pub cut-topped : (t : ℕ) (l : List ℕ) → t ≤ length l → Topped t (cut t l)
+cut-topped t l h = record { fits = rw length-cut h; zero = cut-zero t l }
 
-pub length-put : (l : List ℕ) (k : ℕ) (r : Rec) → length (putRec l k r) ≡ length l
-unfolding putRec
-length-put l k r = length-sets l (recordWords * k) (wordsOf r)
+-- a cut to above the top
+pub cut-above : (new old : ℕ) (l : List ℕ) → old ≤ new → Topped old l → l ≡ cut new l
+cut-above new old l h t = sym (cut-same new l (λ i k. t .zero i (omega arith)))
 
-put-other : (l : List ℕ) (k : ℕ) (r : Rec) (i : ℕ) → (i < recordWords * k) ⊎ (recordWords * k + recordWords ≤ i) →
-    wordAt (putRec l k r) i ≡ wordAt l i
-unfolding putRec
-put-other l k r i h = sets-other (wordsOf r) l (recordWords * k) i h
+-- the topmost word zeroed
+pub cut-last : (new old : ℕ) (l : List ℕ) → new < old → Topped old l → set l (old - 1) 0 ≡ cut (old - 1) l
+cut-last new old l h t = cut-next new old l l h (cut-above old old l (omega arith) t)
 
-pub put-zero : (l : List ℕ) (k t : ℕ) (r : Rec) → t ≡ recordWords * k → Zero t l → Zero (t + recordWords) (putRec l k r)
-put-zero l k t r e z i h = put-other l k r i (inr (omega arith)) ∙ z i (omega arith)
+-- a word above the top zeroed again
+cut-again : (i : ℕ) (l : List ℕ) → set (cut i l) i 0 ≡ cut i l
+unfolding cut
+cut-again i [] = refl
+cut-again zero (w ∷ l) = refl
+cut-again (suc i) (w ∷ l) = ap (λ (k : List ℕ). w ∷ k) (cut-again i l)
 
-rec-put : (l : List ℕ) (k : ℕ) (r : Rec) → recordWords * k + recordWords ≤ length l → recAt (putRec l k r) k ≡ r
-unfolding recAt putRec
-rec-put l k r h =
-    let vs = wordsOf r in
-    let at = recordWords * k in
-    rec-same (sets-at vs l at 0 h (omega arith)) (sets-at vs l at 1 h (omega arith)) (sets-at vs l at 2 h (omega arith))
-    (sets-at vs l at 3 h (omega arith))
-    (sets-at vs l at 4 h (omega arith))
+-- one word goes, or two
+pub cut-one : (new old : ℕ) (l : List ℕ) → new < old → old ≤ new + 1 → Topped old l → set l new 0 ≡ cut new l
+cut-one new old l h k t =
+    let e : old - 1 ≡ new = omega arith in
+    subst (λ (i : ℕ). set l i 0 ≡ cut i l) e (cut-last new old l h t)
 
-pub down-put : (l : List ℕ) (k n : ℕ) (r : Rec) → k ≡ n → recordWords * n + recordWords ≤ length l →
-    down (putRec l k r) (suc n) ≡ r ∷ down l n
-down-put l k n r e h =
-    let a : recAt (putRec l k r) n ≡ r = rw e (rec-put l n r h) in
-    let b : down (putRec l k r) n ≡ down l n = down-alike (putRec l k r) l n (λ i w. put-other l k r i (inl (omega arith))) in
-    λ i. a i ∷ b i
+pub cut-two : (new old : ℕ) (l : List ℕ) → new < old → old ≤ new + 2 → Topped old l → set (set l (old - 1) 0) new 0 ≡ cut new l
+cut-two new old l h k t = rw (cut-last new old l h t) (go (old - 1) (omega arith) (omega arith))
+  where
+    go : (i : ℕ) → new ≤ i → i ≤ new + 1 → set (cut i l) new 0 ≡ cut new l
+    go i a b = ⊎-elim (λ e. rw (← e) (cut-again new l)) (λ u. let e : i ≡ suc new = omega arith in rw e (cut-down new l)) (eq-or-lt-of-le a)

@@ -6,8 +6,8 @@ use mathlib.Core.List.{List}
 use native.Mathlib.Omega.{arith}
 use lib.Dec.{eqb}
 use borrow.Author.Tests.{eqb-true}
-use Rattle.model.specs.Choice.{if_then_else_}
 use Rattle.model.specs.File.{Ins, basic, jump, branch, branchKeep, call, return, enter, exit, raise, byteAt, codes, bodyOf, bodies, after, operand, insOf, insAt}
+use Rattle.model.specs.Choice.{if_then_else_}
 
 -- whether an instruction is a call
 calls? : Ins → Bool

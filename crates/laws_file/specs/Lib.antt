@@ -1,0 +1,4 @@
+pub mod Walk
+pub mod Rest
+pub mod Codes
+pub mod Kinds
