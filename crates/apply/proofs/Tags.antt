@@ -16,7 +16,7 @@ use Rattle.plan_meaning.specs.declared.Put.{Put}
 use Rattle.plan_meaning.specs.declared.Plan.{Plan}
 use Rattle.plan_meaning.specs.declared.Plan.the-variants.{Write}
 use Rattle.model.specs.declared.Regs.{Regs}
-use Rattle.apply_words.specs.Asks.{Retract, plainly}
+use Rattle.apply_words.specs.Asks.{Retract, plainWrite}
 use Rattle.plan_meaning.specs.Suits.{FitsIn, Suits}
 use Rattle.apply.specs.Applies.{Late}
 
@@ -29,7 +29,7 @@ abbrev noRecord : List ℕ
 noRecord = 0 ∷ 1 ∷ 2 ∷ 3 ∷ 4 ∷ 5 ∷ 6 ∷ 7 ∷ 8 ∷ 9 ∷ []
 
 pub plain-write : (f : List ℕ) (i : Into) (put : Put) (m : Machine) → OneOf noRecord (tagOf made.the-type i) → Suits f i put m →
-    FitsIn i put m × (plainly i put m ≡ applyInto f i put m)
+    FitsIn i put m × (plainWrite i put m ≡ applyInto f i put m)
 unfolding applyInto
 plain-write f into.Nothing put m k s = (s, refl)
 plain-write f into.Pop put m k s = (s, refl)

@@ -11,16 +11,16 @@ use Rattle.model.specs.Words.{cut}
 use Rattle.model.specs.File.{after}
 use Rattle.model.specs.Control.{Machine, recordWords}
 use Rattle.model.specs.Moves.{finished}
-use Rattle.plan_meaning.specs.Settled.{formedFrom, called, returned, opened, closed, applyInto, applied}
+use Rattle.plan_meaning.specs.Settled.{formedFrom, calledBy, returned, opened, closed, applyInto, applied}
 use Rattle.model.specs.declared.Regs.{Regs}
 use Rattle.plan_meaning.specs.declared.Into.{Into}
 use Rattle.plan_meaning.specs.declared.Into.the-variants as into
 use Rattle.plan_meaning.specs.declared.Put.{Put}
 use Rattle.laws.specs.Cuts.{Topped}
-use Rattle.apply_records.specs.Asks.{Pushes, Room}
-use Rattle.apply_words.specs.Asks.{Plain, Retract, Dropping, onwards, plainly, triedOn, tried as written}
+use Rattle.apply_records.specs.Asks.{PushesRecord, Room}
+use Rattle.apply_words.specs.Asks.{Plain, Retract, Dropping, onwards, plainWrite, triedOn, tried as written}
 use Rattle.apply.specs.declared.Tried.{Tried}
-use Rattle.plan_meaning.specs.Suits.{FitsIn, Forms, Calls, Suits}
+use Rattle.plan_meaning.specs.Suits.{FitsIn, Forms, CallSuits, Suits}
 use Rattle.apply.specs.Applies.{Applies, Late, Lately, tried, appliedIf}
 
 -- by where it writes
@@ -28,7 +28,7 @@ module _ (f : List ℕ) (put : Put) (m : Machine) (A : Applies f put m) where
   suits : {i : Into} → put .into ≡ i → Suits f i put m
   suits e = subst (λ (i : Into). Suits f i put m) e (A .suits)
 
-  pushes : m .regs .ctop + recordWords ≤ length (m .ctl) → Pushes (m .regs) (m .ctl)
+  pushes : m .regs .ctop + recordWords ≤ length (m .ctl) → PushesRecord (m .regs) (m .ctl)
   pushes room =
       let S = A .stands in
       record {
@@ -40,12 +40,12 @@ module _ (f : List ℕ) (put : Put) (m : Machine) (A : Applies f put m) where
       }
 
   pub to-call : put .into ≡ into.Frame →
-      Pushes (m .regs) (m .ctl) × (m .regs .place + 2 < length f) × (after f (m .regs .place) ≡ m .regs .place + 3) × (put .at ≤ 4096)
+      PushesRecord (m .regs) (m .ctl) × (m .regs .place + 2 < length f) × (after f (m .regs .place) ≡ m .regs .place + 3) × (put .at ≤ 4096)
   to-call e =
-      let C : Calls f put m = suits e in
+      let C : CallSuits f put m = suits e in
       (pushes (C .room), C .operand, C .behind, omega (arith, C .base, A .stands .main .fits, A .stands .main-most))
 
-  pub to-open : put .into ≡ into.Handler → Pushes (m .regs) (m .ctl) × (m .regs .mtop ≤ 4096) × (m .regs .ptop ≤ 4096)
+  pub to-open : put .into ≡ into.Handler → PushesRecord (m .regs) (m .ctl) × (m .regs .mtop ≤ 4096) × (m .regs .ptop ≤ 4096)
   to-open e =
       let room : m .regs .ctop + recordWords ≤ length (m .ctl) = suits e in (
         pushes room,
@@ -104,7 +104,7 @@ module _ (f : List ℕ) (put : Put) (m : Machine) (A : Applies f put m) where
 
 -- what each of them leaves
 module _ (f : List ℕ) (put : Put) (m : Machine) where
-  pub call-applied : put .into ≡ into.Frame → called f put m ≡ applied f put m
+  pub call-applied : put .into ≡ into.Frame → calledBy f put m ≡ applied f put m
   unfolding applied applyInto
   call-applied e = rw e
 
@@ -116,7 +116,7 @@ module _ (f : List ℕ) (put : Put) (m : Machine) where
   unfolding applied applyInto
   finish-applied e u = rw (e, eq-eqb (m .regs .frame) 1 u)
 
-  pub drop-applied : Retract (put .into) → plainly (put .into) put m ≡ applied f put m
+  pub drop-applied : Retract (put .into) → plainWrite (put .into) put m ≡ applied f put m
   unfolding applied applyInto
   drop-applied R = ⊎-elim (λ e. rw e) (⊎-elim (λ e. rw e) (λ e. rw e)) R
 
@@ -153,7 +153,7 @@ module _ (f : List ℕ) (put : Put) (m : Machine) (main ptr ctl heap : List ℕ)
 -- a plain write that is done, or left
 module _ (put : Put) (m : Machine) (main ptr heap : List ℕ) where
   pub plain-done : (r : Bool) → record { regs = triedOn r put (m .regs); main = main; ptr = ptr; ctl = m .ctl; heap = heap } ≡ written r (put .into) put m → r ≡ true →
-      record { regs = onwards put (m .regs); main = main; ptr = ptr; ctl = m .ctl; heap = heap } ≡ plainly (put .into) put m
+      record { regs = onwards put (m .regs); main = main; ptr = ptr; ctl = m .ctl; heap = heap } ≡ plainWrite (put .into) put m
   plain-done true e t = e
   plain-done false e t = absurd (true≢false (sym t))
 
@@ -163,7 +163,7 @@ module _ (put : Put) (m : Machine) (main ptr heap : List ℕ) where
   plain-undone false e t = e
 
 -- a plain write leaves the registers on
-pub plainly-state : (i : Into) (put : Put) (m : Machine) → plainly i put m .regs .state ≡ m .regs .state
+pub plainly-state : (i : Into) (put : Put) (m : Machine) → plainWrite i put m .regs .state ≡ m .regs .state
 plainly-state into.Nothing put m = refl
 plainly-state into.Pop put m = refl
 plainly-state into.Push put m = refl

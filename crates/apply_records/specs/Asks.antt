@@ -10,7 +10,7 @@ use Rattle.plan_meaning.specs.declared.Put.{Put}
 use Rattle.control_stack.specs.Layout.{Onto}
 
 -- a record is pushed on the control stack
-pub record Pushes (r : Regs) (ctl : List ℕ) : Type 0 where
+pub record PushesRecord (r : Regs) (ctl : List ℕ) : Type 0 where
   pub place : r .place < fileMost
   pub frame : r .frame ≤ ctlMost
   pub handler : r .handler ≤ ctlMost

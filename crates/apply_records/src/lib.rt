@@ -6,9 +6,9 @@ ghost use lib.ListN.{length};
 ghost use lib.Seq.{sets, slice};
 ghost use Rattle.model.specs.File.{after};
 ghost use Rattle.model.specs.Heap.{viewKind, made};
-ghost use Rattle.plan_meaning.specs.Settled.{called, returned, opened, closed};
+ghost use Rattle.plan_meaning.specs.Settled.{calledBy, returned, opened, closed};
 ghost use Rattle.laws.specs.Cuts.{Topped};
-ghost use Rattle.apply_records.specs.Asks.{Pushes, Room};
+ghost use Rattle.apply_records.specs.Asks.{PushesRecord, Room};
 use plan_meaning::Put;
 use control_stack::Frame;
 use control_stack::Handler;
@@ -31,9 +31,9 @@ fn copy(heap: &mut [u32], to: usize, from: &[u32], start: usize, end: usize)
 
 // 72: a new frame. The operand is its procedure, the return place is behind it.
 pub fn call(file: &[u8], ctl: &mut [u32], regs: Regs, put: Put) -> Regs
-    requires { ⌜ Pushes regs (now ctl) × (regs .place + 2 < length (now file)) × (after (now file) (regs .place) ≡ regs .place + 3) × (put .at ≤ 4096) ⌝ }
+    requires { ⌜ PushesRecord regs (now ctl) × (regs .place + 2 < length (now file)) × (after (now file) (regs .place) ≡ regs .place + 3) × (put .at ≤ 4096) ⌝ }
     ensures { λ r. ⌜ ((main ptr heap : List ℕ) → record { regs = r; main = main; ptr = ptr; ctl = now (ctl .exit); heap = heap }
-        ≡ called (now (file .entry)) put (record { regs = regs; main = main; ptr = ptr; ctl = now (ctl .entry); heap = heap })) ⌝ }
+        ≡ calledBy (now (file .entry)) put (record { regs = regs; main = main; ptr = ptr; ctl = now (ctl .entry); heap = heap })) ⌝ }
 {
     let place = regs.place;
     let top = regs.ctop;
@@ -81,7 +81,7 @@ pub fn leave(ctl: &mut [u32], regs: Regs, put: Put) -> Regs
 
 // 160: a handler's record.
 pub fn open(ctl: &mut [u32], regs: Regs, put: Put) -> Regs
-    requires { ⌜ Pushes regs (now ctl) × (regs .mtop ≤ 4096) × (regs .ptop ≤ 4096) ⌝ }
+    requires { ⌜ PushesRecord regs (now ctl) × (regs .mtop ≤ 4096) × (regs .ptop ≤ 4096) ⌝ }
     ensures { λ r. ⌜ ((main ptr heap : List ℕ) → record { regs = r; main = main; ptr = ptr; ctl = now (ctl .exit); heap = heap }
         ≡ opened put (record { regs = regs; main = main; ptr = ptr; ctl = now (ctl .entry); heap = heap })) ⌝ }
 {

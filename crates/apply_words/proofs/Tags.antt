@@ -14,14 +14,14 @@ use Rattle.model.specs.declared.Regs.{Regs}
 use Rattle.plan_meaning.specs.declared.Into.{Into}
 use Rattle.plan_meaning.specs.declared.Into.the-variants as into
 use Rattle.plan_meaning.specs.declared.Put.{Put}
-use Rattle.plan_meaning.specs.Suits.{Fits, Drops}
-use Rattle.apply_words.specs.Asks.{Plain, Retract, Dropping, plainly}
+use Rattle.plan_meaning.specs.Suits.{WriteFits, Drops}
+use Rattle.apply_words.specs.Asks.{Plain, Retract, Dropping, plainWrite}
 
 -- all but DropMain and DropPointer: no word is put back
 abbrev noneAside : List ℕ
 noneAside = 0 ∷ 1 ∷ 2 ∷ 3 ∷ 4 ∷ 5 ∷ 6 ∷ 7 ∷ 10 ∷ 11 ∷ 12 ∷ 13 ∷ 14 ∷ []
 
-pub none-aside : (i : Into) (put : Put) (m : Machine) → OneOf noneAside (tagOf made.the-type i) → Retract i → cutOnly put m ≡ plainly i put m
+pub none-aside : (i : Into) (put : Put) (m : Machine) → OneOf noneAside (tagOf made.the-type i) → Retract i → cutOnly put m ≡ plainWrite i put m
 none-aside i put m k (inl e) = rw e
 none-aside i put m k (inr (inl e)) = absurd (miss noneAside 8 tt (rw e at k))
 none-aside i put m k (inr (inr e)) = absurd (miss noneAside 9 tt (rw e at k))
@@ -40,7 +40,7 @@ record Drop (i : Into) (lm lp : ℕ) (r : Regs) (put : Put) : Type 0 where
 apart : (i j : Into) → (tagOf made.the-type i ≡ tagOf made.the-type j → ⊥) → i ≡ j → ⊥
 apart i j u e = u (ap (tagOf made.the-type) e)
 
-drop : (i : Into) (lm lp lh : ℕ) (r : Regs) (put : Put) → OneOf others (tagOf made.the-type i) → Fits i lm lp lh r put → Drop i lm lp r put
+drop : (i : Into) (lm lp lh : ℕ) (r : Regs) (put : Put) → OneOf others (tagOf made.the-type i) → WriteFits i lm lp lh r put → Drop i lm lp r put
 drop into.Nothing lm lp lh r put k F = absurd (miss others 0 tt k)
 drop into.Pop lm lp lh r put k F = absurd (miss others 1 tt k)
 drop into.Push lm lp lh r put k F = absurd (miss others 2 tt k)

@@ -7,7 +7,7 @@ use mathlib.Core.List.{List}
 use lib.ListN.{length}
 use Rattle.model.specs.Control.{Machine}
 use Rattle.plan_meaning.specs.Settled.{cutOnly, mainSet, ptrSet, heapSet}
-use Rattle.plan_meaning.specs.Suits.{Drops, Fits}
+use Rattle.plan_meaning.specs.Suits.{Drops, WriteFits}
 use Rattle.model.specs.declared.Regs.{Regs}
 use Rattle.plan_meaning.specs.declared.Into.{Into}
 use Rattle.plan_meaning.specs.declared.Into.the-variants as into
@@ -18,7 +18,7 @@ use Rattle.laws.specs.Cuts.{Topped}
 pub record Plain (lh : ℕ) (main ptr : List ℕ) (r : Regs) (put : Put) : Type 0 where
   pub main-top : Topped (r .mtop) main
   pub ptr-top : Topped (r .ptop) ptr
-  pub fits : Fits (put .into) (length main) (length ptr) lh r put
+  pub fits : WriteFits (put .into) (length main) (length ptr) lh r put
 
 -- a retract: 64, 60 or 62. The word set aside lies in its stack
 abbrev pub Retract : Into → Type 0
@@ -51,28 +51,28 @@ onwards p r =
       state = r .state;
     }
 
-abbrev pub plainly : Into → Put → Machine → Machine
-plainly into.Nothing p m = cutOnly p m
-plainly into.Pop p m = cutOnly p m
-plainly into.Push p m = mainSet p m
-plainly into.Main p m = mainSet p m
-plainly into.Pointer p m = ptrSet p m
-plainly into.Heap p m = heapSet p m
-plainly into.Read p m = mainSet p m
-plainly into.Drop p m = cutOnly p m
-plainly into.DropMain p m = mainSet p m
-plainly into.DropPointer p m = ptrSet p m
-plainly into.View p m = cutOnly p m
-plainly into.Frame p m = cutOnly p m
-plainly into.Return p m = cutOnly p m
-plainly into.Handler p m = cutOnly p m
-plainly into.Close p m = cutOnly p m
+abbrev pub plainWrite : Into → Put → Machine → Machine
+plainWrite into.Nothing p m = cutOnly p m
+plainWrite into.Pop p m = cutOnly p m
+plainWrite into.Push p m = mainSet p m
+plainWrite into.Main p m = mainSet p m
+plainWrite into.Pointer p m = ptrSet p m
+plainWrite into.Heap p m = heapSet p m
+plainWrite into.Read p m = mainSet p m
+plainWrite into.Drop p m = cutOnly p m
+plainWrite into.DropMain p m = mainSet p m
+plainWrite into.DropPointer p m = ptrSet p m
+plainWrite into.View p m = cutOnly p m
+plainWrite into.Frame p m = cutOnly p m
+plainWrite into.Return p m = cutOnly p m
+plainWrite into.Handler p m = cutOnly p m
+plainWrite into.Close p m = cutOnly p m
 
 -- done, or not: then all is as before
 abbrev pub triedOn : Bool → Put → Regs → Regs
 triedOn true p r = onwards p r
 triedOn false p r = r
 
-abbrev pub tried : Bool → Into → Put → Machine → Machine
-tried true i p m = plainly i p m
-tried false i p m = m
+abbrev pub triedWrite : Bool → Into → Put → Machine → Machine
+triedWrite true i p m = plainWrite i p m
+triedWrite false i p m = m

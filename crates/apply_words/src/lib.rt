@@ -8,7 +8,7 @@ ghost use Rattle.model.specs.Words.{cut};
 ghost use Rattle.model.specs.Control.{Machine};
 ghost use Rattle.model.specs.Moves.{finished};
 ghost use Rattle.laws.specs.Cuts.{Topped};
-ghost use Rattle.apply_words.specs.Asks.{Plain, Retract, Dropping, InMain, InPtr, onwards, plainly, tried, triedOn};
+ghost use Rattle.apply_words.specs.Asks.{Plain, Retract, Dropping, InMain, InPtr, onwards, plainWrite, triedWrite, triedOn};
 use plan_meaning::Into;
 use plan_meaning::Put;
 use model::Regs;
@@ -123,7 +123,7 @@ fn put_back(main: &mut [u32], ptr: &mut [u32], put: Put)
     requires { ⌜ Retract (put .into) × InMain (length (now main)) put × InPtr (length (now ptr)) put ⌝ }
     ensures { λ _. ⌜ ((m : Machine) → now (main .entry) ≡ cut (put .mtop) (m .main) → now (ptr .entry) ≡ cut (put .ptop) (m .ptr)
         → record { regs = onwards put (m .regs); main = now (main .exit); ptr = now (ptr .exit); ctl = m .ctl; heap = m .heap }
-        ≡ plainly (put .into) put m) ⌝ }
+        ≡ plainWrite (put .into) put m) ⌝ }
 {
     let into = put.into;
     let at = put.at;
@@ -142,7 +142,7 @@ fn put_back(main: &mut [u32], ptr: &mut [u32], put: Put)
 pub fn drop_all(main: &mut [u32], ptr: &mut [u32], regs: Regs, put: Put)
     requires { ⌜ Dropping (now main) (now ptr) regs put ⌝ }
     ensures { λ _. ⌜ ((ctl heap : List ℕ) → record { regs = onwards put regs; main = now (main .exit); ptr = now (ptr .exit); ctl = ctl; heap = heap }
-        ≡ plainly (put .into) put (record { regs = regs; main = now (main .entry); ptr = now (ptr .entry); ctl = ctl; heap = heap })) ⌝ }
+        ≡ plainWrite (put .into) put (record { regs = regs; main = now (main .entry); ptr = now (ptr .entry); ctl = ctl; heap = heap })) ⌝ }
 {
     cut_to(main, put.mtop, regs.mtop);
     cut_to(ptr, put.ptop, regs.ptop);
@@ -153,7 +153,7 @@ pub fn drop_all(main: &mut [u32], ptr: &mut [u32], regs: Regs, put: Put)
 fn drop_few(main: &mut [u32], ptr: &mut [u32], regs: Regs, put: Put) -> bool
     requires { ⌜ Dropping (now main) (now ptr) regs put ⌝ }
     ensures { λ r. ⌜ ((ctl heap : List ℕ) → record { regs = triedOn r put regs; main = now (main .exit); ptr = now (ptr .exit); ctl = ctl; heap = heap }
-        ≡ tried r (put .into) put (record { regs = regs; main = now (main .entry); ptr = now (ptr .entry); ctl = ctl; heap = heap })) ⌝ }
+        ≡ triedWrite r (put .into) put (record { regs = regs; main = now (main .entry); ptr = now (ptr .entry); ctl = ctl; heap = heap })) ⌝ }
 {
     if 4 < regs.mtop - put.mtop {
         return false;
@@ -178,7 +178,7 @@ pub fn plain(main: &mut [u32], ptr: &mut [u32], heap: &mut [u32], regs: Regs, pu
       ptr = now (ptr .exit);
       ctl = ctl;
       heap = now (heap .exit);
-    } ≡ tried r (put .into) put (record { regs = regs; main = now (main .entry); ptr = now (ptr .entry); ctl = ctl; heap = now (heap .entry) })) ⌝ }
+    } ≡ triedWrite r (put .into) put (record { regs = regs; main = now (main .entry); ptr = now (ptr .entry); ctl = ctl; heap = now (heap .entry) })) ⌝ }
     ensures undone { λ r. ⌜ (r ≡ false → Retract (put .into)) ⌝ }
 {
     let into = put.into;

@@ -27,9 +27,9 @@ abbrev pub freeWords : List ℕ → List ℕ
 freeWords h = range (markOf h) (length h - markOf h)
 
 -- what the audit answers of the model's
-abbrev pub told : Audit → HeapAudit
-told (fault q) = Fault q
-told (clean os) = Clean
+abbrev pub auditAnswer : Audit → HeapAudit
+auditAnswer (fault q) = Fault q
+auditAnswer (clean os) = Clean
 
 -- the first fault of two
 abbrev pub orElse : HeapAudit → HeapAudit → HeapAudit

@@ -13,7 +13,7 @@ use Rattle.model.specs.Words.{wordAt}
 use Rattle.laws.specs.Stores.{sets-other, sets-at}
 use Rattle.model.specs.Heap.{markOf, rootOf, firstObject, kindAt, ptrsAt, sizeAt, kinds, kindIn, kindOf, objectOf, made, Object, Objects, Pointer, Heap}
 use Rattle.audit_heap.specs.First.{mem-append, mem-more, mem-right}
-use Rattle.audit_heap.specs.Objects.{Alike, ptrs-alike, size-alike, objects-alike}
+use Rattle.audit_heap.specs.Objects.{SameHeader, ptrs-alike, size-alike, objects-alike}
 use Rattle.audit_heap.specs.Stores.{object-lies}
 
 -- one object more
@@ -40,7 +40,7 @@ objects-snoc h p mark mark′ (o ∷ os) W O e =
     (W .0, first, objects-snoc h (p + sizeAt h p) mark mark′ os (W .2) O e)
 
 -- what the new object leaves
-pub record Grown (h os : List ℕ) (kind : ℕ) (ps ws : List ℕ) : Type 0 where
+pub record WithNew (h os : List ℕ) (kind : ℕ) (ps ws : List ℕ) : Type 0 where
   pub heap : Heap (made kind ps ws h) (os ++ markOf h ∷ [])
   pub long : length (made kind ps ws h) ≡ length h
   pub mark : markOf (made kind ps ws h) ≡ markOf h + (2 + (length ps + length ws))
@@ -105,7 +105,7 @@ module _ {h os : List ℕ} (H : Heap h os) (kind : ℕ) (ps ws : List ℕ) (few 
   unfolding sizeAt
   new-size = new-at 1 (omega arith)
 
-  old : (q : ℕ) → Mem q os → Alike h h′ q
+  old : (q : ℕ) → Mem q os → SameHeader h h′ q
   old q i =
       let l = object-lies H q i in
       let a = l .low in
@@ -115,7 +115,7 @@ module _ {h os : List ℕ} (H : Heap h os) (kind : ℕ) (ps ws : List ℕ) (few 
 
   -- right by the kind's row, and its pointers are pointers
   pub made-kept : kindIn kinds kind .ptrs (length ps) ≡ true → kindIn kinds kind .size (length ps) (2 + (length ps + length ws)) ≡ true →
-      ((j : ℕ) → j < length ps → Pointer os (wordAt ps j)) → Grown h os kind ps ws
+      ((j : ℕ) → j < length ps → Pointer os (wordAt ps j)) → WithNew h os kind ps ws
   made-kept row-ptrs row-size right =
       let l = H .low in
       record {

@@ -13,7 +13,7 @@ use borrow.Author.Tests.{leb-true, ltb-true}
 use Rattle.model.specs.Choice.{Mem}
 use Rattle.model.specs.Words.{wordAt}
 use Rattle.model.specs.Heap.{markOf, firstObject, ptrsAt, sizeAt, kindOf, inPtrs, inPlain, maySetPlain, maySetPtr, Pointer, Heap}
-use Rattle.audit_heap.specs.Objects.{object-of, one-object, Alike, ptrs-alike, size-alike, objects-alike}
+use Rattle.audit_heap.specs.Objects.{object-of, one-object, SameHeader, ptrs-alike, size-alike, objects-alike}
 
 and-both : (s t : Bool) → s && t ≡ true → (s ≡ true) × (t ≡ true)
 and-both true t e = (refl, e)
@@ -59,7 +59,7 @@ module _ {h os : List ℕ} (H : Heap h os) where
   read-plain o s m e = let g = in-plain h o s e in let l = object-lies o m in omega arith
 
 -- What a store keeps
-pub record Kept (h h′ os : List ℕ) : Type 0 where
+pub record KeptHeap (h h′ os : List ℕ) : Type 0 where
   pub heap : Heap h′ os
   pub long : length h′ ≡ length h
   pub mark : markOf h′ ≡ markOf h
@@ -75,7 +75,7 @@ module _ {h os : List ℕ} (H : Heap h os) (o k v : ℕ) (m : Mem o os) (from : 
   same-object q i n e a b = one-object h firstObject (markOf h) os o q i (H .objects) m n (omega arith) (omega arith) a b
 
   -- no header is reached
-  alike : (q : ℕ) → Mem q os → Alike h stored q
+  alike : (q : ℕ) → Mem q os → SameHeader h stored q
   alike q i =
       let n = object-lies H q i .holds in
       record {
@@ -85,7 +85,7 @@ module _ {h os : List ℕ} (H : Heap h os) (o k v : ℕ) (m : Mem o os) (from : 
       }
 
   -- the heap is kept where the word written is right for each pointer word that it is
-  store-kept : ((q j : ℕ) → Mem q os → 2 ≤ j → j < 2 + ptrsAt h q → q + j ≡ o + k → Pointer os v) → Kept h stored os
+  store-kept : ((q j : ℕ) → Mem q os → 2 ≤ j → j < 2 + ptrsAt h q → q + j ≡ o + k → Pointer os v) → KeptHeap h stored os
   store-kept right =
       let l = object-lies H o m in
       let e0 : wordAt stored 0 ≡ wordAt h 0 = getD-set-other h (o + k) 0 v 0 (omega arith) in
@@ -118,21 +118,21 @@ module _ {h os : List ℕ} (H : Heap h os) (o k v : ℕ) (m : Mem o os) (from : 
       omega arith
 
 module _ {h os : List ℕ} (H : Heap h os) (o s v : ℕ) (m : Mem o os) where
-  pub store-ptr : maySetPtr h o s ≡ true → Pointer os v → Kept h (set h (o + s) v) os
+  pub store-ptr : maySetPtr h o s ≡ true → Pointer os v → KeptHeap h (set h (o + s) v) os
   unfolding maySetPtr
   store-ptr e p =
       let g = in-ptrs h o s (and-both (inPtrs h o s) (kindOf h o .setPtrs) e .0) in
       let n = object-lies H o m .holds in
       store-kept H o s v m (g .0) (omega arith) (λ q j i a b f. p)
 
-  pub store-plain : maySetPlain h o s ≡ true → Kept h (set h (o + s) v) os
+  pub store-plain : maySetPlain h o s ≡ true → KeptHeap h (set h (o + s) v) os
   unfolding maySetPlain
   store-plain e =
       let g = in-plain h o s (and-both (inPlain h o s) (kindOf h o .setPlain (s - (2 + ptrsAt h o))) e .0) in
       let from : 2 ≤ s = omega arith in
       store-kept H o s v m from (g .1) (λ q j i a b f. absurd (plain-apart H o s v m from (g .1) (g .0) q j i b f))
 
-pub store-root : {h os : List ℕ} (H : Heap h os) (v : ℕ) → Pointer os v → Kept h (set h 1 v) os
+pub store-root : {h os : List ℕ} (H : Heap h os) (v : ℕ) → Pointer os v → KeptHeap h (set h 1 v) os
 store-root {h} {os} H v p =
     let g = H .high in
     let l = H .low in
@@ -157,5 +157,5 @@ store-root {h} {os} H v p =
     far : (i : ℕ) → 2 ≤ i → wordAt (set h 1 v) i ≡ wordAt h i
     far i w = getD-set-other h 1 i v 0 (omega arith)
 
-    alike-root : (q : ℕ) → Mem q os → Alike h (set h 1 v) q
+    alike-root : (q : ℕ) → Mem q os → SameHeader h (set h 1 v) q
     alike-root q i = let w = object-lies H q i .low in record { first = far q w; second = far (q + 1) (omega arith) }

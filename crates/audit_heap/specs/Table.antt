@@ -10,7 +10,8 @@ use Rattle.model.specs.Words.{wordAt}
 use Rattle.model.specs.Heap.{markOf, firstObject, badHeader, badSize, isPointer, pointerWords, objectsIn, heapOf, objectsOf}
 use Rattle.audit_heap.specs.declared.HeapAudit.{HeapAudit}
 use Rattle.audit_heap.specs.declared.HeapAudit.the-variants.{Clean, Fault}
-use Rattle.audit_heap.specs.First.{walked, told}
+use Rattle.audit_heap.specs.First.{walked, auditAnswer}
+use Rattle.numbers.specs.Small.{Small}
 
 -- the mark of a word; past the table's end there is none
 unfoldable pub isMarked : List Bool → ℕ → Bool
@@ -51,24 +52,24 @@ pub record Range (h : List ℕ) : Type 0 where
   pub long : length h ≤ 16384
 
 -- the fault of one object
-unfoldable pub judged : List ℕ → ℕ → ℕ → HeapAudit
-judged h q mark = if badHeader h q mark then Fault q else if badSize h q mark then Fault (q + 1) else Clean
+unfoldable pub faultAt : List ℕ → ℕ → ℕ → HeapAudit
+faultAt h q mark = if badHeader h q mark then Fault q else if badSize h q mark then Fault (q + 1) else Clean
 
 -- the objects that the walk finds
-unfoldable pub found : List ℕ → List ℕ
-found h = objectsIn (walked h)
+unfoldable pub objectsFound : List ℕ → List ℕ
+objectsFound h = objectsIn (walked h)
 
 -- objects of which a count says that they have no pointer words have none
-unfoldable pub Linked : List ℕ → List ℕ → ℕ → Type 0
-Linked h os links = links ≡ 0 → pointerWords h os ≡ []
+unfoldable pub LinksCounted : List ℕ → List ℕ → ℕ → Type 0
+LinksCounted h os links = links ≡ 0 → pointerWords h os ≡ []
 
 -- the walk's answer and count, and the table behind it
 pub record Walked (h : List ℕ) (r : HeapAudit) (links : ℕ) (t : List Bool) : Type 0 where
-  pub is : r ≡ told (walked h)
-  pub marks : r ≡ Clean → Marks (found h) t
-  pub linked : r ≡ Clean → Linked h (found h) links
+  pub is : r ≡ auditAnswer (walked h)
+  pub marks : r ≡ Clean → Marks (objectsFound h) t
+  pub linked : r ≡ Clean → LinksCounted h (objectsFound h) links
 
 -- the audit's answer, and the table behind it
 pub record Audited (h : List ℕ) (r : HeapAudit) (t : List Bool) : Type 0 where
-  pub is : r ≡ told (heapOf h)
+  pub is : r ≡ auditAnswer (heapOf h)
   pub marks : r ≡ Clean → Marks (objectsOf h) t

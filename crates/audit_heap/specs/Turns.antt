@@ -20,7 +20,7 @@ use Rattle.audit_heap.specs.First.{firstBad, walked, orElse, orAudit, ze
 use Rattle.audit_heap.specs.Views.{row-ptrs, row-view}
 use Rattle.audit_heap.specs.Audited.{good-object}
 use Rattle.audit_heap.specs.Every.{oneIf}
-use Rattle.audit_heap.specs.Table.{Unmarked, Marks, isMarked, markedAt, Range, judged, found, Linked, Walked}
+use Rattle.audit_heap.specs.Table.{Unmarked, Marks, isMarked, markedAt, Range, faultAt, objectsFound, LinksCounted, Walked}
 use Rattle.numbers.specs.Small.{Small}
 
 -- A range of words
@@ -75,12 +75,12 @@ zero-good h i e = eq-eqb (wordAt h i) 0 e
 -- One object
 
 module _ (h : List ℕ) (q mark : ℕ) where
-  pub judged-kind : (r : Bool) → r ≡ eqb (kindAt h q) viewKind → not r ≡ true → Fault q ≡ judged h q mark
-  unfolding judged badHeader
+  pub judged-kind : (r : Bool) → r ≡ eqb (kindAt h q) viewKind → not r ≡ true → Fault q ≡ faultAt h q mark
+  unfolding faultAt badHeader
   judged-kind r e f = rw (row-ptrs h q (ptrsAt h q), ← e, not-true r f)
 
-  pub judged-cut : mark ≤ q + 1 → Fault q ≡ judged h q mark
-  unfolding judged badHeader
+  pub judged-cut : mark ≤ q + 1 → Fault q ≡ faultAt h q mark
+  unfolding faultAt badHeader
   judged-cut a = rw (le-leb mark (q + 1) a) (go (not (kindOf h q .ptrs (ptrsAt h q))))
     where
       go : (t : Bool) → Fault q ≡ (if t || true then Fault q else if badSize h q mark then Fault (q + 1) else Clean)
@@ -88,19 +88,19 @@ module _ (h : List ℕ) (q mark : ℕ) where
       go false = refl
 
   pub judged-size : (r : Bool) → r ≡ eqb (kindAt h q) viewKind → not r ≡ false → q + 1 < mark →
-      judged h q mark ≡ (if badSize h q mark then Fault (q + 1) else Clean)
-  unfolding judged badHeader
+      faultAt h q mark ≡ (if badSize h q mark then Fault (q + 1) else Clean)
+  unfolding faultAt badHeader
   judged-size r e f a = rw (row-ptrs h q (ptrsAt h q), ← e, not-false r f, lt-leb mark (q + 1) a)
 
   pub judged-small : (r : Bool) → r ≡ eqb (kindAt h q) viewKind → not r ≡ false → q + 1 < mark →
-      (size ptrs b d : ℕ) → Small b (sizeAt h q) size → Small d (ptrsAt h q) ptrs → size < 2 + ptrs → Fault (q + 1) ≡ judged h q mark
+      (size ptrs b d : ℕ) → Small b (sizeAt h q) size → Small d (ptrsAt h q) ptrs → size < 2 + ptrs → Fault (q + 1) ≡ faultAt h q mark
   unfolding badSize
   judged-small r e f a size ptrs b d S T w =
       let w′ : sizeAt h q < 2 + ptrsAt h q = rw (S .is, T .is) at w in
       sym (judged-size r e f a ∙ rw (lt-ltb (sizeAt h q) (2 + ptrsAt h q) w′))
 
   pub judged-long : (r : Bool) → r ≡ eqb (kindAt h q) viewKind → not r ≡ false → q + 1 < mark →
-      (size b : ℕ) → Small b (sizeAt h q) size → mark < q + size → Fault (q + 1) ≡ judged h q mark
+      (size b : ℕ) → Small b (sizeAt h q) size → mark < q + size → Fault (q + 1) ≡ faultAt h q mark
   unfolding badSize
   judged-long r e f a size b S w =
       let w′ : mark < q + sizeAt h q = rw (S .is) at w in
@@ -111,7 +111,7 @@ module _ (h : List ℕ) (q mark : ℕ) where
       go false = refl
 
   pub judged-right : (r : Bool) → r ≡ eqb (kindAt h q) viewKind → not r ≡ false → q + 1 < mark →
-      (size ptrs b d : ℕ) → Small b (sizeAt h q) size → Small d (ptrsAt h q) ptrs → 2 + ptrs ≤ size → q + size ≤ mark → Clean ≡ judged h q mark
+      (size ptrs b d : ℕ) → Small b (sizeAt h q) size → Small d (ptrsAt h q) ptrs → 2 + ptrs ≤ size → q + size ≤ mark → Clean ≡ faultAt h q mark
   unfolding badSize
   judged-right r e f a size ptrs b d S T w v =
       let w′ : 2 + ptrsAt h q ≤ sizeAt h q = rw (S .is, T .is) at w in
@@ -119,8 +119,8 @@ module _ (h : List ℕ) (q mark : ℕ) where
       let k = row-view h q (ptrsAt h q) (row-ptrs h q (ptrsAt h q) ∙ sym e ∙ not-false r f) in
       sym (judged-size r e f a ∙ rw (le-ltb (sizeAt h q) (2 + ptrsAt h q) w′, le-ltb mark (q + sizeAt h q) v′, k))
 
-  pub judged-object : judged h q mark ≡ Clean → Object h q mark
-  unfolding judged
+  pub judged-object : faultAt h q mark ≡ Clean → Object h q mark
+  unfolding faultAt
   judged-object e = go (badHeader h q mark) refl (badSize h q mark) refl e
     where
       go : (s : Bool) → badHeader h q mark ≡ s → (t : Bool) → badSize h q mark ≡ t →
@@ -129,8 +129,8 @@ module _ (h : List ℕ) (q mark : ℕ) where
       go false f true g e = let z : _≡_ {A = ℕ} 0 1 = cc in absurd (omega arith)
       go false f false g e = good-object h q mark f g
 
-  walk-step : (n : ℕ) → q < mark → walk (suc n) h q mark ≡ orAudit (judged h q mark) (andObject q (walk n h (q + sizeAt h q) mark))
-  unfolding walk judged
+  walk-step : (n : ℕ) → q < mark → walk (suc n) h q mark ≡ orAudit (faultAt h q mark) (andObject q (walk n h (q + sizeAt h q) mark))
+  unfolding walk faultAt
   walk-step n a = rw (lt-leb mark q a) (go (badHeader h q mark) (badSize h q mark) (andObject q (walk n h (q + sizeAt h q) mark)))
     where
       go : (s t : Bool) (r : Audit) →
@@ -215,9 +215,9 @@ words-none h o (p ∷ os) e f =
     let n = append-none (range (p + 2) (ptrsAt h p)) (pointerWords h os) f in
     rw (n .0) (words-none h o os e (n .1))
 
-linked-more : (h : List ℕ) (o : ℕ) (os : List ℕ) (links ptrs b : ℕ) → Small b (ptrsAt h o) ptrs → Linked h os links →
-    Linked h (os ++ o ∷ []) (links + ptrs)
-unfolding Linked
+linked-more : (h : List ℕ) (o : ℕ) (os : List ℕ) (links ptrs b : ℕ) → Small b (ptrsAt h o) ptrs → LinksCounted h os links →
+    LinksCounted h (os ++ o ∷ []) (links + ptrs)
+unfolding LinksCounted
 linked-more h o os links ptrs b S L z = words-none h o os (omega (arith, S .is)) (L (omega arith))
 
 -- the objects before q are marked, and have so many pointer words
@@ -226,14 +226,14 @@ pub record Marking (h : List ℕ) (q links : ℕ) (t : List Bool) : Type 0 where
   left : ℕ
   same : walked h ≡ andObjects done (walk left h q (markOf h))
   marks : Marks done t
-  linked : Linked h done links
+  linked : LinksCounted h done links
   enough : markOf h ≤ q + left
   pub reach : q ≤ markOf h
   pub room : length h ≤ length t
   pub few : links ≤ q
 
 pub marking-none : (h : List ℕ) (t : List Bool) → Range h → length h ≤ length t → Unmarked t → Marking h 2 0 (set t 0 true)
-unfolding Linked pointerWords
+unfolding LinksCounted pointerWords
 marking-none h t R l U =
     record {
       done = [];
@@ -250,7 +250,7 @@ marking-none h t R l U =
 module _ (h : List ℕ) (q links mark b : ℕ) (t : List Bool) (M : Marking h q links t) (S : Small b (markOf h) mark) where
   -- one step of the walk
   step-of : q < mark → (n : ℕ) → markOf h ≤ q + n →
-      walk n h q (markOf h) ≡ orAudit (judged h q mark) (andObject q (walk (n - 1) h (q + sizeAt h q) (markOf h)))
+      walk n h q (markOf h) ≡ orAudit (faultAt h q mark) (andObject q (walk (n - 1) h (q + sizeAt h q) (markOf h)))
   step-of a zero e = let z = S .is in absurd (omega arith)
   step-of a (suc n) e =
       let z = S .is in
@@ -258,9 +258,9 @@ module _ (h : List ℕ) (q links mark b : ℕ) (t : List Bool) (M : Marking h q 
       let p : suc n - 1 ≡ n = omega arith in
       rw (p, z) (walk-step h q (markOf h) n w)
 
-  pub marking-fault : (a : HeapAudit) (p : ℕ) (t′ : List Bool) → q < mark → a ≡ judged h q mark → a ≡ Fault p → Walked h (Fault p) 0 t′
+  pub marking-fault : (a : HeapAudit) (p : ℕ) (t′ : List Bool) → q < mark → a ≡ faultAt h q mark → a ≡ Fault p → Walked h (Fault p) 0 t′
   marking-fault a p t′ w e f =
-      let g : judged h q mark ≡ Fault p = sym e ∙ f in
+      let g : faultAt h q mark ≡ Fault p = sym e ∙ f in
       let k : walked h ≡ fault p = M .same ∙ rw (step-of w (M .left) (M .enough), g) (objects-fault (M .done) p) in
       record {
         is = rw k;
@@ -268,13 +268,13 @@ module _ (h : List ℕ) (q links mark b : ℕ) (t : List Bool) (M : Marking h q 
         linked = λ c. let z : _≡_ {A = ℕ} 0 1 = cc in absurd (omega arith);
       }
 
-  pub marking-object : (a : HeapAudit) → a ≡ judged h q mark → a ≡ Clean → Object h q mark
+  pub marking-object : (a : HeapAudit) → a ≡ faultAt h q mark → a ≡ Clean → Object h q mark
   marking-object a e f = judged-object h q mark (sym e ∙ f)
 
-  pub marking-more : (a : HeapAudit) (ptrs c size d : ℕ) → Range h → q < mark → a ≡ judged h q mark → a ≡ Clean →
+  pub marking-more : (a : HeapAudit) (ptrs c size d : ℕ) → Range h → q < mark → a ≡ faultAt h q mark → a ≡ Clean →
       Small c (ptrsAt h q) ptrs → Small d (sizeAt h q) size → Marking h (q + size) (links + ptrs) (set t q true)
   marking-more a ptrs c size d R w e f P D =
-      let g : judged h q mark ≡ Clean = sym e ∙ f in
+      let g : faultAt h q mark ≡ Clean = sym e ∙ f in
       let O = judged-object h q mark g in
       let z = S .is in
       let y = D .is in
@@ -291,7 +291,7 @@ module _ (h : List ℕ) (q links mark b : ℕ) (t : List Bool) (M : Marking h q 
       }
 
   pub marking-end : mark ≤ q → Walked h Clean links t
-  unfolding walk found
+  unfolding walk objectsFound
   marking-end w =
       let z = S .is in
       let r : markOf h ≤ q = omega arith in
@@ -302,10 +302,10 @@ module _ (h : List ℕ) (q links mark b : ℕ) (t : List Bool) (M : Marking h q 
       ends zero r = refl
       ends (suc n) r = rw (le-leb (markOf h) q r)
 
-      all-done : walked h ≡ clean (M .done) → Marks (found h) t
+      all-done : walked h ≡ clean (M .done) → Marks (objectsFound h) t
       all-done e = rw e (M .marks)
 
-      all-linked : walked h ≡ clean (M .done) → Linked h (found h) links
+      all-linked : walked h ≡ clean (M .done) → LinksCounted h (objectsFound h) links
       all-linked e = rw e (M .linked)
 
 -- The walk that tests pointer words
@@ -314,16 +314,16 @@ module _ (h : List ℕ) (q links mark b : ℕ) (t : List Bool) (M : Marking h q 
 pub record Pointing (h : List ℕ) (q : ℕ) (t : List Bool) : Type 0 where
   rest : List ℕ
   objects : Objects h q (markOf h) rest
-  same : firstBad (markedAt t h) (pointerWords h (found h)) ≡ firstBad (markedAt t h) (pointerWords h rest)
+  same : firstBad (markedAt t h) (pointerWords h (objectsFound h)) ≡ firstBad (markedAt t h) (pointerWords h rest)
   pub reach : q ≤ markOf h
 
-pub pointing-nothing : (h : List ℕ) (t : List Bool) (links : ℕ) → Linked h (found h) links → links ≡ 0 →
-    Clean ≡ firstBad (markedAt t h) (pointerWords h (found h))
-unfolding firstBad Linked
+pub pointing-nothing : (h : List ℕ) (t : List Bool) (links : ℕ) → LinksCounted h (objectsFound h) links → links ≡ 0 →
+    Clean ≡ firstBad (markedAt t h) (pointerWords h (objectsFound h))
+unfolding firstBad LinksCounted
 pointing-nothing h t links L z = rw (L z)
 
-pub pointing-none : (h : List ℕ) (t : List Bool) → Range h → Objects h firstObject (markOf h) (found h) → Pointing h 2 t
-pointing-none h t R W = record { rest = found h; objects = W; same = refl; reach = R .low }
+pub pointing-none : (h : List ℕ) (t : List Bool) → Range h → Objects h firstObject (markOf h) (objectsFound h) → Pointing h 2 t
+pointing-none h t R W = record { rest = objectsFound h; objects = W; same = refl; reach = R .low }
 
 words-first : (P : ℕ → Bool) (h : List ℕ) (q o : ℕ) (os : List ℕ) → o ≡ q →
     firstBad P (pointerWords h (o ∷ os)) ≡ orElse (firstBad P (range (q + 2) (ptrsAt h q))) (firstBad P (pointerWords h os))
@@ -336,14 +336,14 @@ module _ (h : List ℕ) (q mark b : ℕ) (t : List Bool) (M : Pointing h q t) (S
     object : Object h q (markOf h)
     others : List ℕ
     behind : Objects h (q + sizeAt h q) (markOf h) others
-    words : firstBad (markedAt t h) (pointerWords h (found h))
+    words : firstBad (markedAt t h) (pointerWords h (objectsFound h))
         ≡ orElse (firstBad (markedAt t h) (range (q + 2) (ptrsAt h q))) (firstBad (markedAt t h) (pointerWords h others))
 
   next : q < mark → Next
   next w = go (M .rest) (M .objects) (M .same)
     where
       go : (os : List ℕ) → Objects h q (markOf h) os →
-          firstBad (markedAt t h) (pointerWords h (found h)) ≡ firstBad (markedAt t h) (pointerWords h os) → Next
+          firstBad (markedAt t h) (pointerWords h (objectsFound h)) ≡ firstBad (markedAt t h) (pointerWords h os) → Next
       go [] W e = absurd (omega (arith, S .is))
       go (o ∷ os) W e = record {
         object = W .1;
@@ -356,14 +356,14 @@ module _ (h : List ℕ) (q mark b : ℕ) (t : List Bool) (M : Pointing h q t) (S
   pointing-object w = next w .object
 
   -- the object's pointer words, as the code counts them
-  pub own : (ptrs d : ℕ) (a : HeapAudit) → Small d (ptrsAt h q) ptrs → a ≡ firstBad (markedAt t h) (range (q + 2) (q + 2 + ptrs - (q + 2))) →
+  pub own-words : (ptrs d : ℕ) (a : HeapAudit) → Small d (ptrsAt h q) ptrs → a ≡ firstBad (markedAt t h) (range (q + 2) (q + 2 + ptrs - (q + 2))) →
       firstBad (markedAt t h) (range (q + 2) (ptrsAt h q)) ≡ a
-  own ptrs d a D e = let z : ptrsAt h q ≡ q + 2 + ptrs - (q + 2) = omega (arith, D .is) in rw z (sym e)
+  own-words ptrs d a D e = let z : ptrsAt h q ≡ q + 2 + ptrs - (q + 2) = omega (arith, D .is) in rw z (sym e)
 
   pub pointing-bad : (ptrs d : ℕ) (a : HeapAudit) (p : ℕ) → q < mark → Small d (ptrsAt h q) ptrs →
       a ≡ firstBad (markedAt t h) (range (q + 2) (q + 2 + ptrs - (q + 2))) → a ≡ Fault p →
-      Fault p ≡ firstBad (markedAt t h) (pointerWords h (found h))
-  pointing-bad ptrs d a p w D e f = sym (next w .words ∙ rw (own ptrs d a D e, f))
+      Fault p ≡ firstBad (markedAt t h) (pointerWords h (objectsFound h))
+  pointing-bad ptrs d a p w D e f = sym (next w .words ∙ rw (own-words ptrs d a D e, f))
 
   pub pointing-more : (ptrs d : ℕ) (a : HeapAudit) (size g : ℕ) → q < mark → Small d (ptrsAt h q) ptrs →
       a ≡ firstBad (markedAt t h) (range (q + 2) (q + 2 + ptrs - (q + 2))) → a ≡ Clean → Small g (sizeAt h q) size → Pointing h (q + size) t
@@ -372,11 +372,11 @@ module _ (h : List ℕ) (q mark b : ℕ) (t : List Bool) (M : Pointing h q t) (S
       rw (G .is) record {
         rest = N .others;
         objects = N .behind;
-        same = N .words ∙ rw (own ptrs d a D e, f);
+        same = N .words ∙ rw (own-words ptrs d a D e, f);
         reach = N .object .ends;
       }
 
-  pub pointing-end : mark ≤ q → Clean ≡ firstBad (markedAt t h) (pointerWords h (found h))
+  pub pointing-end : mark ≤ q → Clean ≡ firstBad (markedAt t h) (pointerWords h (objectsFound h))
   unfolding firstBad pointerWords
   pointing-end w = sym (M .same ∙ none (M .rest) (M .objects))
     where

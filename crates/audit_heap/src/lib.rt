@@ -11,7 +11,7 @@ ghost use Rattle.model.specs.Heap.{markOf, kindAt, ptrsAt, sizeAt, viewKind, in
 ghost use Rattle.model.specs.Sound.{pointers, zeros};
 ghost use Rattle.audit_heap.specs.First.{firstBad, zeroAt, freeWords};
 ghost use Rattle.audit_heap.specs.Every.{oneIf, Every};
-ghost use Rattle.audit_heap.specs.Table.{Unmarked, Marks, isMarked, markedAt, found, Range, judged, Linked, Walked, Audited};
+ghost use Rattle.audit_heap.specs.Table.{Unmarked, Marks, isMarked, markedAt, objectsFound, Range, faultAt, LinksCounted, Walked, Audited};
 ghost use Rattle.numbers.specs.Small.{Small};
 
 // What the audit answers: the heap is sound, or the index of the word at fault.
@@ -69,7 +69,7 @@ fn is_view(heap: &[u32], q: usize) -> bool
 // The fault of the object at `q`, which is to end at `mark` or before it.
 fn judge_object(heap: &[u32], q: usize, mark: usize) -> HeapAudit
     requires { ⌜ (q < mark) × (mark ≤ length (now heap)) × (length (now heap) ≤ 16384) ⌝ }
-    ensures { λ r. ⌜ r ≡ judged (now (heap .entry)) q mark ⌝ }
+    ensures { λ r. ⌜ r ≡ faultAt (now (heap .entry)) q mark ⌝ }
 {
     let next = q + 1;
     if !is_view(heap, q) {
@@ -167,8 +167,8 @@ fn bad_pointer(words: &[u32], marks: &[bool], from: usize, end: usize) -> HeapAu
 
 // The first of the objects' pointer words that is no pointer. Where they have none, the objects are not walked again.
 fn pointers_right(heap: &[u32], marks: &[bool], links: usize) -> HeapAudit
-    requires { ⌜ Range (now heap) × Objects (now heap) 2 (markOf (now heap)) (found (now heap)) × Linked (now heap) (found (now heap)) links ⌝ }
-    ensures { λ r. ⌜ r ≡ firstBad (markedAt (now (marks .entry)) (now (heap .entry))) (pointerWords (now (heap .entry)) (found (now (heap .entry)))) ⌝ }
+    requires { ⌜ Range (now heap) × Objects (now heap) 2 (markOf (now heap)) (objectsFound (now heap)) × LinksCounted (now heap) (objectsFound (now heap)) links ⌝ }
+    ensures { λ r. ⌜ r ≡ firstBad (markedAt (now (marks .entry)) (now (heap .entry))) (pointerWords (now (heap .entry)) (objectsFound (now (heap .entry)))) ⌝ }
 {
     if links == 0 {
         return HeapAudit::Clean;

@@ -10,13 +10,13 @@ use lib.Dec.{ltb, eqb}
 use lib.ListN.{length, getD}
 use borrow.Author.Tests.{lt-ltb, le-ltb, eq-eqb, ne-eqb, eqb-true}
 use Rattle.model.specs.Choice.{if_then_else_, Mem, member}
-use Rattle.model.specs.File.{byteAt, headKind, isHead, select, instructions, heads, procs, headOf, procAt, upTo, recordsOf, starts, paramsMain, paramsPtr, resultsMain, resultsPtr, mostMain, mostPtr}
+use Rattle.model.specs.File.{byteAt, headKind, isHead, select, instructions, heads, procs, headOf, procAt, upTo, recordsOf, starts, paramsMain, paramsPtr, resultsMain, resultsPtr, greatestMain, greatestPtr}
 use Rattle.model.specs.Checker.{none, State}
 use Rattle.model.specs.Sound.{mainAt, isIns}
 use Rattle.model.specs.Calls.{pass, verdictOf}
 use Rattle.model.specs.Claim.{Bytes}
 use Rattle.laws.specs.Members.{member-in, in-member, getD-in}
-use Rattle.laws_file.specs.Walk.{upTo-most, upTo-least, upTo-less, heads-rise, first-head, head-in, ins-in, Walk, walk, walk-above, after-head, instruction-below, procs-some, proc-below}
+use Rattle.laws_file.specs.Walk.{upTo-most, upTo-least, upTo-less, heads-rise, first-head, head-in, ins-in, Walk, file-walk, walk-above, after-head, instruction-below, procs-some, proc-below}
 use Rattle.theory_checker.specs.Exact.{passed-as, passed-shape, passed-rest}
 use Rattle.code_file.specs.declared.Head.{Head}
 use Rattle.code_file.specs.Heads.{HeadIs, procHead, head-of}
@@ -29,17 +29,17 @@ pub record Tabled (f table : List ℕ) (k : ℕ) : Type 0 where
   pub placed : Placed f table k
 
 -- a map that has 65,535 where no instruction starts
-abbrev pub Shows : List ℕ → List ℕ → Type 0
-Shows f map = (p : ℕ) → p < length f → eqb (mainAt map p) none ≡ not (isIns f p)
+abbrev pub MapShows : List ℕ → List ℕ → Type 0
+MapShows f map = (p : ℕ) → p < length f → eqb (mainAt map p) none ≡ not (isIns f p)
 
 -- both: what the audit goes by
-pub record Ready (f map table : List ℕ) (k : ℕ) : Type 0 where
+pub record AuditReady (f map table : List ℕ) (k : ℕ) : Type 0 where
   pub heads : Tabled f table k
-  pub shows : Shows f map
+  pub shows : MapShows f map
 
 -- a file that passed is ready, with the finished map
-pub passed-ready : (f map₀ map table : List ℕ) (k : ℕ) → Bytes f → verdictOf f map₀ ≡ pass map → Placed f table k → Ready f map table k
-unfolding isIns mostMain
+pub passed-ready : (f map₀ map table : List ℕ) (k : ℕ) → Bytes f → verdictOf f map₀ ≡ pass map → Placed f table k → AuditReady f map table k
+unfolding isIns greatestMain
 passed-ready f map₀ map table k B e P =
     let W = passed-as f map₀ map e .formed in
     record {
@@ -83,7 +83,7 @@ in-proc-true f n p e = go (isIns f p) (eqb n (procAt f p)) refl e
 module _ (f ps : List ℕ) (e : recordsOf f ≡ starts ps) where
   first-at : headOf f 0 ≡ 0
   unfolding headOf heads isHead
-  first-at = rw e (go ps (walk f ps e))
+  first-at = rw e (go ps (file-walk f ps e))
     where
       go : (qs : List ℕ) → Walk f 0 qs → getD (select (isHead f) qs) 0 0 ≡ 0
       go [] w = refl
@@ -97,7 +97,7 @@ module _ (f ps : List ℕ) (e : recordsOf f ≡ starts ps) where
   pub head-whole : (n : ℕ) → n < procs f → headOf f n + 6 < length f
   head-whole n h =
       let a = head-kind n h in
-      let b = walk-above f 0 ps (walk f ps e) (headOf f n) (a .0) .1 in
+      let b = walk-above f 0 ps (file-walk f ps e) (headOf f n) (a .0) .1 in
       let d = after-head f ps e (headOf f n) (a .1) in
       omega arith
 
@@ -179,7 +179,7 @@ module _ (f table : List ℕ) (k n : ℕ) (P : Placed f table k) where
   unfolding endOf
   file-end h = let b = P .count in rw (le-ltb (n + 1) (procs f) (omega arith))
 
-module _ (f map table : List ℕ) (k : ℕ) (R : Ready f map table k) (n p : ℕ) where
+module _ (f map table : List ℕ) (k : ℕ) (R : AuditReady f map table k) (n p : ℕ) where
   abbrev T : Tabled f table k
   T = R .heads
 
@@ -217,8 +217,8 @@ pub record HeadFor (f : List ℕ) (n : ℕ) (v : Head) : Type 0 where
   pub b-is : v .b ≡ paramsPtr f n
   pub r-is : v .r ≡ resultsMain f n
   pub s-is : v .s ≡ resultsPtr f n
-  pub x-is : v .x ≡ mostMain f n
-  pub y-is : v .y ≡ mostPtr f n
+  pub x-is : v .x ≡ greatestMain f n
+  pub y-is : v .y ≡ greatestPtr f n
   pub a-small : v .a < 256
   pub b-small : v .b < 256
   pub x-small : v .x < 256

@@ -7,7 +7,7 @@ ghost use Rattle.model.specs.File.{byteAt, operand};
 ghost use Rattle.model.specs.Sound.{mainAt, ptrAt, innerAt};
 ghost use Rattle.numbers.specs.Small.{Small};
 ghost use Rattle.check_scan.specs.Heading.{Placed};
-ghost use Rattle.audit_places.specs.Places.{Tabled, Ready, endOf, inProc, HeadFor};
+ghost use Rattle.audit_places.specs.Places.{Tabled, AuditReady, endOf, inProc, HeadFor};
 use code_file::Head;
 
 // No instruction, no handler.
@@ -71,7 +71,7 @@ fn end_of(file: &[u8], table: &[usize; 64], k: usize, n: usize) -> usize
 
 // An instruction of procedure `n` starts at `p`.
 pub fn within(file: &[u8], map: &[u16], table: &[usize; 64], k: usize, n: usize, p: usize) -> bool
-    requires { ⌜ Ready (now file) (now map) (now table) k × (p < 4294967296) ⌝ }
+    requires { ⌜ AuditReady (now file) (now map) (now table) k × (p < 4294967296) ⌝ }
     ensures { λ r. ⌜ r ≡ inProc (now (file .entry)) n p ⌝ }
 {
     if k <= n {

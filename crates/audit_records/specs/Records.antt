@@ -22,7 +22,7 @@ use Rattle.audit_records.specs.declared.Below.{Below}
 use Rattle.audit_records.specs.declared.Below.the-variants.{End, On}
 use Rattle.laws.specs.Tests.{fails-at}
 use Rattle.code_file.specs.declared.Head.{Head}
-use Rattle.audit_places.specs.Places.{Shows, beyond, inProc, HeadFor}
+use Rattle.audit_places.specs.Places.{MapShows, beyond, inProc, HeadFor}
 
 -- the struct of the code as the model's record
 abbrev pub theLook : LookRead → Look
@@ -51,7 +51,7 @@ pub record Reads (lm lp left : ℕ) (s : LookRead) : Type 0 where
   pub few : left < 4294967296
 
 -- the bases of a frame that lies in the lists
-pub record Fits (w : FrameRead) : Type 0 where
+pub record BasesFit (w : FrameRead) : Type 0 where
   pub main : w .«main_base» ≤ 4096
   pub ptr : w .«ptr_base» ≤ 4096
 
@@ -67,7 +67,7 @@ module _ (f : List ℕ) (c : ℕ) (b : byteAt f c ≡ 72) where
   call-pops n e = rw (b, e) (refl, refl)
 
   -- a place with a depth in the map is an instruction
-  pub is-call : (map : List ℕ) → Shows f map → mainAt map c < none → isCode f 72 c ≡ true
+  pub is-call : (map : List ℕ) → MapShows f map → mainAt map c < none → isCode f 72 c ≡ true
   unfolding isCode
   is-call map shows h =
       let e = shows c (inside (decLt c (length f))) in
@@ -104,14 +104,14 @@ unfolding callBefore
 call-below f q = omega arith
 
 -- the head's parameters are what is popped
-abbrev pub Pops : Effect → Head → Type 0
-Pops e h = (e .popMain ≡ h .a) × (e .popPtr ≡ h .b)
+abbrev pub PopsParams : Effect → Head → Type 0
+PopsParams e h = (e .popMain ≡ h .a) × (e .popPtr ≡ h .b)
 
 -- what the call of a frame that passes its caller's tests popped
-pub called : (f map : List ℕ) (lm lp : ℕ) (w : FrameRead) (c : ℕ) (h : Head) → HeadFor f (w .proc) h →
+pub popped-params : (f map : List ℕ) (lm lp : ℕ) (w : FrameRead) (c : ℕ) (h : Head) → HeadFor f (w .proc) h →
     true ≡ all (callerTests f map lm lp (theFrame w) c (effectOf f (insAt f c))) →
-    Pops (effectOf f (insAt f c)) h
-called f map lm lp w c h H e =
+    PopsParams (effectOf f (insAt f c)) h
+popped-params f map lm lp w c h H e =
     let t = all-true (callerTests f map lm lp (theFrame w) c (effectOf f (insAt f c))) (sym e) .1 .1 .1 in
     let p = call-pops f c (call-byte f c (t .0)) (w .proc) (t .1 .0) in
     (p .0 ∙ sym (H .a-is), p .1 ∙ sym (H .b-is))
@@ -130,16 +130,16 @@ module _ (f map : List ℕ) (lm lp : ℕ) (w : FrameRead) (rs : List Rec) (s : L
       go false i e = fails-at 0 tests i
 
   -- the bases of a frame that passes are those read above it, and it lies in the lists
-  pub frame-fits : true ≡ all tests → lm ≤ 4096 → lp ≤ 4096 → Fits w
+  pub frame-fits : true ≡ all tests → lm ≤ 4096 → lp ≤ 4096 → BasesFit w
   frame-fits e m p = let h = all-true tests (sym e) in record { main = omega arith; ptr = omega arith }
 
   pub frame-proc : true ≡ all tests → inProc f (w .proc) (s .place) ≡ true
   unfolding inProc
   frame-proc e = let h = all-true tests (sym e) in rw (h .0) (eq-eqb (w .proc) (procAt f (s .place)) (h .1 .1 .1 .1 .0))
 
-abbrev pub told : Below → (LookRead → Bool) → Bool
-told (End t) k = t
-told (On s) k = k s
+abbrev pub tells : Below → (LookRead → Bool) → Bool
+tells (End t) k = t
+tells (On s) k = k s
 
 abbrev pub NearBelow : Below → Type 0
 NearBelow (End t) = Unit {0}
@@ -150,8 +150,8 @@ down-length l zero = refl
 down-length l (suc n) = ap suc (down-length l n)
 
 -- what a record tells, on top of rs
-pub record Told (f map : List ℕ) (lm lp : ℕ) (w : Rec) (rs : List Rec) (s : LookRead) (r : Below) : Type 0 where
-  pub is : stack? f map lm lp (w ∷ rs) (theLook s) ≡ told r (λ (t : LookRead). stack? f map lm lp rs (theLook t))
+pub record RecordTells (f map : List ℕ) (lm lp : ℕ) (w : Rec) (rs : List Rec) (s : LookRead) (r : Below) : Type 0 where
+  pub is : stack? f map lm lp (w ∷ rs) (theLook s) ≡ tells r (λ (t : LookRead). stack? f map lm lp rs (theLook t))
   pub near : NearBelow r
 
 module _ (f map : List ℕ) (lm lp : ℕ) (rs : List Rec) (s : LookRead) where
@@ -177,12 +177,12 @@ module _ (f map : List ℕ) (lm lp : ℕ) (rs : List Rec) (s : LookRead) where
         ∙ rw (eq-eqb (s .inner) none bare) (ap (λ (b : Bool). if b then rest (callBefore f (w .returns)) else false) (sym e))
 
     pub told-frame : false ≡ all (frameTests f map lm lp (theFrame w) rs (theLook s)) →
-        Told f map lm lp v rs s (End false)
+        RecordTells f map lm lp v rs s (End false)
     told-frame e = record { is = stack-frame false e; near = tt }
 
     module _ (e : true ≡ all (frameTests f map lm lp (theFrame w) rs (theLook s))) where
       pub told-first : (r : Bool) → s .frame ≡ 1 → r ≡ all (firstTests f map lm lp (theFrame w) (theLook s)) →
-          Told f map lm lp v rs s (End r)
+          RecordTells f map lm lp v rs s (End r)
       told-first r h d = record { is = stack-frame true e ∙ rw (eq-eqb (s .frame) 1 h) (sym d); near = tt }
 
       module _ (later : s .frame ≡ 1 → ⊥) (c : ℕ) (c-is : c ≡ callBefore f (w .returns)) where
@@ -196,12 +196,12 @@ module _ (f map : List ℕ) (lm lp : ℕ) (rs : List Rec) (s : LookRead) where
             (ap (λ (b : Bool). if b then stack? f map lm lp rs (caller f map lm lp (theFrame w) (theLook s) c (pops c)) else false) (sym d))
 
         pub told-call : false ≡ all (callerTests f map lm lp (theFrame w) c (pops c)) →
-            Told f map lm lp v rs s (End false)
+            RecordTells f map lm lp v rs s (End false)
         told-call d = record { is = later-frame false d; near = tt }
 
         pub told-caller : (t : LookRead) → true ≡ all (callerTests f map lm lp (theFrame w) c (pops c)) →
             theLook t ≡ caller f map lm lp (theFrame w) (theLook s) c (pops c) → Near t →
-            Told f map lm lp v rs s (On t)
+            RecordTells f map lm lp v rs s (On t)
         told-caller t d t-is near = record { is = later-frame true d ∙ ap (stack? f map lm lp rs) (sym t-is); near = near }
 
   module _ (v : Rec) (w : HandlerRead) (v-is : theHandler w ≡ asHandler v) (held : s .inner ≡ none → ⊥) where
@@ -215,10 +215,10 @@ module _ (f map : List ℕ) (lm lp : ℕ) (rs : List Rec) (s : LookRead) where
         (ap (λ (b : Bool). if b then stack? f map lm lp rs (outside f map lm lp (theHandler w) (theLook s)) else false) (sym e))
 
     pub told-handler : false ≡ all (handlerTests f map lm lp (theHandler w) rs (theLook s)) →
-        Told f map lm lp v rs s (End false)
+        RecordTells f map lm lp v rs s (End false)
     told-handler e = record { is = stack-handler false e; near = tt }
 
     pub told-outside : (t : LookRead) → true ≡ all (handlerTests f map lm lp (theHandler w) rs (theLook s)) →
         theLook t ≡ outside f map lm lp (theHandler w) (theLook s) → Near t →
-        Told f map lm lp v rs s (On t)
+        RecordTells f map lm lp v rs s (On t)
     told-outside t e t-is near = record { is = stack-handler true e ∙ ap (stack? f map lm lp rs) (sym t-is); near = near }

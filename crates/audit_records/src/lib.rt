@@ -9,9 +9,9 @@ ghost use Rattle.model.specs.File.{insAt};
 ghost use Rattle.model.specs.Checker.{Effect, effectOf};
 ghost use Rattle.model.specs.Control.{Rec, recAt, down};
 ghost use Rattle.model.specs.Sound.{callBefore, frameTests, firstTests, callerTests, caller, handlerTests, outside};
-ghost use Rattle.audit_places.specs.Places.{Shows, Ready, HeadFor};
+ghost use Rattle.audit_places.specs.Places.{MapShows, AuditReady, HeadFor};
 ghost use Rattle.control_stack.specs.Layout.{theFrame, theHandler};
-ghost use Rattle.audit_records.specs.Records.{theLook, Near, Reads, Fits, Pops, Told};
+ghost use Rattle.audit_records.specs.Records.{theLook, Near, Reads, BasesFit, PopsParams, RecordTells};
 use code_file::Head;
 use control_stack::Frame;
 use control_stack::Handler;
@@ -50,7 +50,7 @@ fn frame_right(
     w: Frame,
     s: Look,
 ) -> bool
-    requires { ⌜ Ready (now file) (now map) (now table) k × Near s × (left < 4294967296) ⌝ }
+    requires { ⌜ AuditReady (now file) (now map) (now table) k × Near s × (left < 4294967296) ⌝ }
     ensures { λ r. ⌜ ((rs : List Rec) → length rs ≡ left → r ≡ all (frameTests (now (file .entry)) (now (map .entry)) lm lp (theFrame w) rs (theLook s))) ⌝ }
 {
     if !audit_places::within(file, map, table, k, w.proc, s.place) {
@@ -104,7 +104,7 @@ fn call_before(file: &[u8], q: usize) -> usize
 // The frame was called at `c`; `head` is its procedure's. That an instruction starts at `c` is not asked: elsewhere the map's depth is
 // 65,535, more than any caller has.
 fn caller_right(file: &[u8], map: &[u16], w: Frame, head: Head, c: usize) -> bool
-    requires { ⌜ HeadFor (now file) (w .proc) head × Shows (now file) (now map) × Fits w × (c < 4294967296) ⌝ }
+    requires { ⌜ HeadFor (now file) (w .proc) head × MapShows (now file) (now map) × BasesFit w × (c < 4294967296) ⌝ }
     ensures { λ r. ⌜ ((lm lp : ℕ) → r ≡ all (callerTests (now (file .entry)) (now (map .entry)) lm lp (theFrame w) c (effectOf (now (file .entry)) (insAt (now (file .entry)) c)))) ⌝ }
 {
     if audit_places::byte_at(file, c) != CALL {
@@ -125,8 +125,8 @@ fn caller_right(file: &[u8], map: &[u16], w: Frame, head: Head, c: usize) -> boo
 // What a frame's record tells of its caller: with the parameters, which the call at `c` popped, the caller's depths reach up to the
 // frame's bases.
 fn caller_of(map: &[u16], w: Frame, s: Look, head: Head, c: usize) -> Look
-    requires { ⌜ Fits w × (head .a < 256) × (head .b < 256) × (c < 4294967296) ⌝ }
-    ensures { λ r. ⌜ ((f : List ℕ) (lm lp : ℕ) (e : Effect) → Pops e head → theLook r ≡ caller f (now (map .entry)) lm lp (theFrame w) (theLook s) c e) × Near r ⌝ }
+    requires { ⌜ BasesFit w × (head .a < 256) × (head .b < 256) × (c < 4294967296) ⌝ }
+    ensures { λ r. ⌜ ((f : List ℕ) (lm lp : ℕ) (e : Effect) → PopsParams e head → theLook r ≡ caller f (now (map .entry)) lm lp (theFrame w) (theLook s) c e) × Near r ⌝ }
 {
     Look {
         inner: audit_places::inner_at(map, c),
@@ -182,7 +182,7 @@ pub enum Below {
 // A handler's record, on top of `left` others, leads to the next outer one of its frame, or to the frame.
 fn read_handler(map: &[u16], ctl: &[u32], left: usize, s: Look) -> Below
     requires { ⌜ Near s × (left < 4294967296) × (5 * left + 4 < length (now ctl)) ⌝ }
-    ensures { λ r. ⌜ ((f : List ℕ) (lm lp : ℕ) → (s .inner ≡ 65535 → ⊥) → Told f (now (map .entry)) lm lp (recAt (now (ctl .entry)) left) (down (now (ctl .entry)) left) s r) ⌝ }
+    ensures { λ r. ⌜ ((f : List ℕ) (lm lp : ℕ) → (s .inner ≡ 65535 → ⊥) → RecordTells f (now (map .entry)) lm lp (recAt (now (ctl .entry)) left) (down (now (ctl .entry)) left) s r) ⌝ }
 {
     let w = control_stack::handler_at(ctl, left);
     if !handler_right(map, left, w, s) {
@@ -203,8 +203,8 @@ fn read_frame(
     left: usize,
     s: Look,
 ) -> Below
-    requires { ⌜ Ready (now file) (now map) (now table) k × Reads lm lp left s × (5 * left + 4 < length (now ctl)) × (s .inner ≡ 65535) ⌝ }
-    ensures { λ r. ⌜ Told (now (file .entry)) (now (map .entry)) lm lp (recAt (now (ctl .entry)) left) (down (now (ctl .entry)) left) s r ⌝ }
+    requires { ⌜ AuditReady (now file) (now map) (now table) k × Reads lm lp left s × (5 * left + 4 < length (now ctl)) × (s .inner ≡ 65535) ⌝ }
+    ensures { λ r. ⌜ RecordTells (now (file .entry)) (now (map .entry)) lm lp (recAt (now (ctl .entry)) left) (down (now (ctl .entry)) left) s r ⌝ }
 {
     let w = control_stack::frame_at(ctl, left);
     if !frame_right(file, map, table, k, lm, lp, left, w, s) {
@@ -233,8 +233,8 @@ pub fn read_record(
     left: usize,
     s: Look,
 ) -> Below
-    requires { ⌜ Ready (now file) (now map) (now table) k × Reads lm lp left s × (5 * left + 4 < length (now ctl)) ⌝ }
-    ensures { λ r. ⌜ Told (now (file .entry)) (now (map .entry)) lm lp (recAt (now (ctl .entry)) left) (down (now (ctl .entry)) left) s r ⌝ }
+    requires { ⌜ AuditReady (now file) (now map) (now table) k × Reads lm lp left s × (5 * left + 4 < length (now ctl)) ⌝ }
+    ensures { λ r. ⌜ RecordTells (now (file .entry)) (now (map .entry)) lm lp (recAt (now (ctl .entry)) left) (down (now (ctl .entry)) left) s r ⌝ }
 {
     if s.inner == NONE {
         read_frame(file, map, table, k, lm, lp, ctl, left, s)

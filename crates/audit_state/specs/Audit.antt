@@ -7,7 +7,7 @@ use native.Mathlib.Omega.{arith}
 use lib.Dec.{leb, eqb}
 use lib.ListN.{length, drop}
 use borrow.Author.Tests.{eq-eqb, ne-eqb}
-use Rattle.model.specs.Choice.{if_then_else_, Test, same, most, yes?, all, All, all-true}
+use Rattle.model.specs.Choice.{if_then_else_, Test, same, atMost, yes?, all, All, all-true}
 use Rattle.model.specs.File.{resultsMain, resultsPtr}
 use Rattle.model.specs.Heap.{objectsOf}
 use Rattle.model.specs.Control.{Machine, recordWords, down, records, rootWords}
@@ -16,7 +16,7 @@ use Rattle.model.specs.declared.Regs.{Regs}
 use Rattle.audit_records.specs.declared.Look.{Look}
 use Rattle.code_file.specs.declared.Head.{Head}
 use Rattle.audit_places.specs.Places.{HeadFor}
-use Rattle.laws.specs.Tests.{Fails, test, fails, decided, all-both}
+use Rattle.laws.specs.Tests.{Fails, test, fails-all, decided, all-both}
 use Rattle.audit_records.specs.Records.{theLook}
 
 module _ (map : List ℕ) (r : Regs) (n : ℕ) where
@@ -25,9 +25,9 @@ module _ (map : List ℕ) (r : Regs) (n : ℕ) where
   topsTests =
       same (r .state) 0
       ∷ same (r .ctop) (recordWords * (r .ctop / recordWords))
-      ∷ most (r .ctop) n
-      ∷ most (mainAt map (r .place)) (r .mtop)
-      ∷ most (ptrAt map (r .place)) (r .ptop)
+      ∷ atMost (r .ctop) n
+      ∷ atMost (mainAt map (r .place)) (r .mtop)
+      ∷ atMost (ptrAt map (r .place)) (r .ptop)
       ∷ []
 
   unfoldable pub topsOk : Bool
@@ -35,7 +35,7 @@ module _ (map : List ℕ) (r : Regs) (n : ℕ) where
 
   pub tops-fails : (k : ℕ) → Fails (test k topsTests) → false ≡ topsOk
   unfolding topsOk
-  tops-fails k h = fails k topsTests h
+  tops-fails k h = fails-all k topsTests h
 
   pub tops-last : (t : Bool) → t ≡ leb (ptrAt map (r .place)) (r .ptop) → (t ≡ true → All topsTests) → t ≡ topsOk
   unfolding topsOk
@@ -63,7 +63,7 @@ module _ (m p : ℕ) (r : Regs) where
 
   pub done-fails : (k : ℕ) → Fails (test k doneTests) → false ≡ doneOk
   unfolding doneOk
-  done-fails k h = fails k doneTests h
+  done-fails k h = fails-all k doneTests h
 
   pub done-last : (t : Bool) → t ≡ eqb (r .ptop) p → (t ≡ true → All doneTests) → t ≡ doneOk
   unfolding doneOk

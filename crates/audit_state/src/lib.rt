@@ -9,8 +9,8 @@ ghost use Rattle.model.specs.Choice.{all};
 ghost use Rattle.model.specs.Control.{Machine, setRegs, down};
 ghost use Rattle.model.specs.Sound.{zeros, stack?, stackTests, topmost, sound?};
 ghost use Rattle.audit_heap.specs.Table.{Marks};
-ghost use Rattle.registers.specs.Registers.{Words};
-ghost use Rattle.audit_places.specs.Places.{Ready};
+ghost use Rattle.registers.specs.Registers.{RegsWords};
+ghost use Rattle.audit_places.specs.Places.{AuditReady};
 ghost use Rattle.audit_records.specs.Records.{theLook, Near};
 ghost use Rattle.audit_state.specs.Audit.{topsOk, doneOk};
 use code_file::Head;
@@ -31,7 +31,7 @@ fn records_right(
     count: usize,
     top: Look,
 ) -> bool
-    requires { ⌜ Ready (now file) (now map) (now table) k × Near top × (5 * count ≤ length (now ctl)) × (count < 4294967296) × (lm ≤ 4096) × (lp ≤ 4096) ⌝ }
+    requires { ⌜ AuditReady (now file) (now map) (now table) k × Near top × (5 * count ≤ length (now ctl)) × (count < 4294967296) × (lm ≤ 4096) × (lp ≤ 4096) ⌝ }
     ensures { λ r. ⌜ r ≡ stack? (now (file .entry)) (now (map .entry)) lm lp (down (now (ctl .entry)) count) (theLook top) ⌝ }
 {
     let mut left = count;
@@ -77,7 +77,7 @@ fn words_right(main: &[u32], ptr: &[u32], ctl: &[u32], marks: &[bool], regs: Reg
 
 // The registers of a running state: the tops fit the records and the map.
 fn tops_right(map: &[u16], regs: Regs, room: usize) -> bool
-    requires { ⌜ Words regs ⌝ }
+    requires { ⌜ RegsWords regs ⌝ }
     ensures { λ r. ⌜ r ≡ topsOk (now (map .entry)) regs room ⌝ }
 {
     if regs.state != 0 {
@@ -119,7 +119,7 @@ fn done_right(head: Head, regs: Regs) -> bool
 
 // What the registers tell of the topmost frame.
 fn top_frame(map: &[u16], regs: Regs) -> Look
-    requires { ⌜ Words regs ⌝ }
+    requires { ⌜ RegsWords regs ⌝ }
     ensures { λ r. ⌜ ((m : Machine) → theLook r ≡ topmost (now (map .entry)) (setRegs regs m)) × Near r ⌝ }
 {
     Look {
@@ -144,7 +144,7 @@ pub fn sound_state(
     marks: &[bool],
     regs: Regs,
 ) -> bool
-    requires { ⌜ Ready (now file) (now map) (now table) k × Words regs × (length (now main) ≤ 4096) × (length (now ptr) ≤ 4096) ⌝ }
+    requires { ⌜ AuditReady (now file) (now map) (now table) k × RegsWords regs × (length (now main) ≤ 4096) × (length (now ptr) ≤ 4096) ⌝ }
     ensures { λ r. ⌜ ((heap : List ℕ) → Marks (objectsOf heap) (now (marks .entry)) →
         r ≡ sound? (now (file .entry)) (now (map .entry)) (record { regs = regs; main = now (main .entry); ptr = now (ptr .entry); ctl = now (ctl .entry); heap = heap })) ⌝ }
 {

@@ -7,7 +7,7 @@ use mathlib.Core.Path.{_≡_, refl, ap, sym, _∙_}
 use native.Mathlib.Omega.{arith}
 use lib.ListN.{length, replicate, length-replicate}
 use borrow.Author.Tests.{eq-eqb, ne-eqb}
-use Rattle.model.specs.Choice.{if_then_else_, Test, most, all, All, all-true}
+use Rattle.model.specs.Choice.{if_then_else_, Test, atMost, all, All, all-true}
 use Rattle.model.specs.File.{byteAt, heads, isHead, headOf}
 use Rattle.model.specs.Heap.{clean, heapOf, objectsOf}
 use Rattle.model.specs.Control.{registerBytes}
@@ -31,8 +31,8 @@ use Rattle.model.specs.declared.Answer.the-variants.{Passed, Refused}
 -- refusal 10 on numbers, as the model's lengthTests has it
 abbrev pub lengthList : Head → ℕ → ℕ → ℕ → ℕ → List Test
 lengthList v main ptr ctl heap =
-    most 1 main ∷ most main 4096 ∷ most 1 ptr ∷ most ptr 4096 ∷ most 5 ctl ∷ most ctl 1280 ∷ most 2 heap ∷ most heap 16384 ∷ most (v .x) main
-    ∷ most (v .y) ptr ∷ []
+    atMost 1 main ∷ atMost main 4096 ∷ atMost 1 ptr ∷ atMost ptr 4096 ∷ atMost 5 ctl ∷ atMost ctl 1280 ∷ atMost 2 heap ∷ atMost heap 16384 ∷ atMost (v .x) main
+    ∷ atMost (v .y) ptr ∷ []
 
 -- an empty table of heads, and one of marks, fresh and long enough for any heap that is not too long
 pub record Tables (table : List ℕ) (marks : List Bool) (heap : List ℕ) : Type 0 where
@@ -52,7 +52,7 @@ admitted (Pass k) rest l = rest l
 admitted (Refuse n p) rest l = answers (Refused n p) l
 
 -- what the tests show where they found nothing; the file has k procedures
-pub record Shown (l : Lent) (map table : List ℕ) (k : ℕ) : Type 0 where
+pub record AdmitShows (l : Lent) (map table : List ℕ) (k : ℕ) : Type 0 where
   pub passes : verdictOf (l .file) (l .map) ≡ pass map
   pub placed : Placed (l .file) table k
   pub lengths : All (lengthTests (withMap map l))
@@ -61,10 +61,10 @@ pub record Shown (l : Lent) (map table : List ℕ) (k : ℕ) : Type 0 where
 
 pub record Admitted (l : Lent) (map table : List ℕ) (v : Verdict) : Type 0 where
   pub is : (rest : Lent → After) → tested l rest ≡ admitted v rest (withMap map l)
-  pub shown : (k : ℕ) → v ≡ Pass k → Shown l map table k
+  pub shown : (k : ℕ) → v ≡ Pass k → AdmitShows l map table k
 
 -- the same, with the table of marks that is left behind
-pub record Marked (l : Lent) (map table : List ℕ) (marks : List Bool) (v : Verdict) : Type 0 where
+pub record AdmittedMarks (l : Lent) (map table : List ℕ) (marks : List Bool) (v : Verdict) : Type 0 where
   pub found : Admitted l map table v
   pub marks-are : (k : ℕ) → v ≡ Pass k → Marks (objectsOf (l .heap)) marks
 
@@ -97,7 +97,7 @@ not-passed l map (refuse j q new) (Refuse k p) e n rest =
     rw (a, b)
 
 module _ (l : Lent) (map table : List ℕ) (marks : List Bool) (v : Verdict) (C : Checks (l .file) (l .map) map table v) where
-  pub admit-refused : ((k : ℕ) → v ≡ Pass k → ⊥) → Marked l map table marks v
+  pub admit-refused : ((k : ℕ) → v ≡ Pass k → ⊥) → AdmittedMarks l map table marks v
   unfolding checkOf
   admit-refused n =
       record {
@@ -119,7 +119,7 @@ module _ (l : Lent) (map table : List ℕ) (marks : List Bool) (v : Verdict) (C 
     unfolding checkOf
     admit-passes = passes-with (verdictOf (l .file) (l .map)) (sym (ap (λ (x : Verdict). checked (answerOf x) map) z) ∙ C .is)
 
-    refused : (n p : ℕ) → ((rest : Lent → After) → tested l rest ≡ answers (Refused n p) (withMap map l)) → Marked l map table marks (Refuse n p)
+    refused : (n p : ℕ) → ((rest : Lent → After) → tested l rest ≡ answers (Refused n p) (withMap map l)) → AdmittedMarks l map table marks (Refuse n p)
     refused n p e =
         record { found = record { is = e; shown = λ j z. refuse-pass n p j z }; marks-are = λ j z. refuse-pass n p j z }
 
@@ -137,21 +137,21 @@ module _ (l : Lent) (map table : List ℕ) (marks : List Bool) (v : Verdict) (C 
       tests-are : right? ≡ all (lengthTests (withMap map l))
       tests-are = right-is ∙ ap all list-is
 
-      pub admit-lengths : right? ≡ false → Marked l map table marks (Refuse 10 0)
+      pub admit-lengths : right? ≡ false → AdmittedMarks l map table marks (Refuse 10 0)
       admit-lengths w = refused 10 0 (λ rest. go-on rest ∙ rw (sym tests-are ∙ w))
 
       module _ (w : right? ≡ true) (h : HeapAudit) (h-is : Audited (l .heap) h marks) where
-        pub admit-heap : (q : ℕ) → h ≡ Fault q → Marked l map table marks (Refuse 11 q)
+        pub admit-heap : (q : ℕ) → h ≡ Fault q → AdmittedMarks l map table marks (Refuse 11 q)
         admit-heap q e = refused 11 q (λ rest. go-on rest ∙ rw (sym tests-are ∙ w, audited-fault q h-is e))
 
         module _ (e : h ≡ Clean) where
           clean-is : heapOf (l .heap) ≡ clean (objectsOf (l .heap))
           clean-is = audited-clean h-is e
 
-          pub admit-bytes : (length (l .bytes) ≡ 28 → ⊥) → Marked l map table marks (Refuse 12 0)
+          pub admit-bytes : (length (l .bytes) ≡ 28 → ⊥) → AdmittedMarks l map table marks (Refuse 12 0)
           admit-bytes n = refused 12 0 (λ rest. go-on rest ∙ rw (sym tests-are ∙ w, clean-is, ne-eqb (length (l .bytes)) 28 n))
 
-          pub admit-all : length (l .bytes) ≡ 28 → Marked l map table marks (Pass k)
+          pub admit-all : length (l .bytes) ≡ 28 → AdmittedMarks l map table marks (Pass k)
           admit-all n =
               record {
                 found = record {

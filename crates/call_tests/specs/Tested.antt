@@ -14,31 +14,31 @@ use Rattle.model.specs.Calls.{Lent, withMap, machineOf, After, answers, lengthT
 use Rattle.check_flow.specs.declared.Verdict.{Verdict}
 use Rattle.check_flow.specs.declared.Verdict.the-variants.{Pass, Refuse}
 use Rattle.audit_heap.specs.Table.{Marks}
-use Rattle.audit_places.specs.Places.{Ready, passed-ready}
-use Rattle.call_tests.specs.Admit.{Shown, Marked, tested-refused, tested-on}
+use Rattle.audit_places.specs.Places.{AuditReady, passed-ready}
+use Rattle.call_tests.specs.Admit.{AdmitShows, AdmittedMarks, tested-refused, tested-on}
 use Rattle.call_tests.specs.declared.Tested.{Tested}
 use Rattle.call_tests.specs.declared.Tested.the-variants.{Sound, Unfit}
 use Rattle.model.specs.declared.Regs.{Regs}
 use Rattle.model.specs.declared.Answer.the-variants.{Refused}
 
-abbrev pub judged : Tested → (Lent → After) → Lent → After
-judged (Sound k r) rest l = rest l
-judged (Unfit n p) rest l = answers (Refused n p) l
+abbrev pub judgedFor : Tested → (Lent → After) → Lent → After
+judgedFor (Sound k r) rest l = rest l
+judgedFor (Unfit n p) rest l = answers (Refused n p) l
 
 -- a state that was let through: the file has k procedures, and these are the registers
 pub record Through (l : Lent) (map table : List ℕ) (k : ℕ) (r : Regs) : Type 0 where
-  pub shown : Shown l map table k
+  pub shown : AdmitShows l map table k
   pub regs-are : r ≡ regsFrom (l .bytes)
   pub sound : sound? (l .file) map (machineOf (withMap map l)) ≡ true
 
 pub record TestedAs (l : Lent) (map table : List ℕ) (t : Tested) : Type 0 where
-  pub is : (rest : Lent → After) → testedForRun l rest ≡ judged t rest (withMap map l)
+  pub is : (rest : Lent → After) → testedForRun l rest ≡ judgedFor t rest (withMap map l)
   pub through : (k : ℕ) (r : Regs) → t ≡ Sound k r → Through l map table k r
 
 unfit-sound : {A : Type 0} (n p k : ℕ) (r : Regs) → Unfit n p ≡ Sound k r → A
 unfit-sound n p k r e = let y : _≡_ {A = ℕ} 0 1 = cc in absurd (omega arith)
 
-module _ (l : Lent) (map table : List ℕ) (marks : List Bool) (v : Verdict) (A : Marked l map table marks v) where
+module _ (l : Lent) (map table : List ℕ) (marks : List Bool) (v : Verdict) (A : AdmittedMarks l map table marks v) where
   -- the tests on the state, then the rest
   abbrev then : (Lent → After) → Lent → After
   then rest l′ = demand (soundTests l′) 12 l′ (rest l′)
@@ -48,10 +48,10 @@ module _ (l : Lent) (map table : List ℕ) (marks : List Bool) (v : Verdict) (A 
       record { is = λ rest. sym (tested-refused l map table v (A .found) (then rest) n p e); through = λ k r z. unfit-sound n p k r z }
 
   module _ (k : ℕ) (e : v ≡ Pass k) where
-    S : Shown l map table k
+    S : AdmitShows l map table k
     S = A .found .shown k e
 
-    pub test-ready : Bytes (l .file) → Ready (l .file) map table k
+    pub test-ready : Bytes (l .file) → AuditReady (l .file) map table k
     test-ready B = passed-ready (l .file) (l .map) map table k B (S .passes) (S .placed)
 
     pub test-lengths : (length (l .main) ≤ 4096) × (length (l .ptr) ≤ 4096)
@@ -87,7 +87,7 @@ module _ (l : Lent) (map table : List ℕ) (marks : List Bool) (v : Verdict) (A 
 -- what a call comes to that begins with these tests
 module _ (l : Lent) (map table : List ℕ) (t : Tested) (T : TestedAs l map table t) (rest : Lent → After) where
   pub for-run-refused : (n p : ℕ) → t ≡ Unfit n p → answers (Refused n p) (withMap map l) ≡ testedForRun l rest
-  for-run-refused n p e = sym (T .is rest ∙ ap (λ (x : Tested). judged x rest (withMap map l)) e)
+  for-run-refused n p e = sym (T .is rest ∙ ap (λ (x : Tested). judgedFor x rest (withMap map l)) e)
 
   pub for-run-on : (k : ℕ) (r : Regs) → t ≡ Sound k r → rest (withMap map l) ≡ testedForRun l rest
-  for-run-on k r e = sym (T .is rest ∙ ap (λ (x : Tested). judged x rest (withMap map l)) e)
+  for-run-on k r e = sym (T .is rest ∙ ap (λ (x : Tested). judgedFor x rest (withMap map l)) e)

@@ -2,7 +2,7 @@
 ghost use mathlib.Core.Path.{_≡_};
 ghost use Rattle.model.specs.Choice.{all};
 ghost use lib.ListN.{replicate};
-ghost use Rattle.call_tests.specs.Admit.{lengthList, Tables, Admitted, Marked};
+ghost use Rattle.call_tests.specs.Admit.{lengthList, Tables, Admitted, AdmittedMarks};
 ghost use Rattle.call_tests.specs.Tested.{TestedAs};
 use code_file::Head;
 use check_flow::Verdict;
@@ -63,7 +63,7 @@ fn admit_with(
     bytes: &[u8],
 ) -> Verdict
     requires { ⌜ Tables (now table) (now marks) (now heap) ⌝ }
-    ensures { λ r. ⌜ Marked (record {
+    ensures { λ r. ⌜ AdmittedMarks (record {
       file = now (file .entry);
       map = now (map .entry);
       main = now (main .entry);

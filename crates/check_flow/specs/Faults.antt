@@ -9,7 +9,7 @@ use lib.Dec.{ltb, eqb}
 use lib.ListN.{length, getD}
 use borrow.Author.Tests.{lt-ltb, le-ltb, eq-eqb, ne-eqb}
 use Rattle.model.specs.Choice.{if_then_else_}
-use Rattle.model.specs.Checker.{none, State, state, outer, Step, bad, next, meet, andThen}
+use Rattle.model.specs.Checker.{none, State, state, innermost, Taking, bad, good, meet, andTake}
 use Rattle.check_rows.specs.declared.State.{State as Numbers}
 use Rattle.check_rows.specs.Tests.{asState}
 use Rattle.check_scan.specs.Marks.{unreached, stateIn, putIn}
@@ -17,13 +17,13 @@ use Rattle.laws.specs.Members.{getD-any}
 use Rattle.check_flow.specs.Takes.{passOneIn, passAllIn}
 
 -- a state is passed on, or another one is there
-abbrev pub passAns : Bool → List ℕ → Step (List ℕ)
-passAns true m = next m
+abbrev pub passAns : Bool → List ℕ → Taking (List ℕ)
+passAns true m = good m
 passAns false m = bad 9
 
 -- the number of a refusal, 0 for none
-abbrev pub takeAns : ℕ → List ℕ → Step (List ℕ)
-takeAns zero m = next m
+abbrev pub takeAns : ℕ → List ℕ → Taking (List ℕ)
+takeAns zero m = good m
 takeAns (suc n) m = bad (suc n)
 
 -- three numbers of the map, read
@@ -34,14 +34,14 @@ pub record StateIs (m : List ℕ) (q : ℕ) (r : Numbers) : Type 0 where
   pub inner-small : r .inner < 65536
 
 pub record OuterIs (m : List ℕ) (s : State) (r : Numbers) : Type 0 where
-  pub is : asState r ≡ outer (stateIn m) s
+  pub is : asState r ≡ innermost (stateIn m) s
   pub inner-small : r .inner < 65536
 
 -- a handler's place: none, or one that the map has
-abbrev pub Held : List ℕ → ℕ → Type 0
-Held m h = (h ≡ 65535) ⊎ ((3 * h + 2 < length m) × (h < 4096))
+abbrev pub HandlerIn : List ℕ → ℕ → Type 0
+HandlerIn m h = (h ≡ 65535) ⊎ ((3 * h + 2 < length m) × (h < 4096))
 
-pub held-as : (m : List ℕ) (q : ℕ) (r : Numbers) → StateIs m q r → Held m (stateIn m q .inner) → Held m (r .inner)
+pub held-as : (m : List ℕ) (q : ℕ) (r : Numbers) → StateIs m q r → HandlerIn m (stateIn m q .inner) → HandlerIn m (r .inner)
 held-as m q r I h = rw (ap (λ (s : State). s .inner) (I .is)) h
 
 -- a place that a state is passed to lies in the part, and the state's numbers fit it
@@ -63,10 +63,10 @@ state-is m q a b c l ea eb ec =
     λ i. state (e0 i) (e1 i) (e2 i)
 
 module _ (m : List ℕ) (s : State) where
-  pub outer-none : s .inner ≡ 65535 → state 0 0 65535 ≡ outer (stateIn m) s
-  outer-none z = rw (eq-eqb (s .inner) none z)
+  pub none-innermost : s .inner ≡ 65535 → state 0 0 65535 ≡ innermost (stateIn m) s
+  none-innermost z = rw (eq-eqb (s .inner) none z)
 
-  pub outer-some : (u : State) → (s .inner ≡ 65535 → ⊥) → u ≡ stateIn m (s .inner) → u ≡ outer (stateIn m) s
+  pub outer-some : (u : State) → (s .inner ≡ 65535 → ⊥) → u ≡ stateIn m (s .inner) → u ≡ innermost (stateIn m) s
   outer-some u z e = rw (ne-eqb (s .inner) none z) e
 
 module _ (m : List ℕ) (q : ℕ) (t s : State) (is : t ≡ stateIn m q) where
@@ -87,9 +87,9 @@ module _ (m : List ℕ) (q : ℕ) (t s : State) (is : t ≡ stateIn m q) where
       go true = refl
       go false = refl
 
-pub and-end : (s : Step (List ℕ)) → andThen s (λ m. next m) ≡ s
+pub and-end : (s : Taking (List ℕ)) → andTake s (λ m. good m) ≡ s
 and-end (bad n) = refl
-and-end (next m) = refl
+and-end (good m) = refl
 
 -- two states passed on, one after the other
 module _ (m : List ℕ) (q t : ℕ) (s u : State) where

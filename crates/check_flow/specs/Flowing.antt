@@ -11,9 +11,9 @@ use lib.ListN.{length, getD, drop, length-drop}
 use lib.Seq.{getD-drop, drop-drop}
 use borrow.Author.Tests.{lt-ltb, le-ltb, eq-eqb, ne-eqb, eqb-true}
 use Rattle.model.specs.Choice.{if_then_else_, Mem, member}
-use Rattle.model.specs.File.{unknown, bodies, bodyOf, byteAt, after, whole?, Records, starts, recordsOf, startsIn, isHead, select, instructions, heads, procs, headOf, procAt, mostMain, mostPtr}
-use Rattle.model.specs.Checker.{none, State, state, isSet, Known, stateAt, outer, own, firsts, Step, bad, next, refused, passed, goOn, take, takeAll, flow, mapFrom}
-use Rattle.laws_file.specs.Walk.{instructions-others, instructions-are, Walk, walk, walk-above, records-walk, after-above, after-head, head-in, first-head, instruction-below, HeadsHold, procs-some}
+use Rattle.model.specs.File.{unknown, bodies, bodyOf, byteAt, after, whole?, Records, starts, recordsOf, startsIn, isHead, select, instructions, heads, procs, headOf, procAt, greatestMain, greatestPtr}
+use Rattle.model.specs.Checker.{none, State, state, isSet, Known, stateAt, innermost, own, firsts, Taking, bad, good, refused, passed, goOn, takeOne, takeAll, flow, mapFrom}
+use Rattle.laws_file.specs.Walk.{instructions-others, instructions-are, Walk, file-walk, walk-above, records-walk, after-above, after-head, head-in, first-head, instruction-below, HeadsHold, procs-some}
 use Rattle.laws.specs.Members.{member-in, in-member, select-in, getD-in, in-select}
 use Rattle.theory_checker.specs.Flow.{own-in, keeps-shape, flow-keeps, flow-rest}
 use Rattle.laws_file.specs.Rest.{restOf, rest-end, rest-inv, whole-inside, records-first}
@@ -21,8 +21,8 @@ use Rattle.check_scan.specs.Marks.{stateIn}
 use Rattle.check_scan.specs.Heading.{Placed}
 use Rattle.check_rows.specs.Site.{Table}
 use Rattle.check_flow.specs.Own.{endOf, between, end-low, ownIn, own-alike}
-use Rattle.check_flow.specs.Takes.{Good, Alike, take-alike, takeIn, in-set, in-unset, outer-alike}
-use Rattle.check_flow.specs.Faults.{takeAns, Held, endIn}
+use Rattle.check_flow.specs.Takes.{Good, SameWay, take-alike, takeIn, in-set, in-unset, outer-alike}
+use Rattle.check_flow.specs.Faults.{takeAns, HandlerIn, endIn}
 use Rattle.check_flow.specs.Ways.{Here}
 use Rattle.check_flow.specs.declared.Verdict.{Verdict}
 use Rattle.check_flow.specs.declared.Verdict.the-variants.{Pass, Refuse}
@@ -125,7 +125,7 @@ module _ (f m₀ table : List ℕ) (k : ℕ) (B : Begun f m₀ table k) where
       room : (g : ℕ) → Mem g (heads f) → g + 6 < length f
       room g i =
           let w = head-in f (B .places) (B .records) g i in
-          let a = walk-above f 0 (B .places) (walk f (B .places) (B .records)) g (w .0) .1 in
+          let a = walk-above f 0 (B .places) (file-walk f (B .places) (B .records)) g (w .0) .1 in
           let b = after-head f (B .places) (B .records) g (w .1) in
           omega arith
 
@@ -136,8 +136,8 @@ module _ (f m₀ table : List ℕ) (k : ℕ) (B : Begun f m₀ table k) where
           let first : headOf f 0 + 6 < length f = room (headOf f 0) (unfold headOf procs in getD-in (heads f) 0 0 z) in
           rw (past n (omega arith)) (let q = head-zero in omega arith)
 
-  pub first-whole : 0 + 6 < length f
-  first-whole = let w = begun-table .whole 0 in let z = head-zero in omega arith
+  pub begun-whole : 0 + 6 < length f
+  begun-whole = let w = begun-table .whole 0 in let z = head-zero in omega arith
 
   module _ (m : List ℕ) (p c h e : ℕ) (F : Flowing f m table k p c h e) (below : p < length f) where
     next-is : (whole? f p ≡ true) × ((qs : List ℕ) × (restOf f (after f p) ≡ starts qs) × (F .rest ≡ p ∷ qs))
@@ -251,7 +251,7 @@ module _ (f m₀ table : List ℕ) (k : ℕ) (B : Begun f m₀ table k) where
           let z : suc (c - 1) ≡ c = let a = I .one in omega arith in
           between f (B .places) (B .records) (c - 1) p n-low (let a = I .head in let b = I .above in omega arith) (rw z (I .before))
 
-      held : Held m (stateIn m p .inner)
+      held : HandlerIn m (stateIn m p .inner)
       held = go (isSet (stateAt (F .known) p)) refl
         where
           G : Good f (F .known) m
@@ -267,11 +267,11 @@ module _ (f m₀ table : List ℕ) (k : ℕ) (B : Begun f m₀ table k) where
               let b = B .few in
               (omega arith, omega arith)
 
-          to-held : (q : ℕ) → (q ≡ none) ⊎ (isSet (stateAt (F .known) q) ≡ true) → Held m q
+          to-held : (q : ℕ) → (q ≡ none) ⊎ (isSet (stateAt (F .known) q) ≡ true) → HandlerIn m q
           to-held q (inl z) = inl z
           to-held q (inr z) = inr (place q z)
 
-          go : (t : Bool) → isSet (stateAt (F .known) p) ≡ t → Held m (stateIn m p .inner)
+          go : (t : Bool) → isSet (stateAt (F .known) p) ≡ t → HandlerIn m (stateIn m p .inner)
           go true z = rw (in-set f (F .known) m G p in? below z) (to-held (stateAt (F .known) p .inner) (G .fits p z .held))
           go false z = rw (in-unset f (F .known) m G p in? below z) (inl refl)
 
@@ -330,14 +330,14 @@ module _ (f m₀ table : List ℕ) (k : ℕ) (B : Begun f m₀ table k) where
           go (no l) = let a = I .above in let u = up in rw (lt-ltb h (after f p) (omega arith), le-ltb (after f p) e (omega arith))
 
       -- the depths lie above the floor and, where a state is known, within the greatest
-      floor : (outer (stateIn m) (stateIn m p) .main ≤ stateIn m p .main) × (outer (stateIn m) (stateIn m p) .ptr ≤ stateIn m p .ptr)
+      floor : (innermost (stateIn m) (stateIn m p) .main ≤ stateIn m p .main) × (innermost (stateIn m) (stateIn m p) .ptr ≤ stateIn m p .ptr)
       floor = go (isSet (stateAt (F .known) p)) refl
         where
           in? : member p (instructions f) ≡ true
           in? = in-member p (instructions f) flowing-ins
 
           go : (t : Bool) → isSet (stateAt (F .known) p) ≡ t →
-              (outer (stateIn m) (stateIn m p) .main ≤ stateIn m p .main) × (outer (stateIn m) (stateIn m p) .ptr ≤ stateIn m p .ptr)
+              (innermost (stateIn m) (stateIn m p) .main ≤ stateIn m p .main) × (innermost (stateIn m) (stateIn m p) .ptr ≤ stateIn m p .ptr)
           go true z =
               let T = F .good .fits p z in
               rw (in-set f (F .known) m (F .good) p in? below z, outer-alike f (B .places) (B .bytes) (B .records) (F .known) m (F .good) (stateAt (F .known) p) T)
@@ -353,7 +353,7 @@ module _ (f m₀ table : List ℕ) (k : ℕ) (B : Begun f m₀ table k) where
           go : (t : Bool) → isSet (stateAt (F .known) p) ≡ t → (stateIn m p .main ≤ byteAt f (h + 5)) × (stateIn m p .ptr ≤ byteAt f (h + 6))
           go true z =
               let head-is : h ≡ headOf f (procAt f p) = in-proc .head ∙ ap (headOf f) (sym proc-is) in
-              rw (in-set f (F .known) m (F .good) p in? below z, head-is) (unfold mostMain mostPtr in F .good .within p z)
+              rw (in-set f (F .known) m (F .good) p in? below z, head-is) (unfold greatestMain greatestPtr in F .good .within p z)
           go false z =
               let w : stateIn m p .main ≡ 65534 = ap (λ (u : State). u .main) (in-unset f (F .known) m (F .good) p in? below z) in absurd (omega arith)
 
@@ -377,35 +377,35 @@ module _ (f m₀ table : List ℕ) (k : ℕ) (B : Begun f m₀ table k) where
             bytes = B .bytes;
           }
 
-      abbrev Took : Step Known → ℕ → List ℕ → Type 0
-      Took s r m′ = ((r ≡ 0) × ((k′ : Known) × (s ≡ next k′) × Good f k′ m′)) ⊎ ((s ≡ bad r) × (r ≡ 0 → ⊥))
+      abbrev Took : Taking Known → ℕ → List ℕ → Type 0
+      Took s r m′ = ((r ≡ 0) × ((k′ : Known) × (s ≡ good k′) × Good f k′ m′)) ⊎ ((s ≡ bad r) × (r ≡ 0 → ⊥))
 
-      taken : (s : Step Known) (t : Step (List ℕ)) (r : ℕ) (m′ : List ℕ) → takeAns r m′ ≡ t → Alike f s t → Took s r m′
+      taken : (s : Taking Known) (t : Taking (List ℕ)) (r : ℕ) (m′ : List ℕ) → takeAns r m′ ≡ t → SameWay f s t → Took s r m′
       taken (bad n) (bad j) zero m′ w a = let z : true ≡ false = cc in absurd (true≢false z)
       taken (bad n) (bad j) (suc r) m′ w a = let z : suc r ≡ j = cc in inr (ap bad (a ∙ sym z), λ y. omega arith)
-      taken (bad n) (next l) r m′ w a = absurd a
-      taken (next k′) (bad j) r m′ w a = absurd a
-      taken (next k′) (next l) zero m′ w a = let z : m′ ≡ l = cc in inl (refl, (k′, refl, rw z a))
-      taken (next k′) (next l) (suc r) m′ w a = let z : true ≡ false = cc in absurd (true≢false z)
+      taken (bad n) (good l) r m′ w a = absurd a
+      taken (good k′) (bad j) r m′ w a = absurd a
+      taken (good k′) (good l) zero m′ w a = let z : m′ ≡ l = cc in inl (refl, (k′, refl, rw z a))
+      taken (good k′) (good l) (suc r) m′ w a = let z : true ≡ false = cc in absurd (true≢false z)
 
-      alike : Alike f (take f p (F .known)) (takeIn f p m)
+      alike : SameWay f (takeOne f p (F .known)) (takeIn f p m)
       alike = take-alike f (B .places) (B .bytes) (B .records) (F .known) m (F .good) p flowing-ins
 
-      come : flow f ≡ goOn p (take f p (F .known)) (λ k′. takeAll f (ins f (next-is .1 .0)) k′)
+      come : flow f ≡ goOn p (takeOne f p (F .known)) (λ k′. takeAll f (ins f (next-is .1 .0)) k′)
       unfolding takeAll
       come = F .so-far ∙ ap (λ (l : List ℕ). takeAll f l (F .known)) ins-are
 
       pub flowing-fault : (r : ℕ) (m′ : List ℕ) → takeAns r m′ ≡ takeIn f p m → (r ≡ 0 → ⊥) → Flowed f m′ k (Refuse r p)
-      flowing-fault r m′ w n = go (taken (take f p (F .known)) (takeIn f p m) r m′ w alike)
+      flowing-fault r m′ w n = go (taken (takeOne f p (F .known)) (takeIn f p m) r m′ w alike)
         where
-          go : Took (take f p (F .known)) r m′ → flow f ≡ refused r p
+          go : Took (takeOne f p (F .known)) r m′ → flow f ≡ refused r p
           go (inl z) = absurd (n (z .0))
           go (inr z) = come ∙ rw (z .0)
 
       pub flowing-take : (r : ℕ) (m′ : List ℕ) → takeAns r m′ ≡ takeIn f p m → r ≡ 0 → Flowing f m′ table k (after f p) c h e
-      flowing-take r m′ w z = go (taken (take f p (F .known)) (takeIn f p m) r m′ w alike)
+      flowing-take r m′ w z = go (taken (takeOne f p (F .known)) (takeIn f p m) r m′ w alike)
         where
-          go : Took (take f p (F .known)) r m′ → Flowing f m′ table k (after f p) c h e
+          go : Took (takeOne f p (F .known)) r m′ → Flowing f m′ table k (after f p) c h e
           go (inr y) = absurd (y .1 z)
           go (inl y) =
               let I = in-proc in
@@ -460,8 +460,8 @@ module _ (f m₀ table : List ℕ) (k : ℕ) (B : Begun f m₀ table k) where
           let x : 0 + q ≡ q = omega arith in
           rw x (in-set f (F .known) m (F .good) q i b (small q (S .within .0)))
         where
-          small : (q : ℕ) → stateAt (F .known) q .main ≤ mostMain f (procAt f q) → isSet (stateAt (F .known) q) ≡ true
-          small q w = unfold mostMain in rw (ne-eqb (stateAt (F .known) q .main) none (let y = B .bytes (headOf f (procAt f q) + 5) in omega arith))
+          small : (q : ℕ) → stateAt (F .known) q .main ≤ greatestMain f (procAt f q) → isSet (stateAt (F .known) q) ≡ true
+          small q w = unfold greatestMain in rw (ne-eqb (stateAt (F .known) q .main) none (let y = B .bytes (headOf f (procAt f q) + 5) in omega arith))
       at q b done false i =
           let x : 0 + q ≡ q = omega arith in
           let u = flow-rest f (B .places) (B .bytes) (B .records) (B .heads-hold) (F .known) done q (λ w. true≢false (sym (in-member q (instructions f) w) ∙ i)) in

@@ -14,8 +14,8 @@ use Rattle.model.specs.Choice.{if_then_else_, member}
 use Rattle.model.specs.File.{byteAt, instructions, heads, procs, headOf, procAt, upTo, recordsOf, starts, headKind}
 use Rattle.model.specs.Checker.{none, Known, own}
 use Rattle.laws.specs.Members.{Rising, member-in, getD-in}
-use Rattle.laws_file.specs.Walk.{instruction-below, heads-rise, head-in, ins-in, walk, walk-above, after-above, upTo-most, upTo-least, upTo-less}
-use Rattle.check_scan.specs.Marks.{Shows, starts-here}
+use Rattle.laws_file.specs.Walk.{instruction-below, heads-rise, head-in, ins-in, file-walk, walk-above, after-above, upTo-most, upTo-least, upTo-less}
+use Rattle.check_scan.specs.Marks.{PartShows, starts-here}
 
 -- where procedure n ends: at the next head, or with the file
 unfoldable pub endOf : List ℕ → ℕ → ℕ
@@ -29,7 +29,7 @@ module _ (f ps : List ℕ) (e : recordsOf f ≡ starts ps) where
   unfolding procs headOf
   head-low n h =
       let w = head-in f ps e (getD (heads f) n 0) (getD-in (heads f) n 0 h) in
-      let a = walk-above f 0 ps (walk f ps e) (getD (heads f) n 0) (w .0) .1 in
+      let a = walk-above f 0 ps (file-walk f ps e) (getD (heads f) n 0) (w .0) .1 in
       let b = after-above f (getD (heads f) n 0) in
       omega arith
 
@@ -84,7 +84,7 @@ module _ (f ps : List ℕ) (e : recordsOf f ≡ starts ps) where
           omega arith
       go (no h) = let c : length f ≤ q = rw (le-ltb (suc n) (length (heads f)) (omega arith)) at a in omega arith
 
-  module _ (k : Known) (m : List ℕ) (S : Shows f k m) (p : ℕ) (n : ℕ) (n-is : procAt f p ≡ n) (n-low : n < procs f) (first-head : headOf f 0 ≡ 0) where
+  module _ (k : Known) (m : List ℕ) (S : PartShows f k m) (p : ℕ) (n : ℕ) (n-is : procAt f p ≡ n) (n-low : n < procs f) (first-head : headOf f 0 ≡ 0) where
     outside : (q : ℕ) → length f ≤ q → ownIn m (headOf f n) (endOf f (suc n)) q ≡ false
     outside q h = go (ltb (headOf f n) q)
       where

@@ -10,23 +10,23 @@ use lib.Dec.{eqb}
 use lib.ListN.{length}
 use borrow.Author.Tests.{lt-ltb, eq-eqb, ne-eqb, eqb-true, eqb-false}
 use Rattle.model.specs.Choice.{if_then_else_, all, all-true, Mem, member}
-use Rattle.model.specs.File.{Ins, insAt, instructions, headOf, procAt, mostMain, mostPtr, recordsOf, starts}
-use Rattle.model.specs.Checker.{none, State, state, isSet, sameState, Known, stateAt, outer, passes, targetTests, nextTests, depthTests, leaveTests, Step, bad, next, need, meet, andThen, passAll, takeWith, take}
+use Rattle.model.specs.File.{Ins, insAt, instructions, headOf, procAt, greatestMain, greatestPtr, recordsOf, starts}
+use Rattle.model.specs.Checker.{none, State, state, isSet, sameState, Known, stateAt, innermost, passes, targetTests, nextTests, depthTests, leaveTests, Taking, bad, good, need, meet, andTake, passAll, takeWith, takeOne}
 use Rattle.model.specs.Claim.{Bytes}
 use Rattle.laws.specs.Members.{in-member, member-in}
 use Rattle.laws_file.specs.Walk.{instruction-below}
-use Rattle.theory_checker.specs.Flow.{Within, Depths, Inner, Moves, moves}
-use Rattle.check_scan.specs.Marks.{unreached, stateIn, putIn, Shows, put-shows}
+use Rattle.theory_checker.specs.Flow.{DepthsWithin, DepthsFrom, InnerFrom, Moves, moves}
+use Rattle.check_scan.specs.Marks.{unreached, stateIn, putIn, PartShows, put-shows}
 use Rattle.check_rows.specs.Rows.{isSetIn}
 
-abbrev pub passOneIn : List ℕ → ℕ → State → Step (List ℕ)
+abbrev pub passOneIn : List ℕ → ℕ → State → Taking (List ℕ)
 passOneIn m q s = meet (isSetIn (stateIn m q)) (sameState (stateIn m q) s) m (putIn m q s)
 
-abbrev pub passAllIn : List (ℕ × State) → List ℕ → Step (List ℕ)
-passAllIn [] m = next m
-passAllIn (o ∷ os) m = andThen (passOneIn m (o .0) (o .1)) (λ m′. passAllIn os m′)
+abbrev pub passAllIn : List (ℕ × State) → List ℕ → Taking (List ℕ)
+passAllIn [] m = good m
+passAllIn (o ∷ os) m = andTake (passOneIn m (o .0) (o .1)) (λ m′. passAllIn os m′)
 
-unfoldable pub takeInWith : List ℕ → ℕ → Ins → List ℕ → State → State → Step (List ℕ)
+unfoldable pub takeInWith : List ℕ → ℕ → Ins → List ℕ → State → State → Taking (List ℕ)
 takeInWith f p i m s o =
     need (all (targetTests f p i)) 5
     (need (isSetIn s && all (nextTests f p i)) 6
@@ -34,21 +34,21 @@ takeInWith f p i m s o =
     (need (all (leaveTests f p i s)) 8
     (passAllIn (passes f p i s o) m))))
 
-unfoldable pub takeIn : List ℕ → ℕ → List ℕ → Step (List ℕ)
-takeIn f p m = takeInWith f p (insAt f p) m (stateIn m p) (outer (stateIn m) (stateIn m p))
+unfoldable pub takeIn : List ℕ → ℕ → List ℕ → Taking (List ℕ)
+takeIn f p m = takeInWith f p (insAt f p) m (stateIn m p) (innermost (stateIn m) (stateIn m p))
 
 -- a state that the map can hold: depths are bytes, at its handler a state is known, and its depths are not below that one's
 pub record Fit (k : Known) (s : State) : Type 0 where
   pub main-byte : s .main < 256
   pub ptr-byte : s .ptr < 256
   pub held : (s .inner ≡ none) ⊎ (isSet (stateAt k (s .inner)) ≡ true)
-  pub main-above : outer (stateAt k) s .main ≤ s .main
-  pub ptr-above : outer (stateAt k) s .ptr ≤ s .ptr
+  pub main-above : innermost (stateAt k) s .main ≤ s .main
+  pub ptr-above : innermost (stateAt k) s .ptr ≤ s .ptr
 
 -- the known states fit, and have depths within those of their procedures
 pub record Good (f : List ℕ) (k : Known) (m : List ℕ) : Type 0 where
-  pub shows : Shows f k m
-  pub within : (q : ℕ) → isSet (stateAt k q) ≡ true → Within f q (stateAt k q)
+  pub shows : PartShows f k m
+  pub within : (q : ℕ) → isSet (stateAt k q) ≡ true → DepthsWithin f q (stateAt k q)
   pub fits : (q : ℕ) → isSet (stateAt k q) ≡ true → Fit k (stateAt k q)
 
 byte-set : (s : State) → s .main < 256 → isSet s ≡ true
@@ -78,12 +78,12 @@ grown k q r s h e = go (eqb r q)
     go false = e
 
 outer-grown : (k : Known) (q : ℕ) (s u : State) → isSet (stateAt k q) ≡ false → (u .inner ≡ none) ⊎ (isSet (stateAt k (u .inner)) ≡ true) →
-    outer (stateAt ((q, s) ∷ k)) u ≡ outer (stateAt k) u
+    innermost (stateAt ((q, s) ∷ k)) u ≡ innermost (stateAt k) u
 outer-grown k q s u n (inl e) = rw (eq-eqb (u .inner) none e)
 outer-grown k q s u n (inr e) = go (eqb (u .inner) q) refl
   where
     go : (t : Bool) → eqb (u .inner) q ≡ t →
-        (if eqb (u .inner) none then state 0 0 none else (if t then s else stateAt k (u .inner))) ≡ outer (stateAt k) u
+        (if eqb (u .inner) none then state 0 0 none else (if t then s else stateAt k (u .inner))) ≡ innermost (stateAt k) u
     go true z = let w = eqb-true (u .inner) q z in absurd (true≢false (sym e ∙ rw w n))
     go false z = refl
 
@@ -103,7 +103,7 @@ fit-grown k q s u h n F =
     go (inr e) = inr (grown k q (u .inner) s h e)
 
 good-put : (f : List ℕ) (k : Known) (m : List ℕ) (q : ℕ) (s : State) → Good f k m → member q (instructions f) ≡ true → q < length f →
-    isSet (stateAt k q) ≡ false → Fit k s → Within f q s → Good f ((q, s) ∷ k) (putIn m q s)
+    isSet (stateAt k q) ≡ false → Fit k s → DepthsWithin f q s → Good f ((q, s) ∷ k) (putIn m q s)
 good-put f k m q s G in? low n F W =
     let h = byte-set s (F .main-byte) in
     record {
@@ -113,7 +113,7 @@ good-put f k m q s G in? low n F W =
     }
   where
     inside : (r : ℕ) → isSet (if eqb r q then s else stateAt k r) ≡ true → (t : Bool) → eqb r q ≡ t →
-        Within f r (if eqb r q then s else stateAt k r)
+        DepthsWithin f r (if eqb r q then s else stateAt k r)
     inside r e true w = let z = eqb-true r q w in rw (w, z) W
     inside r e false w = let v : isSet (stateAt k r) ≡ true = rw w at e in rw w (G .within r v)
 
@@ -125,16 +125,16 @@ good-put f k m q s G in? low n F W =
         rw w (fit-grown k q s (stateAt k r) (byte-set s (F .main-byte)) n (G .fits r v))
 
 -- the two go the same way
-abbrev pub Alike : List ℕ → Step Known → Step (List ℕ) → Type 0
-Alike f (bad n) (bad j) = n ≡ j
-Alike f (bad n) (next m) = ⊥
-Alike f (next k) (bad j) = ⊥
-Alike f (next k) (next m) = Good f k m
+abbrev pub SameWay : List ℕ → Taking Known → Taking (List ℕ) → Type 0
+SameWay f (bad n) (bad j) = n ≡ j
+SameWay f (bad n) (good m) = ⊥
+SameWay f (good k) (bad j) = ⊥
+SameWay f (good k) (good m) = Good f k m
 
 -- states that an instruction passes on
 abbrev Sendable : List ℕ → Known → List (ℕ × State) → Type 0
 Sendable f k [] = Unit {0}
-Sendable f k (o ∷ os) = ((member (o .0) (instructions f) ≡ true) × (o .0 < length f) × Fit k (o .1) × Within f (o .0) (o .1)) × Sendable f k os
+Sendable f k (o ∷ os) = ((member (o .0) (instructions f) ≡ true) × (o .0 < length f) × Fit k (o .1) × DepthsWithin f (o .0) (o .1)) × Sendable f k os
 
 sendable-grown : (f : List ℕ) (k : Known) (q : ℕ) (s : State) (os : List (ℕ × State)) → isSet s ≡ true → isSet (stateAt k q) ≡ false →
     Sendable f k os → Sendable f ((q, s) ∷ k) os
@@ -142,7 +142,7 @@ sendable-grown f k q s [] h n S = tt
 sendable-grown f k q s (o ∷ os) h n S =
     ((S .0 .0, S .0 .1, fit-grown k q s (o .1) h n (S .0 .2), S .0 .3), sendable-grown f k q s os h n (S .1))
 
-all-alike : (f : List ℕ) (os : List (ℕ × State)) (k : Known) (m : List ℕ) → Good f k m → Sendable f k os → Alike f (passAll os k) (passAllIn os m)
+all-alike : (f : List ℕ) (os : List (ℕ × State)) (k : Known) (m : List ℕ) → Good f k m → Sendable f k os → SameWay f (passAll os k) (passAllIn os m)
 all-alike f [] k m G S = G
 all-alike f (o ∷ os) k m G S = go (isSet (stateAt k (o .0))) refl (λ k′ m′. all-alike f os k′ m′)
   where
@@ -152,21 +152,21 @@ all-alike f (o ∷ os) k m G S = go (isSet (stateAt k (o .0))) refl (λ k′ m�
     both : (t : Bool) → (isSet (stateAt k (o .0)) ≡ t) → isSetIn (stateIn m (o .0)) ≡ t
     both t h = set-alike f k m G (o .0) in? (S .0 .1) ∙ h
 
-    same? : (b : Bool) → Good f k m → ((k′ : Known) (m′ : List ℕ) → Good f k′ m′ → Sendable f k′ os → Alike f (passAll os k′) (passAllIn os m′)) →
-        Alike f (andThen (meet true b k ((o .0, o .1) ∷ k)) (λ k′. passAll os k′)) (andThen (meet true b m (putIn m (o .0) (o .1))) (λ m′. passAllIn os m′))
+    same? : (b : Bool) → Good f k m → ((k′ : Known) (m′ : List ℕ) → Good f k′ m′ → Sendable f k′ os → SameWay f (passAll os k′) (passAllIn os m′)) →
+        SameWay f (andTake (meet true b k ((o .0, o .1) ∷ k)) (λ k′. passAll os k′)) (andTake (meet true b m (putIn m (o .0) (o .1))) (λ m′. passAllIn os m′))
     same? true G r = r k m G (S .1)
     same? false G r = refl
 
     go : (t : Bool) → isSet (stateAt k (o .0)) ≡ t →
-        ((k′ : Known) (m′ : List ℕ) → Good f k′ m′ → Sendable f k′ os → Alike f (passAll os k′) (passAllIn os m′)) →
-        Alike f (passAll (o ∷ os) k) (passAllIn (o ∷ os) m)
+        ((k′ : Known) (m′ : List ℕ) → Good f k′ m′ → Sendable f k′ os → SameWay f (passAll os k′) (passAllIn os m′)) →
+        SameWay f (passAll (o ∷ os) k) (passAllIn (o ∷ os) m)
     go true h r = rw (h, both true h, in-set f k m G (o .0) in? (S .0 .1) h) (same? (sameState (stateAt k (o .0)) (o .1)) G r)
     go false h r =
         rw (h, both false h)
         (r ((o .0, o .1) ∷ k) (putIn m (o .0) (o .1)) (good-put f k m (o .0) (o .1) G in? (S .0 .1) h (S .0 .2) (S .0 .3))
         (sendable-grown f k (o .0) (o .1) os (byte-set (o .1) (S .0 .2 .main-byte)) h (S .1)))
 
-need-alike : (f : List ℕ) (t : Bool) (n : ℕ) (a : Step Known) (b : Step (List ℕ)) → (t ≡ true → Alike f a b) → Alike f (need t n a) (need t n b)
+need-alike : (f : List ℕ) (t : Bool) (n : ℕ) (a : Taking Known) (b : Taking (List ℕ)) → (t ≡ true → SameWay f a b) → SameWay f (need t n a) (need t n b)
 need-alike f true n a b h = h refl
 need-alike f false n a b h = refl
 
@@ -175,16 +175,16 @@ module _ (f ps : List ℕ) (B : Bytes f) (e : recordsOf f ≡ starts ps) (k : Kn
   low q h = instruction-below f ps e q (member-in q (instructions f) h)
 
   -- the state at the innermost open handler is shown too
-  pub outer-alike : (s : State) → Fit k s → outer (stateIn m) s ≡ outer (stateAt k) s
+  pub outer-alike : (s : State) → Fit k s → innermost (stateIn m) s ≡ innermost (stateAt k) s
   outer-alike s F = go (F .held)
     where
-      go : (s .inner ≡ none) ⊎ (isSet (stateAt k (s .inner)) ≡ true) → outer (stateIn m) s ≡ outer (stateAt k) s
+      go : (s .inner ≡ none) ⊎ (isSet (stateAt k (s .inner)) ≡ true) → innermost (stateIn m) s ≡ innermost (stateAt k) s
       go (inl z) = rw (eq-eqb (s .inner) none z)
       go (inr h) =
           let in? = G .shows .only (s .inner) h in
           rw (in-set f k m G (s .inner) in? (low (s .inner) in?) h)
 
-  outer-fit : (s : State) → Fit k s → (outer (stateAt k) s .inner ≡ none) ⊎ (isSet (stateAt k (outer (stateAt k) s .inner)) ≡ true)
+  outer-fit : (s : State) → Fit k s → (innermost (stateAt k) s .inner ≡ none) ⊎ (isSet (stateAt k (innermost (stateAt k) s .inner)) ≡ true)
   outer-fit s F = go (F .held) (eqb (s .inner) none) refl
     where
       go : (s .inner ≡ none) ⊎ (isSet (stateAt k (s .inner)) ≡ true) → (t : Bool) → eqb (s .inner) none ≡ t →
@@ -196,14 +196,14 @@ module _ (f ps : List ℕ) (B : Bytes f) (e : recordsOf f ≡ starts ps) (k : Kn
 
   -- and lies above its own floor
   outer-above : (s : State) → Fit k s →
-      (outer (stateAt k) (outer (stateAt k) s) .main ≤ outer (stateAt k) s .main)
-      × (outer (stateAt k) (outer (stateAt k) s) .ptr ≤ outer (stateAt k) s .ptr)
+      (innermost (stateAt k) (innermost (stateAt k) s) .main ≤ innermost (stateAt k) s .main)
+      × (innermost (stateAt k) (innermost (stateAt k) s) .ptr ≤ innermost (stateAt k) s .ptr)
   outer-above s F = go (F .held) (eqb (s .inner) none) refl
     where
       go : (s .inner ≡ none) ⊎ (isSet (stateAt k (s .inner)) ≡ true) → (t : Bool) → eqb (s .inner) none ≡ t →
-          (outer (stateAt k) (if t then state 0 0 none else stateAt k (s .inner)) .main
+          (innermost (stateAt k) (if t then state 0 0 none else stateAt k (s .inner)) .main
           ≤ (if t then state 0 0 none else stateAt k (s .inner)) .main)
-          × (outer (stateAt k) (if t then state 0 0 none else stateAt k (s .inner)) .ptr
+          × (innermost (stateAt k) (if t then state 0 0 none else stateAt k (s .inner)) .ptr
           ≤ (if t then state 0 0 none else stateAt k (s .inner)) .ptr)
       go h true z = (omega arith, omega arith)
       go (inl w) false z = absurd (eqb-false (s .inner) none z w)
@@ -214,11 +214,11 @@ module _ (f ps : List ℕ) (B : Bytes f) (e : recordsOf f ≡ starts ps) (k : Kn
     s = stateAt k p
 
     abbrev Above : State → Type 0
-    Above u = (outer (stateAt k) u .main ≤ u .main) × (outer (stateAt k) u .ptr ≤ u .ptr)
+    Above u = (innermost (stateAt k) u .main ≤ u .main) × (innermost (stateAt k) u .ptr ≤ u .ptr)
 
-    fit-moved : (q : ℕ) (u : State) → Moves f p (stateAt k p) (outer (stateAt k) (stateAt k p)) q u →
-        (member q (instructions f) ≡ true) × (q < length f) × Fit k u × Within f q u
-    unfolding mostMain mostPtr
+    fit-moved : (q : ℕ) (u : State) → Moves f p (stateAt k p) (innermost (stateAt k) (stateAt k p)) q u →
+        (member q (instructions f) ≡ true) × (q < length f) × Fit k u × DepthsWithin f q u
+    unfolding greatestMain greatestPtr
     fit-moved q u M =
         let F = G .fits p set? in (
           in-member q (instructions f) (M .there),
@@ -233,7 +233,7 @@ module _ (f ps : List ℕ) (B : Bytes f) (e : recordsOf f ≡ starts ps) (k : Kn
           near (M .depths),
         )
       where
-        near : Depths f p (stateAt k p) u → Within f q u
+        near : DepthsFrom f p (stateAt k p) u → DepthsWithin f q u
         near (inl d) = rw (M .same-proc) d
         near (inr d) = rw (M .same-proc, d .0, d .1) (G .within p set?)
 
@@ -248,7 +248,7 @@ module _ (f ps : List ℕ) (B : Bytes f) (e : recordsOf f ≡ starts ps) (k : Kn
         under-own false d = (omega arith, omega arith)
 
         above : (u .inner ≡ stateAt k p .inner) ⊎ ((u .main ≡ stateAt k p .main) × (u .ptr ≡ stateAt k p .ptr)) →
-            Inner f p (stateAt k p) (outer (stateAt k) (stateAt k p)) u → Above u
+            InnerFrom f p (stateAt k p) (innermost (stateAt k) (stateAt k p)) u → Above u
         above (inl z) i = under-same z
         above (inr d) (inl z) = under-same z
         above (inr d) (inr (inl z)) = rw (z .0) (under-own (eqb p none) d)
@@ -259,29 +259,29 @@ module _ (f ps : List ℕ) (B : Bytes f) (e : recordsOf f ≡ starts ps) (k : Kn
             let w = outer-above (stateAt k p) F in
             rw z (omega arith, omega arith)
 
-        small-main : Depths f p (stateAt k p) u → u .main < 256
+        small-main : DepthsFrom f p (stateAt k p) u → u .main < 256
         small-main (inl d) = omega (arith, d .0, B (headOf f (procAt f p) + 5))
         small-main (inr d) = omega (arith, d .0, G .fits p set? .main-byte)
 
-        small-ptr : Depths f p (stateAt k p) u → u .ptr < 256
+        small-ptr : DepthsFrom f p (stateAt k p) u → u .ptr < 256
         small-ptr (inl d) = omega (arith, d .1, B (headOf f (procAt f p) + 6))
         small-ptr (inr d) = omega (arith, d .1, G .fits p set? .ptr-byte)
 
-        inner-held : Inner f p (stateAt k p) (outer (stateAt k) (stateAt k p)) u → (u .inner ≡ none) ⊎ (isSet (stateAt k (u .inner)) ≡ true)
+        inner-held : InnerFrom f p (stateAt k p) (innermost (stateAt k) (stateAt k p)) u → (u .inner ≡ none) ⊎ (isSet (stateAt k (u .inner)) ≡ true)
         inner-held (inl z) = rw z (G .fits p set? .held)
         inner-held (inr (inl z)) = inr (rw (z .0) set?)
         inner-held (inr (inr z)) = rw z (outer-fit (stateAt k p) (G .fits p set?))
 
-    sendable : (os : List (ℕ × State)) → ((q : ℕ) (u : State) → Mem (q, u) os → (member q (instructions f) ≡ true) × (q < length f) × Fit k u × Within f q u) → Sendable f k os
+    sendable : (os : List (ℕ × State)) → ((q : ℕ) (u : State) → Mem (q, u) os → (member q (instructions f) ≡ true) × (q < length f) × Fit k u × DepthsWithin f q u) → Sendable f k os
     sendable [] h = tt
     sendable (o ∷ os) h = (h (o .0) (o .1) (inl refl), sendable os (λ q u w. h q u (inr w)))
 
     pub known-alike : (i : Ins) → insAt f p ≡ i →
-        Alike f (takeWith f p i k (stateAt k p) (outer (stateAt k) (stateAt k p))) (takeInWith f p i m (stateAt k p) (outer (stateAt k) (stateAt k p)))
+        SameWay f (takeWith f p i k (stateAt k p) (innermost (stateAt k) (stateAt k p))) (takeInWith f p i m (stateAt k p) (innermost (stateAt k) (stateAt k p)))
     unfolding takeWith takeInWith
     known-alike i z =
         let b = G .fits p set? .main-byte in
-        let o = outer (stateAt k) (stateAt k p) in
+        let o = innermost (stateAt k) (stateAt k p) in
         rw (set?, lt-ltb (stateAt k p .main) unreached (omega arith))
         (need-alike f (all (targetTests f p i)) 5 _ _ (λ t.
         need-alike f (all (nextTests f p i)) 6 _ _ (λ n.
@@ -299,20 +299,20 @@ module _ (f ps : List ℕ) (B : Bytes f) (e : recordsOf f ≡ starts ps) (k : Kn
         })
         q u (rw z w)))))))))
 
-  unknown-alike : (p : ℕ) (i : Ins) (s s′ o o′ : State) → isSet s ≡ false → isSetIn s′ ≡ false → Alike f (takeWith f p i k s o) (takeInWith f p i m s′ o′)
+  unknown-alike : (p : ℕ) (i : Ins) (s s′ o o′ : State) → isSet s ≡ false → isSetIn s′ ≡ false → SameWay f (takeWith f p i k s o) (takeInWith f p i m s′ o′)
   unfolding takeWith takeInWith
   unknown-alike p i s s′ o o′ a b = rw (a, b) (need-alike f (all (targetTests f p i)) 5 _ _ (λ t. refl))
 
-  pub take-alike : (p : ℕ) → Mem p (instructions f) → Alike f (take f p k) (takeIn f p m)
-  unfolding take takeIn
+  pub take-alike : (p : ℕ) → Mem p (instructions f) → SameWay f (takeOne f p k) (takeIn f p m)
+  unfolding takeOne takeIn
   take-alike p h = go (isSet (stateAt k p)) refl
     where
       in? : member p (instructions f) ≡ true
       in? = in-member p (instructions f) h
 
       go : (t : Bool) → isSet (stateAt k p) ≡ t →
-          Alike f (takeWith f p (insAt f p) k (stateAt k p) (outer (stateAt k) (stateAt k p)))
-          (takeInWith f p (insAt f p) m (stateIn m p) (outer (stateIn m) (stateIn m p)))
+          SameWay f (takeWith f p (insAt f p) k (stateAt k p) (innermost (stateAt k) (stateAt k p)))
+          (takeInWith f p (insAt f p) m (stateIn m p) (innermost (stateIn m) (stateIn m p)))
       go true z =
           rw (in-set f k m G p in? (low p in?) z, outer-alike (stateAt k p) (G .fits p z)) (known-alike p z (insAt f p) refl)
       go false z = unknown-alike p (insAt f p) _ _ _ _ z (set-alike f k m G p in? (low p in?) ∙ z)

@@ -10,8 +10,8 @@ use lib.Dec.{ltb, leb, eqb}
 use lib.ListN.{length}
 use borrow.Author.Tests.{ltb-true}
 use Rattle.model.specs.Choice.{if_then_else_}
-use Rattle.model.specs.File.{Ins, basic, jump, branch, branchKeep, call, return, enter, exit, raise, bodyOf, byteAt, insOf, insAt, after, headOf, procAt, resultsMain, resultsPtr, mostMain, mostPtr}
-use Rattle.model.specs.Checker.{none, State, state, effect, moved, outer, own, Step, bad, next, need}
+use Rattle.model.specs.File.{Ins, basic, jump, branch, branchKeep, call, return, enter, exit, raise, bodyOf, byteAt, insOf, insAt, after, headOf, procAt, resultsMain, resultsPtr, greatestMain, greatestPtr}
+use Rattle.model.specs.Checker.{none, State, state, effect, moved, innermost, own, Taking, bad, good, need}
 use Rattle.laws_file.specs.Kinds.{NoneOf}
 use Rattle.check_rows.specs.declared.State.{State as Numbers}
 use Rattle.check_rows.specs.declared.Limits.{Limits}
@@ -19,15 +19,15 @@ use Rattle.check_rows.specs.declared.Onward.{Onward}
 use Rattle.check_rows.specs.Shape.{Way, Next, Jump, Branch, Keep, Open, Close, Return, Shape, shape, shapeOf}
 use Rattle.check_rows.specs.Site as site
 use Rattle.check_rows.specs.Site.{Site}
-use Rattle.check_rows.specs.Tests.{asState, goesBy, jumpsBy, targetOk, stacksOk, depthOk, leaveOk, effectIn, nextState, targetState, Fits, stacks-fit, target-tests, next-tests, depth-tests, leave-tests, passes-are}
+use Rattle.check_rows.specs.Tests.{asState, goesBy, jumpsBy, targetOk, stacksOk, depthOk, leaveOk, effectIn, nextState, targetState, PopsFit, stacks-fit, target-tests, next-tests, depth-tests, leave-tests, passes-are}
 use Rattle.check_rows.specs.Rows.{row, rowShape, isSetIn, onwardBy, plainly, Bounded, still}
-use Rattle.check_rows.specs.Kinds.{Aside, elsewhere, straight?, straight}
+use Rattle.check_rows.specs.Kinds.{NoJump, elsewhere, straight?, straight}
 use Rattle.laws_file.specs.Walk.{after-above}
 use Rattle.check_scan.specs.Marks.{stateIn}
 use Rattle.check_flow.specs.declared.Taken.{Taken}
 use Rattle.check_flow.specs.Own.{ownIn}
 use Rattle.check_flow.specs.Takes.{passOneIn, passAllIn, takeIn, takeInWith}
-use Rattle.check_flow.specs.Faults.{takeAns, passAns, StateIs, OuterIs, Held, held-as, and-end}
+use Rattle.check_flow.specs.Faults.{takeAns, passAns, StateIs, OuterIs, HandlerIn, held-as, and-end}
 
 -- what is known of the instruction at p of the procedure between h and e
 pub record Here (f m : List ℕ) (h e p : ℕ) : Type 0 where
@@ -39,9 +39,9 @@ pub record Here (f m : List ℕ) (h e p : ℕ) : Type 0 where
   pub own-next : ownIn m h e (after f p) ≡ ltb (after f p) e
   pub end-low : e ≤ length f
   pub own-low : (q : ℕ) → own f p q ≡ true → q < length f
-  pub held : Held m (stateIn m p .inner)
-  pub main-floor : outer (stateIn m) (stateIn m p) .main ≤ stateIn m p .main
-  pub ptr-floor : outer (stateIn m) (stateIn m p) .ptr ≤ stateIn m p .ptr
+  pub held : HandlerIn m (stateIn m p .inner)
+  pub main-floor : innermost (stateIn m) (stateIn m p) .main ≤ stateIn m p .main
+  pub ptr-floor : innermost (stateIn m) (stateIn m p) .ptr ≤ stateIn m p .ptr
   pub within : stateIn m p .main < 65534 → (stateIn m p .main ≤ byteAt f (h + 5)) × (stateIn m p .ptr ≤ byteAt f (h + 6))
   pub bytes : (i : ℕ) → byteAt f i < 256
 
@@ -50,8 +50,8 @@ abbrev pub Bounds : List ℕ → ℕ → Limits → Type 0
 Bounds f h l = (l .x ≡ byteAt f (h + 5)) × (l .y ≡ byteAt f (h + 6))
 
 -- an instruction that pops n main words and leads to t
-abbrev pub leads : Way → ℕ → ℕ → Shape
-leads w n t = shape w (effect n 0 0 0) 0 0 t true
+abbrev pub leadsTo : Way → ℕ → ℕ → Shape
+leadsTo w n t = shape w (effect n 0 0 0) 0 0 t true
 
 abbrev pub branchWay : Bool → Way
 branchWay k = if k then Keep else Branch
@@ -70,7 +70,7 @@ pub record Among (f m : List ℕ) (h p : ℕ) (l : Limits) (kind : ℕ) : Type 0
   pub kind-is : byteAt f p ≡ kind
 
 abbrev pub takenBy : ℕ → ℕ → Taken
-takenBy n q = record { fault = n; next = q }
+takenBy n q = record { fault = n; good = q }
 
 -- what taking an instruction leaves
 pub record Took (f : List ℕ) (p : ℕ) (m m′ : List ℕ) (r : Taken) : Type 0 where
@@ -78,23 +78,23 @@ pub record Took (f : List ℕ) (p : ℕ) (m m′ : List ℕ) (r : Taken) : Type 
   pub on : r .fault ≡ 0 → r .next ≡ after f p
 
 -- tests with the numbers of their refusals, and what comes where all hold
-unfoldable pub judged : List (Bool × ℕ) → Step (List ℕ) → Step (List ℕ)
+unfoldable pub judged : List (Bool × ℕ) → Taking (List ℕ) → Taking (List ℕ)
 judged [] k = k
 judged (t ∷ ts) k = need (t .0) (t .1) (judged ts k)
 
-pub record Judged (x : Step (List ℕ)) (ts : List (Bool × ℕ)) (k : Step (List ℕ)) : Type 0 where
+pub record Judged (x : Taking (List ℕ)) (ts : List (Bool × ℕ)) (k : Taking (List ℕ)) : Type 0 where
   pub is : x ≡ judged ts k
 
 -- a test that fails stops, one that holds goes on
-pub stops : {x k : Step (List ℕ)} {t : Bool} {n : ℕ} {ts : List (Bool × ℕ)} → Judged x ((t, n) ∷ ts) k → t ≡ false → bad n ≡ x
+pub stops : {x k : Taking (List ℕ)} {t : Bool} {n : ℕ} {ts : List (Bool × ℕ)} → Judged x ((t, n) ∷ ts) k → t ≡ false → bad n ≡ x
 unfolding judged
 stops w e = sym (w .is ∙ rw e)
 
-pub passes : {x k : Step (List ℕ)} {t : Bool} {n : ℕ} {ts : List (Bool × ℕ)} → Judged x ((t, n) ∷ ts) k → t ≡ true → Judged x ts k
+pub test-passes : {x k : Taking (List ℕ)} {t : Bool} {n : ℕ} {ts : List (Bool × ℕ)} → Judged x ((t, n) ∷ ts) k → t ≡ true → Judged x ts k
 unfolding judged
-passes w e = record { is = w .is ∙ rw e }
+test-passes w e = record { is = w .is ∙ rw e }
 
-pub all-passed : {x k : Step (List ℕ)} → Judged x [] k → x ≡ k
+pub all-passed : {x k : Taking (List ℕ)} → Judged x [] k → x ≡ k
 unfolding judged
 all-passed w = w .is
 
@@ -105,7 +105,7 @@ pub record Onwards (f m : List ℕ) (p : ℕ) (l : Limits) (r : Onward) : Type 0
       (r .next ≡ after f p) × (takeIn f p m ≡ passOneIn m (after f p) (state (r .main) (r .ptr) (stateIn m p .inner)))
       × (r .next < l .end) × (r .main ≤ l .x) × (r .ptr ≤ l .y)
 
-branch-needs : (a u n d : Bool) (k : Step (List ℕ)) →
+branch-needs : (a u n d : Bool) (k : Taking (List ℕ)) →
     need (if a then true else false) 5 (need (u && n) 6 (need (if d then true else false) 7 k)) ≡ need a 5 (need u 6 (need n 6 (need d 7 k)))
 branch-needs true true true true k = refl
 branch-needs true true true false k = refl
@@ -119,7 +119,7 @@ module _ (f m : List ℕ) (h p : ℕ) (l : Limits) (H : Here f m h (l .end) p) (
   s = stateIn m p
 
   abbrev o : State
-  o = outer (stateIn m) (stateIn m p)
+  o = innermost (stateIn m) (stateIn m p)
 
   pub bounded : Bounded s o l
   bounded =
@@ -132,9 +132,9 @@ module _ (f m : List ℕ) (h p : ℕ) (l : Limits) (H : Here f m h (l .end) p) (
         y-byte = rw (B .1) (H .bytes (h + 6));
       }
 
-  head-bytes : (mostMain f (procAt f p) ≡ l .x) × (mostPtr f (procAt f p) ≡ l .y)
+  head-bytes : (greatestMain f (procAt f p) ≡ l .x) × (greatestPtr f (procAt f p) ≡ l .y)
       × (resultsMain f (procAt f p) ≡ byteAt f (h + 3)) × (resultsPtr f (procAt f p) ≡ byteAt f (h + 4))
-  unfolding mostMain mostPtr resultsMain resultsPtr
+  unfolding greatestMain greatestPtr resultsMain resultsPtr
   head-bytes =
       let z = sym (H .head) in (
         ap (λ (n : ℕ). byteAt f (n + 5)) z ∙ sym (B .0),
@@ -177,20 +177,20 @@ module _ (f m : List ℕ) (h p : ℕ) (l : Limits) (H : Here f m h (l .end) p) (
 
   -- where a state is known, depths that stay pass
   stays : (w : Way) (t : ℕ) → isSetIn s ≡ true →
-      stacksOk (leads w 0 t) s o (l .x) (l .y) ≡ true
+      stacksOk (leadsTo w 0 t) s o (l .x) (l .y) ≡ true
   stays w t z = still w t s o l bounded (ltb-true (s .main) 65534 z)
 
   -- 1 and 3
-  pub takes-jump : (t : ℕ) → shapeOf f p (insAt f p) ≡ leads Jump 0 t →
+  pub takes-jump : (t : ℕ) → shapeOf f p (insAt f p) ≡ leadsTo Jump 0 t →
       Judged (takeIn f p m) ((ownIn m h (l .end) t, 5) ∷ (isSetIn s, 6) ∷ []) (passOneIn m t s)
   unfolding targetOk leaveOk targetState judged
   takes-jump t e =
       record {
-        is = by-shape (leads Jump 0 t) e
+        is = by-shape (leadsTo Jump 0 t) e
             ∙ rw (and-end (passOneIn m t s)) (go (ownIn m h (l .end) t) (isSetIn s) _ _ (stays Jump t));
       }
     where
-      go : (a u d : Bool) (k : Step (List ℕ)) → (u ≡ true → d ≡ true) →
+      go : (a u d : Bool) (k : Taking (List ℕ)) → (u ≡ true → d ≡ true) →
           need (if a then true else false) 5 (need (u && true) 6 (need (if d then true else false) 7 k)) ≡ need a 5 (need u 6 k)
       go true true d k z = rw (z refl)
       go true false d k z = refl
@@ -200,7 +200,7 @@ module _ (f m : List ℕ) (h p : ℕ) (l : Limits) (H : Here f m h (l .end) p) (
   abbrev popped : State
   popped = state (s .main - 1) (s .ptr) (s .inner)
 
-  pub takes-branch : (keep : Bool) (t : ℕ) → shapeOf f p (insAt f p) ≡ leads (branchWay keep) 1 t →
+  pub takes-branch : (keep : Bool) (t : ℕ) → shapeOf f p (insAt f p) ≡ leadsTo (branchWay keep) 1 t →
       Judged (takeIn f p m)
       ((ownIn m h (l .end) t, 5)
       ∷ (isSetIn s, 6)
@@ -211,21 +211,21 @@ module _ (f m : List ℕ) (h p : ℕ) (l : Limits) (H : Here f m h (l .end) p) (
   unfolding targetOk leaveOk nextState targetState stacksOk judged
   takes-branch true t e =
       record {
-        is = by-shape (leads Keep 1 t) e
+        is = by-shape (leadsTo Keep 1 t) e
             ∙ rw (sub-zero (s .ptr), add-zero (s .ptr), add-zero (s .main - 1))
-            (branch-needs (ownIn m h (l .end) t) (isSetIn s) (ltb (after f p) (l .end)) (stacksOk (leads Keep 1 t) s o (l .x) (l .y))
+            (branch-needs (ownIn m h (l .end) t) (isSetIn s) (ltb (after f p) (l .end)) (stacksOk (leadsTo Keep 1 t) s o (l .x) (l .y))
             (passAllIn ((after f p, popped) ∷ (t, s) ∷ []) m));
       }
   takes-branch false t e =
       record {
-        is = by-shape (leads Branch 1 t) e
+        is = by-shape (leadsTo Branch 1 t) e
             ∙ rw (sub-zero (s .ptr), add-zero (s .ptr), add-zero (s .main - 1))
-            (branch-needs (ownIn m h (l .end) t) (isSetIn s) (ltb (after f p) (l .end)) (stacksOk (leads Branch 1 t) s o (l .x) (l .y))
+            (branch-needs (ownIn m h (l .end) t) (isSetIn s) (ltb (after f p) (l .end)) (stacksOk (leadsTo Branch 1 t) s o (l .x) (l .y))
             (passAllIn ((after f p, popped) ∷ (t, popped) ∷ []) m));
       }
 
   -- 160
-  pub takes-open : (t : ℕ) → shapeOf f p (insAt f p) ≡ leads Open 0 t →
+  pub takes-open : (t : ℕ) → shapeOf f p (insAt f p) ≡ leadsTo Open 0 t →
       Judged (takeIn f p m)
       ((ownIn m h (l .end) t, 5)
       ∷ (leb (suc p) t, 5)
@@ -241,12 +241,12 @@ module _ (f m : List ℕ) (h p : ℕ) (l : Limits) (H : Here f m h (l .end) p) (
   unfolding targetOk leaveOk nextState targetState judged
   takes-open t e =
       record {
-        is = by-shape (leads Open 0 t) e
+        is = by-shape (leadsTo Open 0 t) e
             ∙ rw (sub-zero (s .ptr), add-zero (s .ptr), sub-zero (s .main), add-zero (s .main))
             (go (ownIn m h (l .end) t) (leb (suc p) t) (isSetIn s) _ _ _ _ (stays Open t));
       }
     where
-      go : (a b u n d x : Bool) (k : Step (List ℕ)) → (u ≡ true → d ≡ true) →
+      go : (a b u n d x : Bool) (k : Taking (List ℕ)) → (u ≡ true → d ≡ true) →
           need (if a then b else false) 5 (need (u && n) 6 (need (if d then x else false) 7 k))
           ≡ need a 5 (need b 5 (need u 6 (need n 6 (need x 7 k))))
       go true true true n d x k z = rw (z refl)
@@ -255,14 +255,14 @@ module _ (f m : List ℕ) (h p : ℕ) (l : Limits) (H : Here f m h (l .end) p) (
       go false b u n d x k z = refl
 
   -- 161
-  pub takes-close : shapeOf f p (insAt f p) ≡ leads Close 0 0 →
+  pub takes-close : shapeOf f p (insAt f p) ≡ leadsTo Close 0 0 →
       Judged (takeIn f p m)
       ((isSetIn s, 6) ∷ (ltb (after f p) (l .end), 6) ∷ (not (eqb (s .inner) none), 8) ∷ [])
       (passOneIn m (after f p) (state (s .main) (s .ptr) (o .inner)))
   unfolding targetOk leaveOk nextState judged
   takes-close e =
       record {
-        is = by-shape (leads Close 0 0) e
+        is = by-shape (leadsTo Close 0 0) e
             ∙ rw (
               sub-zero (s .ptr),
               add-zero (s .ptr),
@@ -273,28 +273,28 @@ module _ (f m : List ℕ) (h p : ℕ) (l : Limits) (H : Here f m h (l .end) p) (
             (go (isSetIn s) _ _ _ (stays Close 0));
       }
     where
-      go : (u n d : Bool) (k : Step (List ℕ)) → (u ≡ true → d ≡ true) →
+      go : (u n d : Bool) (k : Taking (List ℕ)) → (u ≡ true → d ≡ true) →
           need (u && n) 6 (need (if d then true else false) 7 k) ≡ need u 6 (need n 6 k)
       go true n d k z = rw (z refl)
       go false n d k z = refl
 
   -- 73
-  pub takes-return : shapeOf f p (insAt f p) ≡ leads Return 0 0 →
+  pub takes-return : shapeOf f p (insAt f p) ≡ leadsTo Return 0 0 →
       Judged (takeIn f p m)
       ((isSetIn s, 6)
       ∷ (eqb (s .main) (byteAt f (h + 3)), 8)
       ∷ (eqb (s .ptr) (byteAt f (h + 4)), 8)
       ∷ (eqb (s .inner) none, 8)
       ∷ [])
-      (next m)
+      (good m)
   unfolding targetOk leaveOk judged
   takes-return e =
       record {
-        is = by-shape (leads Return 0 0) e
+        is = by-shape (leadsTo Return 0 0) e
             ∙ go (isSetIn s) _ (eqb (s .main) (byteAt f (h + 3))) (eqb (s .ptr) (byteAt f (h + 4))) _ _ (stays Return 0);
       }
     where
-      go : (u d a b c : Bool) (k : Step (List ℕ)) → (u ≡ true → d ≡ true) →
+      go : (u d a b c : Bool) (k : Taking (List ℕ)) → (u ≡ true → d ≡ true) →
           need (u && true) 6 (need (if d then true else false) 7 (need (if a then (if b then c else false) else false) 8 k))
           ≡ need u 6 (need a 8 (need b 8 (need c 8 k)))
       go true d true true c k z = rw (z refl)
@@ -309,11 +309,11 @@ module _ (f m : List ℕ) (h p : ℕ) (l : Limits) (H : Here f m h (l .end) p) (
   takes-plain e = go (insAt f p) refl e
     where
       -- by the four tests
-      out : (known set on d g : Bool) (r : Onward) (k : Step (List ℕ)) →
+      out : (known set on d g : Bool) (r : Onward) (k : Taking (List ℕ)) →
           takeIn f p m ≡ need known 5 (need (set && on) 6 (need (if d then true else false) 7 k)) → r .fault ≡ 0 → r .next ≡ after f p → r .goes ≡ g →
           (d ≡ true → on ≡ true → g ≡ true →
           (k ≡ passOneIn m (after f p) (state (r .main) (r .ptr) (s .inner))) × (after f p < l .end) × (r .main ≤ l .x) × (r .ptr ≤ l .y)) →
-          (g ≡ false → k ≡ next m) → Onwards f m p l (onwardBy known set on d r)
+          (g ≡ false → k ≡ good m) → Onwards f m p l (onwardBy known set on d r)
       out false set on d g r k w z q gg h n = record { stop = λ i. (sym w, λ y. absurd (omega arith)); pass = λ i. absurd (true≢false (sym i)) }
       out true false on d g r k w z q gg h n = record { stop = λ i. (sym w, λ y. absurd (omega arith)); pass = λ i. absurd (true≢false (sym i)) }
       out true true false d g r k w z q gg h n = record { stop = λ i. (sym w, λ y. absurd (omega arith)); pass = λ i. absurd (true≢false (sym i)) }
@@ -324,14 +324,14 @@ module _ (f m : List ℕ) (h p : ℕ) (l : Limits) (H : Here f m h (l .end) p) (
             pass = λ i. let v = h refl refl (sym gg ∙ i) in (q, w ∙ v .0, rw q (v .1), v .2, v .3);
           }
 
-      fits : (sh : Shape) → stacksOk sh s o (l .x) (l .y) ≡ true → Fits sh s (l .x) (l .y)
+      fits : (sh : Shape) → stacksOk sh s o (l .x) (l .y) ≡ true → PopsFit sh s (l .x) (l .y)
       fits sh d = stacks-fit sh s o (l .x) (l .y) d
 
       result : Shape → Onward
       result sh =
-          record { fault = 0; goes = goesBy (sh .way); next = after f p; main = moved (effectIn sh) s .main; ptr = moved (effectIn sh) s .ptr }
+          record { fault = 0; goes = goesBy (sh .way); good = after f p; main = moved (effectIn sh) s .main; ptr = moved (effectIn sh) s .ptr }
 
-      ends : Shape → Step (List ℕ)
+      ends : Shape → Taking (List ℕ)
       ends sh = passAllIn ((after f p, nextState sh p s o) ∷ []) m
 
       deep : Shape → Bool
@@ -350,7 +350,7 @@ module _ (f m : List ℕ) (h p : ℕ) (l : Limits) (H : Here f m h (l .end) p) (
           (λ g. absurd (true≢false g))
       go raise z y =
           let sh = shapeOf f p raise in
-          out true (isSetIn s) true (deep sh) false (result sh) (next m) (by-shape sh (ap (shapeOf f p) z)) refl refl refl
+          out true (isSetIn s) true (deep sh) false (result sh) (good m) (by-shape sh (ap (shapeOf f p) z)) refl refl refl
           (λ d on g. absurd (true≢false (sym g)))
           (λ g. refl)
       go (jump q) z y = absurd (true≢false (sym y))
@@ -393,7 +393,7 @@ module _ {f m : List ℕ} {h e p : ℕ} (H : Here f m h e p) where
 
 -- what the functions have in hand: the state s as read, o at the innermost open 160, and the place p + n behind the instruction
 module _ {f m : List ℕ} {h p : ℕ} {l : Limits} (H : Here f m h (l .end) p) (B : Bounds f h l) {s : Numbers} (S : StateIs m p s) where
-  pub held-here : Held m (s .inner)
+  pub held-here : HandlerIn m (s .inner)
   held-here = held-as m p s S (H .held)
 
   pub bounded-here : {o : Numbers} → OuterIs m (asState s) o → Bounded (asState s) (asState o) l
@@ -411,16 +411,16 @@ led {f} {m} {h} {p} A k n sh e b i =
     }
 
 module _ {f m : List ℕ} {h p : ℕ} {l : Limits} {s : Numbers} where
-  pub on-jump : {t : ℕ} → Led f m h p 3 l (leads Jump 0 t) → StateIs m p s →
+  pub on-jump : {t : ℕ} → Led f m h p 3 l (leadsTo Jump 0 t) → StateIs m p s →
       Judged (takeIn f p m) ((ownIn m h (l .end) t, 5) ∷ (isSetIn (asState s), 6) ∷ []) (passOneIn m t (asState s))
   on-jump L S = rw (← S .is) at (takes-jump f m h p l (L .here) (L .bounds) _ (L .shape-is))
 
-  pub on-branch : (keep : Bool) (t : ℕ) → Led f m h p 3 l (leads (branchWay keep) 1 t) → StateIs m p s →
+  pub on-branch : (keep : Bool) (t : ℕ) → Led f m h p 3 l (leadsTo (branchWay keep) 1 t) → StateIs m p s →
       Judged (takeIn f p m)
       ((ownIn m h (l .end) t, 5)
       ∷ (isSetIn (asState s), 6)
       ∷ (ltb (p + 3) (l .end), 6)
-      ∷ (stacksOk (rowShape Next (row 1 0 0 0 0 0)) (asState s) (outer (stateIn m) (asState s)) (l .x) (l .y), 7)
+      ∷ (stacksOk (rowShape Next (row 1 0 0 0 0 0)) (asState s) (innermost (stateIn m) (asState s)) (l .x) (l .y), 7)
       ∷ [])
       (passAllIn
       ((p + 3, state (s .main - 1) (s .ptr) (s .inner))
@@ -429,7 +429,7 @@ module _ {f m : List ℕ} {h p : ℕ} {l : Limits} {s : Numbers} where
       m)
   on-branch keep t L S = rw (← S .is, L .size) at (takes-branch f m h p l (L .here) (L .bounds) keep t (L .shape-is))
 
-  pub on-open : {t : ℕ} → Led f m h p 3 l (leads Open 0 t) → StateIs m p s →
+  pub on-open : {t : ℕ} → Led f m h p 3 l (leadsTo Open 0 t) → StateIs m p s →
       Judged (takeIn f p m)
       ((ownIn m h (l .end) t, 5)
       ∷ (leb (suc p) t, 5)
@@ -440,15 +440,15 @@ module _ {f m : List ℕ} {h p : ℕ} {l : Limits} {s : Numbers} where
       (passAllIn ((p + 3, state (s .main) (s .ptr) p) ∷ (t, state (s .main + 1) (s .ptr) (s .inner)) ∷ []) m)
   on-open L S = rw (← S .is, L .size) at (takes-open f m h p l (L .here) (L .bounds) _ (L .shape-is))
 
-  pub on-close : Led f m h p 1 l (leads Close 0 0) → StateIs m p s →
+  pub on-close : Led f m h p 1 l (leadsTo Close 0 0) → StateIs m p s →
       Judged (takeIn f p m) ((isSetIn (asState s), 6) ∷ (ltb (p + 1) (l .end), 6) ∷ (not (eqb (s .inner) none), 8) ∷ [])
-      (passOneIn m (p + 1) (state (s .main) (s .ptr) (outer (stateIn m) (asState s) .inner)))
+      (passOneIn m (p + 1) (state (s .main) (s .ptr) (innermost (stateIn m) (asState s) .inner)))
   on-close L S = rw (← S .is, L .size) at (takes-close f m h p l (L .here) (L .bounds) (L .shape-is))
 
-  pub on-return : Led f m h p 1 l (leads Return 0 0) → StateIs m p s →
+  pub on-return : Led f m h p 1 l (leadsTo Return 0 0) → StateIs m p s →
       Judged (takeIn f p m)
       ((isSetIn (asState s), 6) ∷ (eqb (s .main) (byteAt f (h + 3)), 8) ∷ (eqb (s .ptr) (byteAt f (h + 4)), 8) ∷ (eqb (s .inner) none, 8) ∷ [])
-      (next m)
+      (good m)
   on-return L S = rw (← S .is) at (takes-return f m h p l (L .here) (L .bounds) (L .shape-is))
 
 -- taking an instruction of kind k, whose record has n bytes, where nothing but the fault is left open
@@ -458,10 +458,10 @@ unfolding after
 took A k n e b w = record { is = w; on = λ z. rw (A .kind-is, e) (omega (arith, b)) }
 
 -- and one that leads to the next alone, or nowhere
-pub onwards : {f m : List ℕ} {h p kind : ℕ} {l : Limits} {s o : Numbers} {r : Onward} → Among f m h p l kind → Aside kind → NoneOf elsewhere kind →
+pub onwards-taken : {f m : List ℕ} {h p kind : ℕ} {l : Limits} {s o : Numbers} {r : Onward} → Among f m h p l kind → NoJump kind → NoneOf elsewhere kind →
     StateIs m p s → OuterIs m (asState s) o → r ≡ plainly (asState s) (asState o) l (after f p) (shapeOf f p (insAt f p)) → Onwards f m p l r
 unfolding insAt
-onwards {f} {m} {h} {p} {kind} {l} A a e S O w =
+onwards-taken {f} {m} {h} {p} {kind} {l} A a e S O w =
     rw (w, O .is, S .is) (takes-plain f m h p l (A .here) (A .bounds) (rw (A .kind-is) (straight kind a e f p)))
 
 module _ {f m : List ℕ} {p : ℕ} {l : Limits} {r : Onward} (W : Onwards f m p l r) where

@@ -7,12 +7,12 @@ ghost use Rattle.model.specs.File as model;
 ghost use Rattle.laws_file.specs.Kinds.{NoneOf};
 ghost use Rattle.check_rows.specs.Shape.{Jump, Open, Close, Return};
 ghost use Rattle.check_rows.specs.Site.{Table};
-ghost use Rattle.check_rows.specs.Kinds.{Aside, elsewhere};
+ghost use Rattle.check_rows.specs.Kinds.{NoJump, elsewhere};
 ghost use Rattle.check_rows.specs.Tests.{asState};
 ghost use Rattle.check_flow.specs.Own.{ownIn};
 ghost use Rattle.check_flow.specs.Takes.{passOneIn, passAllIn, takeIn};
-ghost use Rattle.check_flow.specs.Faults.{passAns, takeAns, StateIs, OuterIs, Held, Fitting, endIn};
-ghost use Rattle.check_flow.specs.Ways.{leads, branchWay, Led, Among, Bounds, takenBy, Took};
+ghost use Rattle.check_flow.specs.Faults.{passAns, takeAns, StateIs, OuterIs, HandlerIn, Fitting, endIn};
+ghost use Rattle.check_flow.specs.Ways.{leadsTo, branchWay, Led, Among, Bounds, takenBy, Took};
 ghost use Rattle.check_flow.specs.Flowing.{Begun, Flowed};
 use check_rows::Limits;
 use check_rows::State;
@@ -52,7 +52,7 @@ fn own(m: &[u16], head: usize, end: usize, q: usize) -> bool
 
 // The state at the innermost open handler.
 fn outer_of(m: &[u16], s: State) -> State
-    requires { ⌜ Held (now m) (s .inner) ⌝ }
+    requires { ⌜ HandlerIn (now m) (s .inner) ⌝ }
     ensures { λ r. ⌜ OuterIs (now (m .entry)) (asState s) r ⌝ }
 {
     let inner = s.inner;
@@ -101,7 +101,7 @@ fn pass_both(m: &mut [u16], next: usize, s: State, target: usize, t: State) -> u
 
 // 1 and 3: to the target alone. The depths stay, so that nothing is asked of them.
 fn jump(file: &[u8], m: &mut [u16], head: usize, limits: Limits, p: usize, target: usize) -> u32
-    requires { ⌜ Led (now file) (now m) head p 3 limits (leads Jump 0 target) ⌝ }
+    requires { ⌜ Led (now file) (now m) head p 3 limits (leadsTo Jump 0 target) ⌝ }
     ensures { λ r. ⌜ takeAns r (now (m .exit)) ≡ takeIn (now (file .entry)) p (now (m .entry)) ⌝ }
 {
     if own(m, head, limits.end, target) {
@@ -127,7 +127,7 @@ fn branch(
     target: usize,
     keep: bool,
 ) -> u32
-    requires { ⌜ Led (now file) (now m) head p 3 limits (leads (branchWay keep) 1 target) ⌝ }
+    requires { ⌜ Led (now file) (now m) head p 3 limits (leadsTo (branchWay keep) 1 target) ⌝ }
     ensures { λ r. ⌜ takeAns r (now (m .exit)) ≡ takeIn (now (file .entry)) p (now (m .entry)) ⌝ }
 {
     let next = p + 3;
@@ -159,7 +159,7 @@ fn branch(
 
 // 160: the handler gets the depths before it and one main word more.
 fn open(file: &[u8], m: &mut [u16], head: usize, limits: Limits, p: usize, target: usize) -> u32
-    requires { ⌜ Led (now file) (now m) head p 3 limits (leads Open 0 target) ⌝ }
+    requires { ⌜ Led (now file) (now m) head p 3 limits (leadsTo Open 0 target) ⌝ }
     ensures { λ r. ⌜ takeAns r (now (m .exit)) ≡ takeIn (now (file .entry)) p (now (m .entry)) ⌝ }
 {
     let next = p + 3;
@@ -195,7 +195,7 @@ fn open(file: &[u8], m: &mut [u16], head: usize, limits: Limits, p: usize, targe
 
 // 161: the innermost handler is closed.
 fn close(file: &[u8], m: &mut [u16], head: usize, limits: Limits, p: usize) -> u32
-    requires { ⌜ Led (now file) (now m) head p 1 limits (leads Close 0 0) ⌝ }
+    requires { ⌜ Led (now file) (now m) head p 1 limits (leadsTo Close 0 0) ⌝ }
     ensures { λ r. ⌜ takeAns r (now (m .exit)) ≡ takeIn (now (file .entry)) p (now (m .entry)) ⌝ }
 {
     let next = p + 1;
@@ -223,7 +223,7 @@ fn close(file: &[u8], m: &mut [u16], head: usize, limits: Limits, p: usize) -> u
 
 // 73: the state passes nowhere.
 fn leave(file: &[u8], m: &[u16], head: usize, limits: Limits, p: usize) -> u32
-    requires { ⌜ Led (now file) (now m) head p 1 limits (leads Return 0 0) ⌝ }
+    requires { ⌜ Led (now file) (now m) head p 1 limits (leadsTo Return 0 0) ⌝ }
     ensures { λ r. ⌜ takeAns r (now (m .entry)) ≡ takeIn (now (file .entry)) p (now (m .entry)) ⌝ }
 {
     let h = code_file::head_at(file, head);
@@ -280,7 +280,7 @@ fn plain(
     p: usize,
     kind: u8,
 ) -> Taken
-    requires { ⌜ Table (now file) (now table) k × Among (now file) (now m) head p limits kind × Aside kind × NoneOf elsewhere kind ⌝ }
+    requires { ⌜ Table (now file) (now table) k × Among (now file) (now m) head p limits kind × NoJump kind × NoneOf elsewhere kind ⌝ }
     ensures { λ r. ⌜ Took (now (file .entry)) p (now (m .entry)) (now (m .exit)) r ⌝ }
 {
     let s = state_in(m, p);

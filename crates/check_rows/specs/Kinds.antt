@@ -10,43 +10,43 @@ use lib.Dec.{eqb}
 use borrow.Author.Tests.{ne-eqb}
 use Rattle.model.specs.Choice.{if_then_else_}
 use Rattle.model.specs.File.{codes, bodies, unknown, bodyOf, Ins, basic, jump, branch, branchKeep, call, return, enter, exit, raise, insOf}
-use Rattle.laws_file.specs.Kinds.{OneOf, NoneOf, every, ins-other, body-other}
+use Rattle.laws_file.specs.Kinds.{OneOf, NoneOf, at-each, ins-other, body-other}
 
 -- what holds at each of n numbers from a on
-abbrev pub Each : (ℕ → Type 0) → ℕ → ℕ → Type 0
-Each P a zero = Unit {0}
-Each P a (suc n) = P a × Each P (suc a) n
+abbrev pub EachFrom : (ℕ → Type 0) → ℕ → ℕ → Type 0
+EachFrom P a zero = Unit {0}
+EachFrom P a (suc n) = P a × EachFrom P (suc a) n
 
-pub each : (P : ℕ → Type 0) (n a : ℕ) → Each P a n → (k : ℕ) → a ≤ k → k < a + n → P k
-each P zero a h k low high = absurd (omega arith)
-each P (suc n) a h k low high =
+pub each-from : (P : ℕ → Type 0) (n a : ℕ) → EachFrom P a n → (k : ℕ) → a ≤ k → k < a + n → P k
+each-from P zero a h k low high = absurd (omega arith)
+each-from P (suc n) a h k low high =
     ⊎-elim
     (λ e. subst P e (h .0))
-    (λ l. each P n (suc a) (h .1) k l (omega arith))
+    (λ l. each-from P n (suc a) (h .1) k l (omega arith))
     (eq-or-lt-of-le low)
 
 pub body-jumps : (k : ℕ) → 1 ≤ k → k ≤ 6 → bodyOf k ≡ 2
 unfolding bodyOf bodies codes
-body-jumps k low high = each (λ n. bodyOf n ≡ 2) 6 1 (refl, (refl, (refl, (refl, (refl, (refl, tt)))))) k low (omega arith)
+body-jumps k low high = each-from (λ n. bodyOf n ≡ 2) 6 1 (refl, (refl, (refl, (refl, (refl, (refl, tt)))))) k low (omega arith)
 
 pub body-locals : (k : ℕ) → 20 ≤ k → k ≤ 23 → bodyOf k ≡ 2
 unfolding bodyOf bodies codes
-body-locals k low high = each (λ n. bodyOf n ≡ 2) 4 20 (refl, (refl, (refl, (refl, tt)))) k low (omega arith)
+body-locals k low high = each-from (λ n. bodyOf n ≡ 2) 4 20 (refl, (refl, (refl, (refl, tt)))) k low (omega arith)
 
 pub body-blocks : (k : ℕ) → OneOf (36 ∷ 60 ∷ 62 ∷ 64 ∷ []) k → bodyOf k ≡ 4
 unfolding bodyOf bodies codes
-body-blocks k o = every (λ n. bodyOf n ≡ 4) (36 ∷ 60 ∷ 62 ∷ 64 ∷ []) k (refl, (refl, (refl, (refl, tt)))) o
+body-blocks k o = at-each (λ n. bodyOf n ≡ 4) (36 ∷ 60 ∷ 62 ∷ 64 ∷ []) k (refl, (refl, (refl, (refl, tt)))) o
 
 -- the codes with functions of their own, which lead elsewhere: 1 to 6, and those of the list
-abbrev pub Aside : ℕ → Type 0
-Aside k = (k < 1) ⊎ (6 < k)
+abbrev pub NoJump : ℕ → Type 0
+NoJump k = (k < 1) ⊎ (6 < k)
 
 abbrev pub elsewhere : List (List ℕ)
 elsewhere = (161 ∷ []) ∷ (160 ∷ []) ∷ (73 ∷ []) ∷ (240 ∷ []) ∷ []
 
 -- the arms of `plain_at`, the last one first; 20 to 23 are told by a range
-abbrev pub rows : List (List ℕ)
-rows =
+abbrev pub rowArms : List (List ℕ)
+rowArms =
     (141 ∷ 143 ∷ [])
     ∷ (130 ∷ 140 ∷ 142 ∷ 145 ∷ 195 ∷ 198 ∷ 201 ∷ 204 ∷ [])
     ∷ (144 ∷ 146 ∷ [])
@@ -68,7 +68,7 @@ rows =
 abbrev ranged : List (List ℕ)
 ranged = map (λ n. n ∷ []) (1 ∷ 2 ∷ 3 ∷ 4 ∷ 5 ∷ 6 ∷ 20 ∷ 21 ∷ 22 ∷ 23 ∷ [])
 
-ranged-none : (k : ℕ) → Aside k → (k < 20) ⊎ (23 < k) → NoneOf ranged k
+ranged-none : (k : ℕ) → NoJump k → (k < 20) ⊎ (23 < k) → NoneOf ranged k
 ranged-none k a b = ⊎-elim (λ l. omega arith) (λ l. ⊎-elim (λ r. omega arith) (λ r. omega arith) b) a
 
 none-on : (nss mss : List (List ℕ)) (k : ℕ) → NoneOf nss k → NoneOf mss k → NoneOf (nss ++ mss) k
@@ -76,12 +76,12 @@ none-on [] mss k h g = g
 none-on (ns ∷ nss) mss k h g = (none-on nss mss k (h .0) g, h .1)
 
 -- a code with no row is 162
-module _ (k : ℕ) (a : Aside k) (e : NoneOf elsewhere k) (b : (k < 20) ⊎ (23 < k)) (h : NoneOf rows k) where
+module _ (k : ℕ) (a : NoJump k) (e : NoneOf elsewhere k) (b : (k < 20) ⊎ (23 < k)) (h : NoneOf rowArms k) where
   abbrev others : List (List ℕ)
-  others = rows ++ elsewhere ++ ranged
+  others = rowArms ++ elsewhere ++ ranged
 
   none : NoneOf others k
-  none = none-on rows (elsewhere ++ ranged) k h (none-on elsewhere ranged k e (ranged-none k a b))
+  none = none-on rowArms (elsewhere ++ ranged) k h (none-on elsewhere ranged k e (ranged-none k a b))
 
   pub ins-raise : (f : List ℕ) (p : ℕ) → insOf f p k ≡ raise
   ins-raise f p = ins-other others tt f p k none
@@ -110,7 +110,7 @@ if-same : (t b : Bool) → (if t then b else b) ≡ b
 if-same true b = refl
 if-same false b = refl
 
-pub straight : (k : ℕ) → Aside k → NoneOf elsewhere k → (f : List ℕ) (p : ℕ) → straight? (insOf f p k) ≡ true
+pub straight : (k : ℕ) → NoJump k → NoneOf elsewhere k → (f : List ℕ) (p : ℕ) → straight? (insOf f p k) ≡ true
 unfolding insOf
 straight k a e f p =
     let no : (n : ℕ) → 1 ≤ n → n ≤ 6 → eqb k n ≡ false =

@@ -49,8 +49,8 @@ pub record Bounded (s o : State) (l : Limits) : Type 0 where
   pub x-byte : l .x < 256
   pub y-byte : l .y < 256
 
-abbrev pub Pushes : Row → Type 0
-Pushes r = (r .pushm < 256) × (r .pushp < 256)
+abbrev pub PushesFew : Row → Type 0
+PushesFew r = (r .pushm < 256) × (r .pushp < 256)
 
 -- depths that stay as they are pass the tests
 pub still : (w : Way) (t : ℕ) (s o : State) (l : Limits) → Bounded s o l → s .main < 65534 →
@@ -77,9 +77,9 @@ at-row f p k n s o l sh r e b i w =
 
 -- the ways out of a row
 module _ (w : Way) (r : Row) (s o : State) (l : Limits) (q : ℕ) where
-  pub unreached : 65534 ≤ s .main → refusal 6 ≡ plainly s o l q (rowShape w r)
+  pub unreached-refused : 65534 ≤ s .main → refusal 6 ≡ plainly s o l q (rowShape w r)
   unfolding plainly
-  unreached a = rw (le-ltb (s .main) 65534 a)
+  unreached-refused a = rw (le-ltb (s .main) 65534 a)
 
   module _ (a : s .main < 65534) where
     pub past : goesBy w ≡ true → l .end ≤ q → refusal 6 ≡ plainly s o l q (rowShape w r)

@@ -21,9 +21,9 @@ pub record Site (f : List ℕ) (p : ℕ) : Type 0 where
   pub small : length f ≤ 4096
 
 -- a body of n bytes lies in the file
-pub room : {f : List ℕ} {p : ℕ} → Site f p → (n : ℕ) → bodyOf (byteAt f p) ≡ n → p + n < length f
+pub body-room : {f : List ℕ} {p : ℕ} → Site f p → (n : ℕ) → bodyOf (byteAt f p) ≡ n → p + n < length f
 unfolding after
-room s n e = omega (arith, s .inside)
+body-room s n e = omega (arith, s .inside)
 
 pub low : {f : List ℕ} {p : ℕ} → Site f p → p < 4096
 unfolding after

@@ -8,8 +8,8 @@ use borrow.Author.Tests.{le-leb, leb-true, eqb-true}
 use native.Mathlib.Nat.{add-zero, sub-zero}
 use native.Mathlib.Numerals.{add-one}
 use native.Mathlib.Omega.{arith}
-use Rattle.model.specs.Choice.{if_then_else_, Test, most, yes?, holds, all, if-both}
-use Rattle.model.specs.File.{onMain, onPtr, Basic, local, assign, field, setField, make, literal, nil, root, setRoot, retract, binary, samePtr, unary, Ins, basic, jump, branch, branchKeep, call, return, enter, exit, raise, after, procAt, resultsMain, resultsPtr, mostMain, mostPtr}
+use Rattle.model.specs.Choice.{if_then_else_, Test, atMost, yes?, holds, all, if-both}
+use Rattle.model.specs.File.{onMain, onPtr, Basic, local, assign, field, setField, make, literal, nil, root, setRoot, retract, binary, samePtr, unary, Ins, basic, jump, branch, branchKeep, call, return, enter, exit, raise, after, procAt, resultsMain, resultsPtr, greatestMain, greatestPtr}
 use Rattle.model.specs.Checker.{none, State, state, Effect, effect, basicEffect, effectOf, moved, goesOn, passes, own, targetTests, nextTests, wordTests, moreTests, floorTest, depthsMost, depthTests, leaveTests}
 use Rattle.check_rows.specs.declared.State.{State as Words}
 use Rattle.check_rows.specs.Shape.{Way, Next, Jump, Branch, Keep, Open, Close, Return, Raise, Shape, words, shapeOf}
@@ -78,9 +78,9 @@ targetOk w known own q p = (if jumpsBy w then and own (if opensBy w then leb (su
 -- refusal 7 with the floor asked where nothing is popped too
 unfoldable firmTests : List ℕ → ℕ → Ins → State → State → List Test
 firmTests f p i s o =
-    most (o .main + effectOf f i .popMain) (s .main)
-    ∷ most (o .ptr + effectOf f i .popPtr) (s .ptr)
-    ∷ (depthsMost (mostMain f (procAt f p)) (mostPtr f (procAt f p)) (moved (effectOf f i) s) ++ moreTests (mostMain f (procAt f p)) i s)
+    atMost (o .main + effectOf f i .popMain) (s .main)
+    ∷ atMost (o .ptr + effectOf f i .popPtr) (s .ptr)
+    ∷ (depthsMost (greatestMain f (procAt f p)) (greatestPtr f (procAt f p)) (moved (effectOf f i) s) ++ moreTests (greatestMain f (procAt f p)) i s)
 
 -- where the depths lie above the floor, both come to the same
 floor-same : (n floor depth : ℕ) → floor ≤ depth → holds (floorTest n floor depth) ≡ leb (floor + n) depth
@@ -152,9 +152,9 @@ unfoldable pub targetState : Shape → State → State
 targetState sh s =
     state (targetMain (sh .way) (s .main) (moved (effectIn sh) s .main) (s .main + 1)) (s .ptr) (s .inner)
 
-pub and-true : (t : Bool) → and t true ≡ t
-and-true true = refl
-and-true false = refl
+pub and-right : (t : Bool) → and t true ≡ t
+and-right true = refl
+and-right false = refl
 
 and-false : (t : Bool) → and t false ≡ false
 and-false true = refl
@@ -192,7 +192,7 @@ by-stack true false c d e g t = rw (and-false (and e c))
 by-stack true true false d e g t = simp and-false
 by-stack true true true false e g t = simp and-false
 by-stack true true true true false g t = refl
-by-stack true true true true true g t = simp and-true
+by-stack true true true true true g t = simp and-right
 
 -- at every place of every file
 module _ (f : List ℕ) (p : ℕ) where
@@ -218,9 +218,9 @@ module _ (f : List ℕ) (p : ℕ) where
   target-tests (jump q) = refl
   target-tests (branch t q) = refl
   target-tests (branchKeep t q) = refl
-  target-tests (call n) = and-true _
+  target-tests (call n) = and-right _
   target-tests return = refl
-  target-tests (enter n) = simp and-true
+  target-tests (enter n) = simp and-right
   target-tests exit = refl
   target-tests raise = refl
 
@@ -237,7 +237,7 @@ module _ (f : List ℕ) (p : ℕ) where
   goes-on raise = refl
 
   next-by : (t : Bool) → all (if t then yes? (own f p (after f p)) ∷ [] else []) ≡ (if t then own f p (after f p) else true)
-  next-by true = and-true _
+  next-by true = and-right _
   next-by false = refl
 
   pub next-tests : (i : Ins) → all (nextTests f p i) ≡ (if goesBy (at i .way) then own f p (after f p) else true)
@@ -254,16 +254,16 @@ module _ (f : List ℕ) (p : ℕ) where
   more-tests (branchKeep t q) s x = simp leb·zero
   more-tests (call n) s x = simp leb·zero
   more-tests return s x = simp leb·zero
-  more-tests (enter n) s x = simp (leb·zero, and-true, add-one)
+  more-tests (enter n) s x = simp (leb·zero, and-right, add-one)
   more-tests exit s x = simp leb·zero
   more-tests raise s x = simp leb·zero
 
   pub depth-tests : (i : Ins) (s o : State) → o .main ≤ s .main → o .ptr ≤ s .ptr →
-      all (depthTests f p i s o) ≡ depthOk (at i) s o (mostMain f (procAt f p)) (mostPtr f (procAt f p))
+      all (depthTests f p i s o) ≡ depthOk (at i) s o (greatestMain f (procAt f p)) (greatestPtr f (procAt f p))
   unfolding firmTests stacksOk stackOk
   depth-tests i s o a b =
-      let x = mostMain f (procAt f p) in
-      let y = mostPtr f (procAt f p) in
+      let x = greatestMain f (procAt f p) in
+      let y = greatestPtr f (procAt f p) in
       firm-same f p i s o a b
       ∙ rw (effect-is i, more-tests i s x)
       (by-stack
@@ -283,9 +283,9 @@ module _ (f : List ℕ) (p : ℕ) where
   leave-tests (branch t q) s = refl
   leave-tests (branchKeep t q) s = refl
   leave-tests (call n) s = refl
-  leave-tests return s = simp and-true
+  leave-tests return s = simp and-right
   leave-tests (enter n) s = refl
-  leave-tests exit s = and-true _
+  leave-tests exit s = and-right _
   leave-tests raise s = refl
 
   pub passes-are : (i : Ins) (s o : State) →
@@ -311,13 +311,13 @@ stack-fits have floor pop push word x e =
     let h = if-both (leb word (have - pop)) (leb (have - pop + push) x) (g .1) in
     (omega (arith, leb-true (floor + pop) have (g .0)), leb-true (have - pop + push) x (h .1))
 
-pub record Fits (sh : Shape) (s : State) (x y : ℕ) : Type 0 where
+pub record PopsFit (sh : Shape) (s : State) (x y : ℕ) : Type 0 where
   pub main : sh .popm ≤ s .main
   pub ptr : sh .popp ≤ s .ptr
   pub main-within : s .main - sh .popm + sh .pushm ≤ x
   pub ptr-within : s .ptr - sh .popp + sh .pushp ≤ y
 
-pub stacks-fit : (sh : Shape) (s o : State) (x y : ℕ) → stacksOk sh s o x y ≡ true → Fits sh s x y
+pub stacks-fit : (sh : Shape) (s o : State) (x y : ℕ) → stacksOk sh s o x y ≡ true → PopsFit sh s x y
 unfolding stacksOk
 stacks-fit sh s o x y e =
     let g = if-both (stackOk (s .main) (o .main) (sh .popm) (sh .pushm) (sh .wordm) x) _ e in

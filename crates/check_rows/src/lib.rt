@@ -8,9 +8,9 @@ ghost use Rattle.model.specs.File as model;
 ghost use Rattle.laws_file.specs.Kinds.{NoneOf};
 ghost use Rattle.check_rows.specs.Shape.{shapeOf, Next, Raise};
 ghost use Rattle.check_rows.specs.Site.{Table, Site};
-ghost use Rattle.check_rows.specs.Kinds.{Aside, elsewhere};
+ghost use Rattle.check_rows.specs.Kinds.{NoJump, elsewhere};
 ghost use Rattle.check_rows.specs.Tests.{asState, stackOk, stacksOk};
-ghost use Rattle.check_rows.specs.Rows.{row, rowShape, refusal, plainly, Bounded, Pushes};
+ghost use Rattle.check_rows.specs.Rows.{row, rowShape, refusal, plainly, Bounded, PushesFew};
 
 // No state has reached an instruction whose main depth is this; depths are at most 255.
 pub const UNREACHED: usize = 65534;
@@ -107,7 +107,7 @@ fn stack_ok(have: usize, floor: usize, pop: usize, push: usize, word: usize, mos
 
 // Refusal 7: the state s at the instruction, the state o at the innermost open 160.
 pub fn depths_ok(s: State, o: State, row: Row, limits: Limits) -> bool
-    requires { ⌜ Bounded (asState s) (asState o) limits × Pushes row × (s .main < 65534) ⌝ }
+    requires { ⌜ Bounded (asState s) (asState o) limits × PushesFew row × (s .main < 65534) ⌝ }
     ensures { λ r. ⌜ r ≡ stacksOk (rowShape Next row) (asState s) (asState o) (limits .x) (limits .y) ⌝ }
 {
     if stack_ok(s.main, o.main, row.popm, row.pushm, row.wordm, limits.x) {
@@ -118,7 +118,7 @@ pub fn depths_ok(s: State, o: State, row: Row, limits: Limits) -> bool
 
 // The state passes to the instruction at next.
 fn moves(s: State, o: State, limits: Limits, next: usize, row: Row) -> Onward
-    requires { ⌜ Bounded (asState s) (asState o) limits × Pushes row ⌝ }
+    requires { ⌜ Bounded (asState s) (asState o) limits × PushesFew row ⌝ }
     ensures { λ r. ⌜ r ≡ plainly (asState s) (asState o) limits next (rowShape Next row) ⌝ }
 {
     if UNREACHED <= s.main {
@@ -247,7 +247,7 @@ pub fn plain_at(
     o: State,
     limits: Limits,
 ) -> Onward
-    requires { ⌜ Table (now file) (now table) k × Site (now file) p × (model.byteAt (now file) p ≡ kind) × Aside kind × NoneOf elsewhere kind
+    requires { ⌜ Table (now file) (now table) k × Site (now file) p × (model.byteAt (now file) p ≡ kind) × NoJump kind × NoneOf elsewhere kind
         × Bounded (asState s) (asState o) limits ⌝ }
     ensures { λ r. ⌜ r ≡ plainly (asState s) (asState o) limits (model.after (now (file .entry)) p) (shapeOf (now (file .entry)) p (model.insAt (now (file .entry)) p)) ⌝ }
 {

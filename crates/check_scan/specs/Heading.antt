@@ -9,24 +9,24 @@ use native.Mathlib.Omega.{arith}
 use lib.Dec.{ltb, eqb}
 use lib.ListN.{length, getD}
 use borrow.Author.Tests.{eq-eqb, ne-eqb, lt-ltb, le-ltb, le-leb, lt-leb}
-use Rattle.model.specs.Choice.{if_then_else_, Test, same, most, yes?, all, All, all-true, member}
+use Rattle.model.specs.Choice.{if_then_else_, Test, same, atMost, yes?, all, All, all-true, member}
 use Rattle.model.specs.File.{byteAt, starts, recordsOf, instructions, heads, procs, headOf, entry, headTests, wrong, right, headsFrom, headsOf, paramsMain, paramsPtr}
 use Rattle.model.specs.Checker.{none, state, firsts}
-use Rattle.laws_file.specs.Walk.{walk, walk-above, head-in, after-head, instruction-below}
+use Rattle.laws_file.specs.Walk.{file-walk, walk-above, head-in, after-head, instruction-below}
 use Rattle.laws.specs.Members.{getD-in, member-in}
 use Rattle.code_file.specs.Heads.{procHead, HeadIs, head-of}
 use Rattle.code_file.specs.declared.Head.{Head}
-use Rattle.check_scan.specs.Marks.{putIn, Shows, starts-here, put-shows}
+use Rattle.check_scan.specs.Marks.{putIn, PartShows, starts-here, put-shows}
 use Rattle.check_scan.specs.declared.Heads.{Heads as HeadsFound}
 use Rattle.check_scan.specs.declared.Heads.the-variants.{Wrong, Right}
 
 -- the rules of head k on its numbers, as the model's headTests has them
 abbrev numberList : Head → ℕ → List Test
-numberList h k = most (suc k) 64 ∷ same (if eqb k 0 then h .a else 0) 0 ∷ same (if eqb k 0 then h .b else 0) 0 ∷ []
+numberList h k = atMost (suc k) 64 ∷ same (if eqb k 0 then h .a else 0) 0 ∷ same (if eqb k 0 then h .b else 0) 0 ∷ []
 
 abbrev headList : Head → ℕ → Bool → List Test
 headList h k t =
-    most (h .a) (h .x) ∷ most (h .r) (h .x) ∷ most (h .b) (h .y) ∷ most (h .s) (h .y) ∷ yes? t ∷ numberList h k
+    atMost (h .a) (h .x) ∷ atMost (h .r) (h .x) ∷ atMost (h .b) (h .y) ∷ atMost (h .s) (h .y) ∷ yes? t ∷ numberList h k
 
 unfoldable pub numberOk : Head → ℕ → Bool
 numberOk h k = all (numberList h k)
@@ -60,13 +60,13 @@ unfoldable pub startsAt : List ℕ → ℕ → ℕ → Bool
 startsAt m n q = if ltb q n then not (eqb (getD m (3 * q) 0) 65535) else false
 
 -- the map and the table as the scan left them: n heads, the 65th at last
-pub record Marked (f m table : List ℕ) (n last : ℕ) : Type 0 where
+pub record ScanMarked (f m table : List ℕ) (n last : ℕ) : Type 0 where
   pub some : 1 ≤ length f
   pub few : length f ≤ 4096
   pub bytes : (i : ℕ) → byteAt f i < 256
   pub places : List ℕ
   pub whole : recordsOf f ≡ starts places
-  pub shows : Shows f [] m
+  pub shows : PartShows f [] m
   pub count : n ≡ procs f
   pub listed : (i : ℕ) → i < 64 → getD table i 0 ≡ headOf f i
   pub later : 64 < n → last ≡ headOf f 64
@@ -79,16 +79,16 @@ pub record Placed (f table : List ℕ) (k : ℕ) : Type 0 where
 
 abbrev pub Headed : List ℕ → List ℕ → List ℕ → HeadsFound → Type 0
 Headed f m table (Wrong p) = (headsOf f ≡ wrong p) × (length m ≡ 3 * length f)
-Headed f m table (Right k) = (headsOf f ≡ right) × Placed f table k × Shows f (firsts f k) m
+Headed f m table (Right k) = (headsOf f ≡ right) × Placed f table k × PartShows f (firsts f k) m
 
 -- k heads are done
 pub record Heading (f m : List ℕ) (k : ℕ) : Type 0 where
   pub few : k ≤ 64
   pub most-k : k ≤ procs f
   pub so-far : headsOf f ≡ headsFrom f (procs f - k) k
-  pub shows : Shows f (firsts f k) m
+  pub shows : PartShows f (firsts f k) m
 
-module _ {f m₀ table : List ℕ} {n last : ℕ} (M : Marked f m₀ table n last) where
+module _ {f m₀ table : List ℕ} {n last : ℕ} (M : ScanMarked f m₀ table n last) where
   pub heading-start : Heading f m₀ 0
   unfolding headsOf firsts
   heading-start =
@@ -149,7 +149,7 @@ module _ {f m₀ table : List ℕ} {n last : ℕ} (M : Marked f m₀ table n las
         heading-whole =
             let e = M .whole in
             let w = head-in f (M .places) e (headOf f k) (getD-in (heads f) k 0 one-more) in
-            let a = walk-above f 0 (M .places) (walk f (M .places) e) (headOf f k) (w .0) .1 in
+            let a = walk-above f 0 (M .places) (file-walk f (M .places) e) (headOf f k) (w .0) .1 in
             let b = after-head f (M .places) e (headOf f k) (w .1) in
             let c = head-is in
             omega arith

@@ -1,5 +1,5 @@
 -- The part of the map while the check goes on. A place has three numbers: those of its state where one is known, 65,534 and twice
--- 65,535 where an instruction starts that no state has reached, 65,535 three times elsewhere (`Shows`).
+-- 65,535 where an instruction starts that no state has reached, 65,535 three times elsewhere (`PartShows`).
 use Prim.Native.Nat.{ℕ, zero, suc, _+_, _*_, _<_}
 use mathlib.Core.Bool.{Bool, true, false, true≢false, not}
 use mathlib.Core.List.{List, [], _∷_}
@@ -28,13 +28,13 @@ unfoldable pub putIn : List ℕ → ℕ → State → List ℕ
 putIn m q s = set (set (set m (3 * q) (s .main)) (3 * q + 1) (s .ptr)) (3 * q + 2) (s .inner)
 
 -- what a place shows: `starts?` tells whether an instruction starts there
-abbrev pub shown : Bool → State → State
-shown starts? s = if isSet s then s else (if starts? then state unreached none none else unset)
+abbrev pub shownAt : Bool → State → State
+shownAt starts? s = if isSet s then s else (if starts? then state unreached none none else unset)
 
 -- the part shows the states k of the file's instructions, and no others are known
-pub record Shows (f : List ℕ) (k : Known) (m : List ℕ) : Type 0 where
+pub record PartShows (f : List ℕ) (k : Known) (m : List ℕ) : Type 0 where
   pub long : length m ≡ 3 * length f
-  pub at : (q : ℕ) → q < length f → stateIn m q ≡ shown (member q (instructions f)) (stateAt k q)
+  pub at : (q : ℕ) → q < length f → stateIn m q ≡ shownAt (member q (instructions f)) (stateAt k q)
   pub only : (q : ℕ) → isSet (stateAt k q) ≡ true → member q (instructions f) ≡ true
 
 -- reading what was written
@@ -150,7 +150,7 @@ blank n q = λ i. state (getD-fill n (3 * q) i) (getD-fill n (3 * q + 1) i) (get
 
 -- the marked part shows the instructions, and no state yet
 pub marked-shows : (f ps : List ℕ) → recordsOf f ≡ starts ps → ((p : ℕ) → Mem p ps → p < length f) →
-    Shows f [] (marked f (replicate (3 * length f) none) ps)
+    PartShows f [] (marked f (replicate (3 * length f) none) ps)
 marked-shows f ps e h =
     let n = 3 * length f in
     let m = replicate n none in
@@ -164,8 +164,8 @@ marked-shows f ps e h =
 
 -- reading a number with another default
 
-module _ (f : List ℕ) (k : Known) (m : List ℕ) (S : Shows f k m) where
-  shown-main : (t : Bool) (s : State) → (isSet s ≡ true → t ≡ true) → eqb (shown t s .main) none ≡ not t
+module _ (f : List ℕ) (k : Known) (m : List ℕ) (S : PartShows f k m) where
+  shown-main : (t : Bool) (s : State) → (isSet s ≡ true → t ≡ true) → eqb (shownAt t s .main) none ≡ not t
   shown-main t s h = go (eqb (s .main) none) refl t h
     where
       go : (b : Bool) → eqb (s .main) none ≡ b → (u : Bool) → (not b ≡ true → u ≡ true) →
@@ -184,7 +184,7 @@ module _ (f : List ℕ) (k : Known) (m : List ℕ) (S : Shows f k m) where
       ∙ shown-main (member q (instructions f)) (stateAt k q) (S .only q))
 
   -- a known state more
-  pub put-shows : (q : ℕ) (s : State) → isSet s ≡ true → member q (instructions f) ≡ true → q < length f → Shows f ((q, s) ∷ k) (putIn m q s)
+  pub put-shows : (q : ℕ) (s : State) → isSet s ≡ true → member q (instructions f) ≡ true → q < length f → PartShows f ((q, s) ∷ k) (putIn m q s)
   put-shows q s set? in? h =
       let l = S .long in
       record {
@@ -194,7 +194,7 @@ module _ (f : List ℕ) (k : Known) (m : List ℕ) (S : Shows f k m) where
       }
     where
       here : (r : ℕ) → r < length f → Dec (r ≡ q) →
-          stateIn (putIn m q s) r ≡ shown (member r (instructions f)) (if eqb r q then s else stateAt k r)
+          stateIn (putIn m q s) r ≡ shownAt (member r (instructions f)) (if eqb r q then s else stateAt k r)
       here r w (yes e) = let l = S .long in rw (e, eq-eqb q q refl, set?) (putIn-same m q s (omega arith))
       here r w (no e) = rw (ne-eqb r q e) (putIn-other m q s r e ∙ S .at r w)
 

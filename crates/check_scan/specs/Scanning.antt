@@ -1,4 +1,4 @@
--- The scan of the records: what is still to be scanned decides what all the records come to (`Going`), unless a record is cut short by
+-- The scan of the records: what is still to be scanned decides what all the records come to (`ScanAt`), unless a record is cut short by
 -- the file's end (`Behind`); at the end the marks are those of
 -- all the instructions (`marked-shows` in Marks.antt says what they show), and the table has the places of the heads (`Listed`).
 use Prim.Native.Nat.{ℕ, zero, suc, _+_, _-_, _*_, _<_, _≤_}
@@ -129,7 +129,7 @@ pub record Scanned (f m m′ table : List ℕ) (r : Found) : Type 0 where
   pub comes : Comes f m m′ table r
 
 -- at p, with the map m and k heads in the table, of a scan that began with the map m₀
-pub record Going (f m₀ m table : List ℕ) (p k last : ℕ) : Type 0 where
+pub record ScanAt (f m₀ m table : List ℕ) (p k last : ℕ) : Type 0 where
   pub first : recordsOf f ≡ restOf f 0
   pub long : length m ≡ length m₀
   pub table-long : length table ≡ 64
@@ -139,7 +139,7 @@ pub record Going (f m₀ m table : List ℕ) (p k last : ℕ) : Type 0 where
       (qs : List ℕ) × (restOf f 0 ≡ starts qs) × (marked f m₀ qs ≡ marked f m ps)
       × Listed table k last (select (isHead f) qs) (select (isHead f) ps)
 
-going-first : (f m table : List ℕ) → byteAt f 0 ≡ 240 → table ≡ replicate 64 0 → Going f m m table 0 0 0
+going-first : (f m table : List ℕ) → byteAt f 0 ≡ 240 → table ≡ replicate 64 0 → ScanAt f m m table 0 0 0
 going-first f m table h t =
     record {
       first = records-first f h;
@@ -153,31 +153,31 @@ going-first f m table h t =
 pub scanned-other : (f m table : List ℕ) → (byteAt f 0 ≡ 240 → ⊥) → Scanned f m m table (Broken 0)
 scanned-other f m table h = record { long = refl; comes = records-other f h }
 
-pub going-end : {f m₀ m table : List ℕ} {p k last : ℕ} → Going f m₀ m table p k last → length f ≤ p → Scanned f m₀ m table (Whole k last)
-going-end {f} {m₀} {m} {table} {p} G h =
+pub scan-end : {f m₀ m table : List ℕ} {p k last : ℕ} → ScanAt f m₀ m table p k last → length f ≤ p → Scanned f m₀ m table (Whole k last)
+scan-end {f} {m₀} {m} {table} {p} G h =
     let g = G .went [] (rest-end f p h) in
     record { long = G .long; comes = (g .0, G .first ∙ g .1, sym (g .2 ∙ (unfold marked in refl)), g .3) }
 
 -- at p, behind the record at q: the scan goes on, or that record was cut short and decides
 pub record Behind (f m₀ m table : List ℕ) (p k last q : ℕ) : Type 0 where
   pub long : length m ≡ length m₀
-  pub here : p ≤ length f → Going f m₀ m table p k last
+  pub here : p ≤ length f → ScanAt f m₀ m table p k last
   pub cut : length f < p → Scanned f m₀ m table (Broken q)
 
 pub behind-first : (f m table : List ℕ) → byteAt f 0 ≡ 240 → table ≡ replicate 64 0 → Behind f m m table 0 0 0 0
 behind-first f m table h t = record { long = refl; here = λ l. going-first f m table h t; cut = λ l. absurd (omega arith) }
 
 -- the record at p as the code yields it: b is the body's length
-module _ {f m₀ m table : List ℕ} {p k last b : ℕ} (G : Going f m₀ m table p k last) (h : p < length f) (is : b ≡ bodyOf (getD f p 0)) where
+module _ {f m₀ m table : List ℕ} {p k last b : ℕ} (G : ScanAt f m₀ m table p k last) (h : p < length f) (is : b ≡ bodyOf (getD f p 0)) where
   going-broken : (m′ table′ : List ℕ) → length m′ ≡ length m₀ → whole? f p ≡ false → Scanned f m₀ m′ table′ (Broken p)
   going-broken m′ table′ l w = record { long = l; comes = G .first ∙ G .broke p (rest-broken f p h w) }
 
   pub scan-unknown : b ≡ 255 → Scanned f m₀ m table (Broken p)
   scan-unknown e = going-broken m table (G .long) (whole-unknown f p (sym is ∙ e))
 
-  pub head-size : getD f p 0 ≡ 240 → b ≡ 6
+  pub head-body : getD f p 0 ≡ 240 → b ≡ 6
   unfolding bodyOf bodies
-  head-size z = is ∙ ap bodyOf z
+  head-body z = is ∙ ap bodyOf z
 
   module _ {q : ℕ} (u : b ≡ 255 → ⊥) (q-is : q ≡ p + 1 + b) where
     here : after f p ≡ q
@@ -203,7 +203,7 @@ module _ {f m₀ m table : List ℕ} {p k last b : ℕ} (G : Going f m₀ m tabl
         passed : (ps hs : List ℕ) → Listed table k last hs (select (isHead f) (p ∷ ps)) → Listed table k last hs (select (isHead f) ps)
         passed ps hs L = rw (ne-eqb (byteAt f p) 240 other) at L
 
-        on : q ≤ length f → Going f m₀ m′ table q k last
+        on : q ≤ length f → ScanAt f m₀ m′ table q k last
         on l =
             let few = G .few in
             record {
@@ -231,7 +231,7 @@ module _ {f m₀ m table : List ℕ} {p k last b : ℕ} (G : Going f m₀ m tabl
             let M : Listed table k last hs (p ∷ select (isHead f) ps) = rw (eq-eqb (byteAt f p) 240 is-head) at L in
             rw (te, le, s) (listed-more table hs (select (isHead f) ps) k last p M (G .table-long))
 
-        on : q ≤ length f → Going f m₀ m table′ q (k + 1) last′
+        on : q ≤ length f → ScanAt f m₀ m table′ q (k + 1) last′
         on l =
             let few = G .few in
             record {
@@ -247,4 +247,4 @@ module _ {f m₀ m table : List ℕ} {p k last b : ℕ} (G : Going f m₀ m tabl
 
   -- a short body is no head's, and no unknown kind's
   pub scan-short : {q : ℕ} {m′ : List ℕ} → b < 5 → q ≡ p + 1 + b → m′ ≡ set m (3 * p) unreached → Behind f m₀ m′ table q k last p
-  scan-short s q-is e = scan-mark (λ z. omega arith) q-is (λ z. let w = head-size z in omega arith) e
+  scan-short s q-is e = scan-mark (λ z. omega arith) q-is (λ z. let w = head-body z in omega arith) e

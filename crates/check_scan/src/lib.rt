@@ -6,7 +6,7 @@ ghost use Rattle.model.specs.File as model;
 ghost use Rattle.model.specs.Checker.{state};
 ghost use Rattle.check_scan.specs.Marks.{putIn};
 ghost use Rattle.check_scan.specs.Scanning.{Scanned, listIn, lastIn};
-ghost use Rattle.check_scan.specs.Heading.{headOk, numberOk, startsAt, Marked, Headed};
+ghost use Rattle.check_scan.specs.Heading.{headOk, numberOk, startsAt, ScanMarked, Headed};
 use code_file::Head;
 
 // No instruction, no handler.
@@ -177,7 +177,7 @@ fn place_head(m: &mut [u16], head: Head, p: usize)
 
 // Refusal 4: the n heads in file order, as the scan listed them; the 65th stands at last.
 pub fn heads_of(file: &[u8], m: &mut [u16], table: &[usize; 64], n: usize, last: usize) -> Heads
-    requires { ⌜ Marked (now file) (now m) (now table) n last ⌝ }
+    requires { ⌜ ScanMarked (now file) (now m) (now table) n last ⌝ }
     ensures { λ r. ⌜ Headed (now (file .entry)) (now (m .exit)) (now (table .entry)) r ⌝ }
 {
     let size = file.len();

@@ -12,11 +12,11 @@ use Rattle.model.specs.Choice.{if_then_else_}
 use Rattle.model.specs.File.{byteAt, Records, recordsOf, startsIn, isHead, select, heads, wrong, right, headsOf, headOf, entry, procs, paramsMain, paramsPtr, headTests}
 use Rattle.model.specs.Checker.{none, Known, stateAt, isSet, firsts, first, mapFrom}
 use Rattle.model.specs.Calls.{overMap, wiped, pass, refuse, scanned, verdictOf, checked, answered, checkOf}
-use Rattle.theory_checker.specs.Flow.{Within}
-use Rattle.laws_file.specs.Walk.{HeadsHold, heads-right, entry-proc, walk, walk-above, after-above}
-use Rattle.check_scan.specs.Marks.{Shows, marked, marked-shows}
+use Rattle.theory_checker.specs.Flow.{DepthsWithin}
+use Rattle.laws_file.specs.Walk.{HeadsHold, heads-right, entry-proc, file-walk, walk-above, after-above}
+use Rattle.check_scan.specs.Marks.{PartShows, marked, marked-shows}
 use Rattle.check_scan.specs.Scanning.{Comes, Scanned, listed-count, listed-all}
-use Rattle.check_scan.specs.Heading.{Marked, Placed}
+use Rattle.check_scan.specs.Heading.{ScanMarked, Placed}
 use Rattle.check_flow.specs.Takes.{Fit}
 use Rattle.check_flow.specs.Flowing.{Begun, Flowed}
 use Rattle.check_scan.specs.declared.Found.{Found}
@@ -60,7 +60,7 @@ module _ (f m m₁ m₂ table table₂ : List ℕ) (L : Lengths f m table) (one 
   pub look-broken : (p : ℕ) → r ≡ Broken p → Looked f m₂ table₂ (Refuse 3 p)
   look-broken p e map = let w : Comes f m₁ m₂ table₂ (Broken p) = rw e at (S .comes) in rw w
 
-  pub look-whole : (n last : ℕ) → r ≡ Whole n last → Marked f m₂ table₂ n last
+  pub look-whole : (n last : ℕ) → r ≡ Whole n last → ScanMarked f m₂ table₂ n last
   unfolding procs headOf heads
   look-whole n last e =
       let C : Comes f m₁ m₂ table₂ (Whole n last) = rw e at (S .comes) in
@@ -74,14 +74,14 @@ module _ (f m m₁ m₂ table table₂ : List ℕ) (L : Lengths f m table) (one 
         places = C .0;
         whole = C .1;
         shows = rw a
-            (marked-shows f (C .0) (C .1) (λ p i. let b = walk-above f 0 (C .0) (walk f (C .0) (C .1)) p i .1 in let c = after-above f p in omega arith));
+            (marked-shows f (C .0) (C .1) (λ p i. let b = walk-above f 0 (C .0) (file-walk f (C .0) (C .1)) p i .1 in let c = after-above f p in omega arith));
         count = listed-count table₂ hs n last (C .3) ∙ ap length (sym same);
         listed = λ i l. listed-all table₂ hs n last (C .3) i l ∙ ap (λ (h : List ℕ). getD h i 0) (sym same);
         later = λ l. C .3 .later l ∙ ap (λ (h : List ℕ). getD h 64 0) (sym same);
       }
 
 -- refusal 4, and what the flow begins with
-module _ (f m table : List ℕ) (n last : ℕ) (M : Marked f m table n last) where
+module _ (f m table : List ℕ) (n last : ℕ) (M : ScanMarked f m table n last) where
   pub look-wrong : (m₁ : List ℕ) (p : ℕ) → headsOf f ≡ wrong p → Looked f m₁ table (Refuse 4 p)
   look-wrong m₁ p e map = rw (M .whole, e)
 
@@ -107,20 +107,20 @@ module _ (f m table : List ℕ) (n last : ℕ) (M : Marked f m table n last) whe
       record { main-byte = w .0; ptr-byte = w .1; held = inl (w .2); main-above = rw z (omega arith); ptr-above = rw z (omega arith) }
 
   -- and have depths within their procedures'
-  firsts-within : HeadsHold f → (n q : ℕ) → n ≤ procs f → isSet (stateAt (firsts f n) q) ≡ true → Within f q (stateAt (firsts f n) q)
+  firsts-within : HeadsHold f → (n q : ℕ) → n ≤ procs f → isSet (stateAt (firsts f n) q) ≡ true → DepthsWithin f q (stateAt (firsts f n) q)
   unfolding firsts headTests
   firsts-within hs zero q l h = absurd (true≢false (sym h))
   firsts-within hs (suc n) q l h = go (eqb q (entry f n)) refl h (firsts-within hs n q (omega arith))
     where
       go : (t : Bool) → eqb q (entry f n) ≡ t → isSet (if t then first f n .1 else stateAt (firsts f n) q) ≡ true →
-          (isSet (stateAt (firsts f n) q) ≡ true → Within f q (stateAt (firsts f n) q)) →
-          Within f q (if t then first f n .1 else stateAt (firsts f n) q)
+          (isSet (stateAt (firsts f n) q) ≡ true → DepthsWithin f q (stateAt (firsts f n) q)) →
+          DepthsWithin f q (if t then first f n .1 else stateAt (firsts f n) q)
       go true e z r =
           let w = hs n (omega arith) in
           rw (eqb-true q (entry f n) e, entry-proc f (M .places) (M .whole) n (omega arith) w) (w .0, w .1 .1 .0)
       go false e z r = r z
 
-  pub look-begun : (m₁ : List ℕ) (k : ℕ) → (headsOf f ≡ right) × Placed f table k × Shows f (firsts f k) m₁ → Begun f m₁ table k
+  pub look-begun : (m₁ : List ℕ) (k : ℕ) → (headsOf f ≡ right) × Placed f table k × PartShows f (firsts f k) m₁ → Begun f m₁ table k
   look-begun m₁ k H =
       record {
         some = M .some;
@@ -134,7 +134,7 @@ module _ (f m table : List ℕ) (n last : ℕ) (M : Marked f m table n last) whe
       }
 
   -- the heads are right, and what the flow comes to decides
-  pub look-flow : (m₁ m₂ : List ℕ) (k : ℕ) (v : Verdict) → (headsOf f ≡ right) × Placed f table k × Shows f (firsts f k) m₁ →
+  pub look-flow : (m₁ m₂ : List ℕ) (k : ℕ) (v : Verdict) → (headsOf f ≡ right) × Placed f table k × PartShows f (firsts f k) m₁ →
       Flowed f m₂ k v → Looked f m₂ table v
   look-flow m₁ m₂ k (Pass j) H F =
       (F .1 .0, (λ map. rw (M .whole, H .0, F .1 .1)), F .1 .2, rw (F .0) (H .1))

@@ -2,7 +2,7 @@
 ghost use mathlib.Core.Path.{_≡_};
 ghost use Prim.Native.Nat.{_*_, _<_};
 ghost use lib.ListN.{replicate};
-ghost use Rattle.check_scan.specs.Heading.{Marked};
+ghost use Rattle.check_scan.specs.Heading.{ScanMarked};
 ghost use Rattle.checker.specs.Parts.{Lengths, Looked, Filled, Checks};
 ghost use Rattle.model.specs.Calls.{checked, checkOf};
 use check_flow::Verdict;
@@ -12,7 +12,7 @@ use check_scan::Heads;
 
 // Refusals 4 to 9, of a file whose records are marked in its part of the map; n heads are in the table, and the 65th stands at last.
 fn look(file: &[u8], m: &mut [u16], table: &[usize; 64], n: usize, last: usize) -> Verdict
-    requires { ⌜ Marked (now file) (now m) (now table) n last ⌝ }
+    requires { ⌜ ScanMarked (now file) (now m) (now table) n last ⌝ }
     ensures { λ r. ⌜ Looked (now (file .entry)) (now (m .exit)) (now (table .entry)) r ⌝ }
 {
     let heads = check_scan::heads_of(file, m, table, n, last);

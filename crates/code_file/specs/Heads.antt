@@ -2,7 +2,7 @@
 use Prim.Native.Nat.{ℕ, _+_, _<_}
 use mathlib.Core.List.{List}
 use mathlib.Core.Path.{_≡_}
-use Rattle.model.specs.File.{byteAt, headOf, paramsMain, paramsPtr, resultsMain, resultsPtr, mostMain, mostPtr}
+use Rattle.model.specs.File.{byteAt, headOf, paramsMain, paramsPtr, resultsMain, resultsPtr, greatestMain, greatestPtr}
 use Rattle.code_file.specs.declared.Head.{Head}
 
 -- the bytes behind the kind of the head at h, in the file's order
@@ -23,8 +23,8 @@ procHead f n = record {
   b = paramsPtr f n;
   r = resultsMain f n;
   s = resultsPtr f n;
-  x = mostMain f n;
-  y = mostPtr f n;
+  x = greatestMain f n;
+  y = greatestPtr f n;
 }
 
 -- the head's value is its six bytes, each below 256
@@ -39,5 +39,5 @@ pub record HeadIs (f : List ℕ) (h : ℕ) (v : Head) : Type 0 where
 
 -- at the head of procedure n stand its numbers
 pub head-of : (f : List ℕ) (n h : ℕ) → h ≡ headOf f n → headBytes f h ≡ procHead f n
-unfolding headBytes procHead paramsMain paramsPtr resultsMain resultsPtr mostMain mostPtr
+unfolding headBytes procHead paramsMain paramsPtr resultsMain resultsPtr greatestMain greatestPtr
 head-of f n h e = rw e

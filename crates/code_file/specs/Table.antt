@@ -33,25 +33,25 @@ lengths =
     ∷ []
 
 -- the test f passes at each entry of the list and its place, counted from i
-abbrev pub every : (ℕ → ℕ → Bool) → ℕ → List ℕ → Bool
-every f i [] = true
-every f i (x ∷ xs) = if f i x then every f (suc i) xs else false
+abbrev pub everyEntry : (ℕ → ℕ → Bool) → ℕ → List ℕ → Bool
+everyEntry f i [] = true
+everyEntry f i (x ∷ xs) = if f i x then everyEntry f (suc i) xs else false
 
-from : (f : ℕ → ℕ → Bool) (xs : List ℕ) (i : ℕ) → T (every f i xs) → (k : ℕ) → k < length xs → T (f (i + k) (getD xs k 0))
+from : (f : ℕ → ℕ → Bool) (xs : List ℕ) (i : ℕ) → T (everyEntry f i xs) → (k : ℕ) → k < length xs → T (f (i + k) (getD xs k 0))
 from f [] i t k h = absurd (not-suc-le-zero h)
-from f (x ∷ xs) i t zero h = subst (λ (m : ℕ). T (f m x)) (sym (add-zero i)) (and-both (f i x) (every f (suc i) xs) t .0)
+from f (x ∷ xs) i t zero h = subst (λ (m : ℕ). T (f m x)) (sym (add-zero i)) (and-both (f i x) (everyEntry f (suc i) xs) t .0)
 from f (x ∷ xs) i t (suc k) h =
     subst (λ (m : ℕ). T (f m (getD xs k 0))) (suc-add i k ∙ sym (add-suc i k))
-    (from f xs (suc i) (and-both (f i x) (every f (suc i) xs) t .1) k (le-of-suc-le-suc h))
+    (from f xs (suc i) (and-both (f i x) (everyEntry f (suc i) xs) t .1) k (le-of-suc-le-suc h))
 
-pub at : (f : ℕ → ℕ → Bool) (xs : List ℕ) → T (every f 0 xs) → (k : ℕ) → k < length xs → T (f k (getD xs k 0))
+pub at : (f : ℕ → ℕ → Bool) (xs : List ℕ) → T (everyEntry f 0 xs) → (k : ℕ) → k < length xs → T (f k (getD xs k 0))
 at f xs t k h = subst (λ (m : ℕ). T (f m (getD xs k 0))) (zero-add k) (from f xs 0 t k h)
 
 -- the rule of the entry x of kind k
 unfoldable pub right : ℕ → ℕ → Bool
 right k x = eqb x (bodyOf k)
 
-right-all : T (every right 0 lengths)
+right-all : T (everyEntry right 0 lengths)
 unfolding lengths right bodyOf bodies codes
 right-all = tt
 

@@ -10,14 +10,14 @@ abbrev pub asTold : Reply → Told
 asTold r = told (r .kind) (r .number) (r .place) (r .steps)
 
 -- check: the answer and the map
-pub record Checks : Type 0 where
+pub record CheckReply : Type 0 where
   pub told-is : Told
   pub map : List ℕ
 
-abbrev pub checks : Reply → List ℕ → Checks
+abbrev pub checks : Reply → List ℕ → CheckReply
 checks r map = record { told-is = asTold r; map = map }
 
-abbrev pub checksTo : Checked → Checks
+abbrev pub checksTo : Checked → CheckReply
 checksTo c = record { told-is = toldOf (c .answer); map = c .map }
 
 -- start and run: the answer and all lists

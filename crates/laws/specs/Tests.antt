@@ -6,17 +6,17 @@ use mathlib.Core.List.{List, [], _∷_, _++_}
 use mathlib.Core.Path.{_≡_, refl, sym}
 use lib.ListN.{getD}
 use borrow.Author.Tests.{ne-eqb, lt-leb}
-use Rattle.model.specs.Choice.{Test, same, most, yes?, holds, all, All, true-all, if_then_else_}
+use Rattle.model.specs.Choice.{Test, same, atMost, yes?, holds, all, All, true-all, if_then_else_}
 
 -- a test fails
 abbrev pub Fails : Test → Type 0
 Fails (same m n) = m ≡ n → ⊥
-Fails (most m n) = n < m
+Fails (atMost m n) = n < m
 Fails (yes? t) = t ≡ false
 
 fails-false : (t : Test) → Fails t → holds t ≡ false
 fails-false (same m n) h = ne-eqb m n h
-fails-false (most m n) h = lt-leb m n h
+fails-false (atMost m n) h = lt-leb m n h
 fails-false (yes? t) h = h
 
 abbrev pub test : ℕ → List Test → Test
@@ -31,8 +31,8 @@ fails-at (suc k) (t ∷ ts) h = go (holds t) (fails-at k ts h)
     go true e = e
     go false e = refl
 
-pub fails : (k : ℕ) (ts : List Test) → Fails (test k ts) → false ≡ all ts
-fails k ts h = fails-at k ts (fails-false (test k ts) h)
+pub fails-all : (k : ℕ) (ts : List Test) → Fails (test k ts) → false ≡ all ts
+fails-all k ts h = fails-at k ts (fails-false (test k ts) h)
 
 -- the test that is made last decides, wherever it stands in the list
 pub decided : (k : ℕ) (ts : List Test) (r : Bool) → r ≡ holds (test k ts) → (r ≡ true → All ts) → r ≡ all ts

@@ -10,7 +10,7 @@ use lib.Dec.{T, eqb, eqb→eq}
 use borrow.Author.Tests.{ne-eqb}
 use Rattle.model.specs.Choice.{member, if_then_else_}
 use Rattle.model.specs.File as model
-use Rattle.model.specs.File.{unknown, find, bodies, bodyOf, raise, insOf}
+use Rattle.model.specs.File.{unknown, bodyIn, bodies, bodyOf, raise, insOf}
 
 -- k is one of the numbers, as a match's arm tells it
 abbrev pub OneOf : List ℕ → ℕ → Type 0
@@ -24,24 +24,24 @@ NoneOf [] k = Unit {0}
 NoneOf (ns ∷ nss) k = NoneOf nss k × (OneOf ns k → ⊥)
 
 -- a statement at each of the numbers, and a test
-abbrev pub Every : (ℕ → Type 0) → List ℕ → Type 0
-Every P [] = Unit {0}
-Every P (n ∷ ns) = P n × Every P ns
+abbrev pub AtEach : (ℕ → Type 0) → List ℕ → Type 0
+AtEach P [] = Unit {0}
+AtEach P (n ∷ ns) = P n × AtEach P ns
 
 abbrev pub each? : (ℕ → Bool) → List ℕ → Bool
 each? t [] = true
 each? t (n ∷ ns) = if t n then each? t ns else false
 
-pub every : (P : ℕ → Type 0) (ns : List ℕ) (k : ℕ) → Every P ns → OneOf ns k → P k
-every P (n ∷ []) k h e = rw e (h .0)
-every P (n ∷ m ∷ ns) k h (inl e) = rw e (h .0)
-every P (n ∷ m ∷ ns) k h (inr o) = every P (m ∷ ns) k (h .1) o
+pub at-each : (P : ℕ → Type 0) (ns : List ℕ) (k : ℕ) → AtEach P ns → OneOf ns k → P k
+at-each P (n ∷ []) k h e = rw e (h .0)
+at-each P (n ∷ m ∷ ns) k h (inl e) = rw e (h .0)
+at-each P (n ∷ m ∷ ns) k h (inr o) = at-each P (m ∷ ns) k (h .1) o
 
 pub and-both : (t u : Bool) → T (if t then u else false) → T t × T u
 and-both true u h = (tt, h)
 and-both false u h = absurd h
 
-passed : (t : ℕ → Bool) (ns : List ℕ) → T (each? t ns) → Every (λ n. T (t n)) ns
+passed : (t : ℕ → Bool) (ns : List ℕ) → T (each? t ns) → AtEach (λ n. T (t n)) ns
 passed t [] h = tt
 passed t (n ∷ ns) h = let g = and-both (t n) (each? t ns) h in (g .0, passed t ns (g .1))
 
@@ -69,17 +69,17 @@ none-of (ns ∷ nss) k h n t e =
     (or-either (member n ns) (among nss n) t)
 
 -- the codes of the instructions other than 162, in the order of the table
-abbrev pub codes : List ℕ
-codes =
+abbrev pub codesButRaise : List ℕ
+codesButRaise =
     1 ∷ 3 ∷ 2 ∷ 4 ∷ 5 ∷ 6 ∷ 20 ∷ 21 ∷ 22 ∷ 23 ∷ 30 ∷ 31 ∷ 32 ∷ 33 ∷ 36 ∷ 54 ∷ 56 ∷ 57 ∷ 58 ∷ 59
     ∷ 60 ∷ 62 ∷ 64 ∷ 72 ∷ 73 ∷ 130 ∷ 131 ∷ 195 ∷ 198 ∷ 201 ∷ 204 ∷ 140 ∷ 141 ∷ 142 ∷ 143 ∷ 145 ∷ 144 ∷ 146 ∷ 160 ∷ 161
     ∷ []
 
-pub ins-other : (nss : List (List ℕ)) → T (each? (among nss) codes) → (f : List ℕ) (p k : ℕ) → NoneOf nss k → insOf f p k ≡ raise
+pub ins-other : (nss : List (List ℕ)) → T (each? (among nss) codesButRaise) → (f : List ℕ) (p k : ℕ) → NoneOf nss k → insOf f p k ≡ raise
 unfolding insOf
 ins-other nss t f p k h =
-    let out : (n : ℕ) → T (member n codes) → k ≡ n → ⊥ =
-    λ n m. none-of nss k h n (every (λ n. T (among nss n)) codes n (passed (among nss) codes t) (one-of codes n m))
+    let out : (n : ℕ) → T (member n codesButRaise) → k ≡ n → ⊥ =
+    λ n m. none-of nss k h n (at-each (λ n. T (among nss n)) codesButRaise n (passed (among nss) codesButRaise t) (one-of codesButRaise n m))
     in
     rw (
       ne-eqb k 1 (out 1 tt),
@@ -129,7 +129,7 @@ abbrev keysAmong : List (List ℕ) → List (ℕ × ℕ) → Bool
 keysAmong nss [] = true
 keysAmong nss (r ∷ rs) = if among nss (r .0) then keysAmong nss rs else false
 
-find-none : (nss : List (List ℕ)) (k : ℕ) → NoneOf nss k → (rs : List (ℕ × ℕ)) → T (keysAmong nss rs) → find rs k ≡ unknown
+find-none : (nss : List (List ℕ)) (k : ℕ) → NoneOf nss k → (rs : List (ℕ × ℕ)) → T (keysAmong nss rs) → bodyIn rs k ≡ unknown
 find-none nss k h [] t = refl
 find-none nss k h (r ∷ rs) t =
     let g = and-both (among nss (r .0)) (keysAmong nss rs) t in
@@ -139,6 +139,6 @@ pub body-other : (nss : List (List ℕ)) → T (keysAmong ((162 ∷ []) ∷ nss)
 unfolding bodyOf bodies model.codes
 body-other nss t k h some = go (ℕ-discrete k 162)
   where
-    go : Dec (k ≡ 162) → find bodies k ≡ 0
+    go : Dec (k ≡ 162) → bodyIn bodies k ≡ 0
     go (yes e) = rw e
     go (no e) = absurd (some (find-none ((162 ∷ []) ∷ nss) k (h, e) bodies t))

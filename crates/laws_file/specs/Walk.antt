@@ -12,8 +12,8 @@ use lib.Dec.{ltb, leb, eqb}
 use lib.ListN.{length, getD}
 use borrow.Author.Tests.{ltb-true, ltb-false, leb-true, eqb-true, eqb-false, not-true, le-leb, lt-leb, eq-eqb}
 use Rattle.model.specs.Choice.{all, All, all-true, true-all, Mem, if_then_else_, same}
-use Rattle.model.specs.File.{byteAt, headKind, headSize, codes, bodies, find, bodyOf, unknown, after, whole?, Records, broken, starts, more, recordsFrom, recordsOf, startsIn, isHead, listed, isInstruction, select, heads, instructions, procs, headOf, entry, upTo, procAt, headTests, wrong, right, headsFrom, headsOf}
-use Rattle.laws.specs.Choices.{and-true}
+use Rattle.model.specs.File.{byteAt, headKind, headSize, codes, bodies, bodyIn, bodyOf, unknown, after, whole?, Records, broken, starts, more, recordsFrom, recordsOf, startsIn, isHead, listed, isInstruction, select, heads, instructions, procs, headOf, entry, upTo, procAt, headTests, wrong, right, headsFrom, headsOf}
+use Rattle.laws.specs.Choices.{both-true}
 use Rattle.laws.specs.Members.{Rising, getD-in, select-in, member-in, select-rising, has-some, in-select}
 
 -- the records from p on: each begins where the last one ends
@@ -49,7 +49,7 @@ records-walk f (suc n) p ps h e =
         rw (w .2 .2) (
           refl,
           ltb-true p (length f) (w .0),
-          leb-true (after f p) (length f) (and-true (not (eqb (bodyOf (byteAt f p)) unknown)) (leb (after f p) (length f)) (w .1) .1),
+          leb-true (after f p) (length f) (both-true (not (eqb (bodyOf (byteAt f p)) unknown)) (leb (after f p) (length f)) (w .1) .1),
           r (w .2 .0) (w .2 .1),
         )
 
@@ -127,11 +127,11 @@ upTo-at q (h ∷ hs) (suc n) r l b w =
     rw (le-leb h q (omega arith)) (ap suc (upTo-at q hs n (r .1) (omega arith) b (λ g m. w g (inr m))))
 
 -- "All else is an instruction": a kind with a body of known length is the head's, or the table of codes has it
-found-listed : (rs : List (ℕ × ℕ)) (k : ℕ) → (find rs k ≡ unknown → ⊥) → listed rs k ≡ true
+found-listed : (rs : List (ℕ × ℕ)) (k : ℕ) → (bodyIn rs k ≡ unknown → ⊥) → listed rs k ≡ true
 found-listed [] k h = absurd (h refl)
 found-listed (r ∷ rs) k h = go (eqb k (r .0)) h (found-listed rs k)
   where
-    go : (t : Bool) → ((if t then r .1 else find rs k) ≡ unknown → ⊥) → ((find rs k ≡ unknown → ⊥) → listed rs k ≡ true) →
+    go : (t : Bool) → ((if t then r .1 else bodyIn rs k) ≡ unknown → ⊥) → ((bodyIn rs k ≡ unknown → ⊥) → listed rs k ≡ true) →
         (if t then true else listed rs k) ≡ true
     go true h i = refl
     go false h i = i h
@@ -140,7 +140,7 @@ known-listed : (k : ℕ) → (bodyOf k ≡ unknown → ⊥) → listed codes k �
 unfolding bodyOf bodies
 known-listed k h = go (eqb k headKind) refl h
   where
-    go : (t : Bool) → eqb k headKind ≡ t → ((if t then headSize - 1 else find codes k) ≡ unknown → ⊥) → listed codes k ≡ not t
+    go : (t : Bool) → eqb k headKind ≡ t → ((if t then headSize - 1 else bodyIn codes k) ≡ unknown → ⊥) → listed codes k ≡ not t
     go true e h = rw (eqb-true k headKind e) (unfold codes in refl)
     go false e h = found-listed codes k h
 
@@ -148,7 +148,7 @@ whole-listed : (f : List ℕ) (p : ℕ) → whole? f p ≡ true → isInstructio
 unfolding whole? isInstruction isHead
 whole-listed f p e =
     let b = bodyOf (byteAt f p) in
-    let w = and-true (not (eqb b unknown)) (leb (after f p) (length f)) e .0 in
+    let w = both-true (not (eqb b unknown)) (leb (after f p) (length f)) e .0 in
     known-listed (byteAt f p) (eqb-false b unknown (not-true (eqb b unknown) w))
 
 -- so the instructions of a file are its records but the heads
@@ -188,9 +188,9 @@ module _ (f ps : List ℕ) (e : recordsOf f ≡ starts ps) where
   unfolding recordsOf
   first-head = eqb-true (byteAt f 0) headKind (first-inv (eqb (byteAt f 0) headKind) (recordsFrom f (length f) 0) e .0)
 
-  pub walk : Walk f 0 ps
+  pub file-walk : Walk f 0 ps
   unfolding recordsOf
-  walk = records-walk f (length f) 0 ps (omega arith) (first-inv (eqb (byteAt f 0) headKind) (recordsFrom f (length f) 0) e .1)
+  file-walk = records-walk f (length f) 0 ps (omega arith) (first-inv (eqb (byteAt f 0) headKind) (recordsFrom f (length f) 0) e .1)
 
   pub head-in : (p : ℕ) → Mem p (heads f) → Mem p ps × (byteAt f p ≡ headKind)
   unfolding heads isHead
@@ -209,14 +209,14 @@ module _ (f ps : List ℕ) (e : recordsOf f ≡ starts ps) where
 
   pub heads-rise : Rising (heads f)
   unfolding heads
-  heads-rise = rw e (select-rising (isHead f) ps (walk-rising f 0 ps walk))
+  heads-rise = rw e (select-rising (isHead f) ps (walk-rising f 0 ps file-walk))
 
   pub instructions-rise : Rising (instructions f)
-  instructions-rise = rw instructions-are (select-rising (other f) ps (walk-rising f 0 ps walk))
+  instructions-rise = rw instructions-are (select-rising (other f) ps (walk-rising f 0 ps file-walk))
 
   -- an instruction lies in the file, whole, behind the first head
   pub instruction-whole : (p : ℕ) → Mem p (instructions f) → after f p ≤ length f
-  instruction-whole p h = walk-above f 0 ps walk p (ins-in p h .0) .1
+  instruction-whole p h = walk-above f 0 ps file-walk p (ins-in p h .0) .1
 
   pub instruction-below : (p : ℕ) → Mem p (instructions f) → p < length f
   instruction-below p h = let a = instruction-whole p h in let b = after-above f p in omega arith
@@ -232,7 +232,7 @@ module _ (f ps : List ℕ) (e : recordsOf f ≡ starts ps) where
 
   pub procs-some : 0 < procs f
   unfolding procs heads isHead
-  procs-some = rw e (has-some 0 (select (isHead f) ps) (in-select (isHead f) ps 0 (zero-in ps walk) (eq-eqb (byteAt f 0) headKind first-head)))
+  procs-some = rw e (has-some 0 (select (isHead f) ps) (in-select (isHead f) ps 0 (zero-in ps file-walk) (eq-eqb (byteAt f 0) headKind first-head)))
 
   pub proc-below : (p : ℕ) → procAt f p < procs f
   unfolding procs procAt
@@ -260,7 +260,7 @@ module _ (f ps : List ℕ) (e : recordsOf f ≡ starts ps) where
           pick : Dec (g ≡ entry f n) → entry f n < g
           pick (yes z) = absurd (ins-in (entry f n) (entry-in n h) .1 (rw (← z) (head-in g m .1)))
           pick (no z) =
-              let a = walk-gap f 0 ps walk (headOf f n) g (H .0) (head-in g m .0) b in
+              let a = walk-gap f 0 ps file-walk (headOf f n) g (H .0) (head-in g m .0) b in
               let c = after-head (headOf f n) (H .1) in
               omega arith
 

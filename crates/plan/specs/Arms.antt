@@ -1,4 +1,4 @@
--- What `Ready` gives to each family of codes: each is a consequence of its fields at the instruction that the code stands for.
+-- What `StepReady` gives to each family of codes: each is a consequence of its fields at the instruction that the code stands for.
 use Prim.Native.Nat.{ℕ, suc, _+_, _<_, _≤_}
 use mathlib.Core.List.{List}
 use mathlib.Core.Logic.{_⊎_, inl, inr, ⊎-elim}
@@ -15,24 +15,24 @@ use Rattle.laws_file.specs.Walk.{after-above}
 use Rattle.plan_meaning.specs.Planned.{planAt}
 use Rattle.plan_meaning.specs.declared.Plan.{Plan}
 use Rattle.control_stack.specs.Layout.{Numbered}
-use Rattle.plan_flow.specs.Given.{planned, Body, Within, Callee}
-use Rattle.plan.specs.Ready.{Ready, placeOf, here}
+use Rattle.plan_flow.specs.Given.{planned, Body, TopWithin, Callee}
+use Rattle.plan.specs.Ready.{StepReady, placeOf, here}
 
 -- the code at the place
 abbrev pub codeAt : List ℕ → Machine → ℕ
 codeAt f m = byteAt f (placeOf m)
 
-module _ {f table : List ℕ} {m : Machine} (R : Ready f table m) where
+module _ {f table : List ℕ} {m : Machine} (R : StepReady f table m) where
   pub place-in : placeOf m < length f
   place-in = omega (arith, R .whole, after-above f (placeOf m))
 
   pub place-small : placeOf m < 4096
   place-small = omega (arith, R .short, place-in)
 
-  pub main-within : Within (m .main) (mtop m)
+  pub main-within : TopWithin (m .main) (mtop m)
   main-within = record { below = R .main-top; few = R .main-most }
 
-  pub ptr-within : Within (m .ptr) (ptop m)
+  pub ptr-within : TopWithin (m .ptr) (ptop m)
   ptr-within = record { below = R .ptr-top; few = R .ptr-most }
 
   pub record-in : Numbered (m .ctl) (m .regs .frame)
@@ -55,7 +55,7 @@ module _ {f table : List ℕ} {m : Machine} (R : Ready f table m) where
 
   -- what an operation on n plain words asks for, and which of its family's codes it has
   pub on-words : {W : Type 0} (k n : ℕ) → codeAt f m ≡ k → effectOf f (insOf f (placeOf m) k) .popMain ≡ n → W →
-      (placeOf m < 4096) × Within (m .main) (mtop m) × (n ≤ mtop m) × W
+      (placeOf m < 4096) × TopWithin (m .main) (mtop m) × (n ≤ mtop m) × W
   on-words k n e d w = (place-small, main-within, pops-main k n e d, w)
 
   is-at : (k : ℕ) → codeAt f m ≡ k → here f m ≡ insOf f (placeOf m) k

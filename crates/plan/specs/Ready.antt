@@ -1,4 +1,4 @@
--- What the machine gives when it plans a step, `Ready`: of a file that the checker passed and a sound state of it.
+-- What the machine gives when it plans a step, `StepReady`: of a file that the checker passed and a sound state of it.
 use Prim.Native.Nat.{ℕ, _+_, _-_, _*_, _<_, _≤_}
 use mathlib.Core.List.{List}
 use mathlib.Core.Path.{_≡_}
@@ -17,7 +17,7 @@ placeOf m = m .regs .place
 abbrev pub here : List ℕ → Machine → Ins
 here f m = insAt f (placeOf m)
 
-pub record Ready (f table : List ℕ) (m : Machine) : Type 0 where
+pub record StepReady (f table : List ℕ) (m : Machine) : Type 0 where
   -- refusal 1: the file has at most 4,096 bytes
   pub short : length f ≤ 4096
   -- the place is a record's, and the records are whole: refusal 3

@@ -17,13 +17,13 @@ ghost use Rattle.plan_meaning.specs.Planned.{planAt};
 ghost use Rattle.laws_file.specs.Kinds.{NoneOf};
 ghost use Rattle.audit_heap.specs.Stores.{Lies};
 ghost use Rattle.control_stack.specs.Layout.{Numbered};
-ghost use Rattle.plan_flow.specs.Given.{planned, Body, Within};
+ghost use Rattle.plan_flow.specs.Given.{planned, Body, TopWithin};
 ghost use Rattle.plan.specs.Kinds.{atArms, localArms, wordArms};
-ghost use Rattle.plan.specs.Ready.{Ready};
+ghost use Rattle.plan.specs.Ready.{StepReady};
 
 // 20 and 22: word s of the frame.
 fn main_locals(file: &[u8], main: &[u32], ctl: &[u32], regs: Regs, kind: u8) -> Plan
-    requires { ⌜ Body (now file) (regs .place) 2 × Within (now main) (regs .mtop) × Numbered (now ctl) (regs .frame)
+    requires { ⌜ Body (now file) (regs .place) 2 × TopWithin (now main) (regs .mtop) × Numbered (now ctl) (regs .frame)
         × (frameOf (now ctl) (regs .frame) .mainBase + model.operand (now file) (regs .place) < regs .mtop) × ((kind ≡ 20) ⊎ (kind ≡ 22)) ⌝ }
     ensures { λ r. ⌜ ((m : Machine) → r ≡ planned (now (file .entry)) (setRegs regs (setMain (now (main .entry)) (setCtl (now (ctl .entry)) m))) 3 kind) ⌝ }
 {
@@ -39,7 +39,7 @@ fn main_locals(file: &[u8], main: &[u32], ctl: &[u32], regs: Regs, kind: u8) -> 
 
 // 21 and 23: the same on the pointer stack.
 fn ptr_locals(file: &[u8], ptr: &[u32], ctl: &[u32], regs: Regs, kind: u8) -> Plan
-    requires { ⌜ Body (now file) (regs .place) 2 × Within (now ptr) (regs .ptop) × Numbered (now ctl) (regs .frame)
+    requires { ⌜ Body (now file) (regs .place) 2 × TopWithin (now ptr) (regs .ptop) × Numbered (now ctl) (regs .frame)
         × (frameOf (now ctl) (regs .frame) .ptrBase + model.operand (now file) (regs .place) < regs .ptop) × ((kind ≡ 21) ⊎ (kind ≡ 23)) ⌝ }
     ensures { λ r. ⌜ ((m : Machine) → r ≡ planned (now (file .entry)) (setRegs regs (setPtr (now (ptr .entry)) (setCtl (now (ctl .entry)) m))) 3 kind) ⌝ }
 {
@@ -55,7 +55,7 @@ fn ptr_locals(file: &[u8], ptr: &[u32], ctl: &[u32], regs: Regs, kind: u8) -> Pl
 
 // 30 and 32: a plain word of an object.
 fn plain_fields(file: &[u8], main: &[u32], ptr: &[u32], heap: &[u32], regs: Regs, kind: u8) -> Plan
-    requires { ⌜ Body (now file) (regs .place) 2 × Within (now main) (regs .mtop) × Within (now ptr) (regs .ptop) × (1 ≤ regs .ptop)
+    requires { ⌜ Body (now file) (regs .place) 2 × TopWithin (now main) (regs .mtop) × TopWithin (now ptr) (regs .ptop) × (1 ≤ regs .ptop)
         × ((wordAt (now ptr) (regs .ptop - 1) ≡ 0) ⊎ Lies (now heap) (wordAt (now ptr) (regs .ptop - 1)))
         × (kind ≡ 32 → 1 ≤ regs .mtop) × ((kind ≡ 30) ⊎ (kind ≡ 32)) ⌝ }
     ensures { λ r. ⌜ ((m : Machine) → r ≡ planned (now (file .entry)) (setRegs regs (setMain (now (main .entry)) (setPtr (now (ptr .entry)) (setHeap (now (heap .entry)) m)))) 3 kind) ⌝ }
@@ -87,7 +87,7 @@ fn plain_fields(file: &[u8], main: &[u32], ptr: &[u32], heap: &[u32], regs: Regs
 
 // 31 and 33: a pointer word of an object.
 fn ptr_fields(file: &[u8], ptr: &[u32], heap: &[u32], regs: Regs, kind: u8) -> Plan
-    requires { ⌜ Body (now file) (regs .place) 2 × Within (now ptr) (regs .ptop) × (1 ≤ regs .ptop)
+    requires { ⌜ Body (now file) (regs .place) 2 × TopWithin (now ptr) (regs .ptop) × (1 ≤ regs .ptop)
         × ((wordAt (now ptr) (regs .ptop - 1) ≡ 0) ⊎ Lies (now heap) (wordAt (now ptr) (regs .ptop - 1)))
         × (kind ≡ 33 → 2 ≤ regs .ptop) × ((kind ≡ 31) ⊎ (kind ≡ 33)) ⌝ }
     ensures { λ r. ⌜ ((m : Machine) → r ≡ planned (now (file .entry)) (setRegs regs (setPtr (now (ptr .entry)) (setHeap (now (heap .entry)) m))) 3 kind) ⌝ }
@@ -158,7 +158,7 @@ fn literals(file: &[u8], regs: Regs, kind: u8) -> Plan
 
 // 59: into the root.
 fn set_root(ptr: &[u32], regs: Regs) -> Plan
-    requires { ⌜ (regs .place < 4096) × Within (now ptr) (regs .ptop) × (1 ≤ regs .ptop) ⌝ }
+    requires { ⌜ (regs .place < 4096) × TopWithin (now ptr) (regs .ptop) × (1 ≤ regs .ptop) ⌝ }
     ensures { λ r. ⌜ ((f : List ℕ) (m : Machine) → r ≡ planned f (setRegs regs (setPtr (now (ptr .entry)) m)) 1 59) ⌝ }
 {
     let top = regs.ptop - 1;
@@ -167,7 +167,7 @@ fn set_root(ptr: &[u32], regs: Regs) -> Plan
 
 // 60, 62 and 64: drops words under the one set aside.
 fn retracts(file: &[u8], main: &[u32], ptr: &[u32], regs: Regs, kind: u8) -> Plan
-    requires { ⌜ Body (now file) (regs .place) 4 × Within (now main) (regs .mtop) × Within (now ptr) (regs .ptop)
+    requires { ⌜ Body (now file) (regs .place) 4 × TopWithin (now main) (regs .mtop) × TopWithin (now ptr) (regs .ptop)
         × (model.operand (now file) (regs .place) ≤ regs .mtop) × (model.operand2 (now file) (regs .place) ≤ regs .ptop)
         × (kind ≡ 60 → model.operand (now file) (regs .place) < regs .mtop)
         × (kind ≡ 62 → model.operand2 (now file) (regs .place) < regs .ptop) × ((kind ≡ 60) ⊎ ((kind ≡ 62) ⊎ (kind ≡ 64))) ⌝ }
@@ -191,7 +191,7 @@ fn retracts(file: &[u8], main: &[u32], ptr: &[u32], regs: Regs, kind: u8) -> Pla
 
 // 131: two pointers are the same.
 fn same_ptr(ptr: &[u32], regs: Regs) -> Plan
-    requires { ⌜ (regs .place < 4096) × (regs .mtop ≤ 4096) × Within (now ptr) (regs .ptop) × (2 ≤ regs .ptop) ⌝ }
+    requires { ⌜ (regs .place < 4096) × (regs .mtop ≤ 4096) × TopWithin (now ptr) (regs .ptop) × (2 ≤ regs .ptop) ⌝ }
     ensures { λ r. ⌜ ((f : List ℕ) (m : Machine) → r ≡ planned f (setRegs regs (setPtr (now (ptr .entry)) m)) 1 131) ⌝ }
 {
     let second = regs.ptop - 1;
@@ -218,7 +218,7 @@ fn plan_objects(
     regs: Regs,
     kind: u8,
 ) -> Plan
-    requires { ⌜ Ready (now file) (now table) (record { regs = regs; main = now main; ptr = now ptr; ctl = now ctl; heap = now heap })
+    requires { ⌜ StepReady (now file) (now table) (record { regs = regs; main = now main; ptr = now ptr; ctl = now ctl; heap = now heap })
         × (model.byteAt (now file) (regs .place) ≡ kind) × NoneOf wordArms kind × NoneOf localArms kind × NoneOf atArms kind ⌝ }
     ensures { λ r. ⌜ r ≡ planAt (now (file .entry)) (record { regs = regs; main = now (main .entry); ptr = now (ptr .entry); ctl = now (ctl .entry); heap = now (heap .entry) }) ⌝ }
 {
@@ -256,7 +256,7 @@ fn plan_words(
     regs: Regs,
     kind: u8,
 ) -> Plan
-    requires { ⌜ Ready (now file) (now table) (record { regs = regs; main = now main; ptr = now ptr; ctl = now ctl; heap = now heap })
+    requires { ⌜ StepReady (now file) (now table) (record { regs = regs; main = now main; ptr = now ptr; ctl = now ctl; heap = now heap })
         × (model.byteAt (now file) (regs .place) ≡ kind) × NoneOf localArms kind × NoneOf atArms kind ⌝ }
     ensures { λ r. ⌜ r ≡ planAt (now (file .entry)) (record { regs = regs; main = now (main .entry); ptr = now (ptr .entry); ctl = now (ctl .entry); heap = now (heap .entry) }) ⌝ }
 {
@@ -296,7 +296,7 @@ fn plan_locals(
     regs: Regs,
     kind: u8,
 ) -> Plan
-    requires { ⌜ Ready (now file) (now table) (record { regs = regs; main = now main; ptr = now ptr; ctl = now ctl; heap = now heap })
+    requires { ⌜ StepReady (now file) (now table) (record { regs = regs; main = now main; ptr = now ptr; ctl = now ctl; heap = now heap })
         × (model.byteAt (now file) (regs .place) ≡ kind) × NoneOf atArms kind ⌝ }
     ensures { λ r. ⌜ r ≡ planAt (now (file .entry)) (record { regs = regs; main = now (main .entry); ptr = now (ptr .entry); ctl = now (ctl .entry); heap = now (heap .entry) }) ⌝ }
 {
@@ -326,7 +326,7 @@ pub fn plan_at(
     heap: &[u32],
     regs: Regs,
 ) -> Plan
-    requires { ⌜ Ready (now file) (now table) (record { regs = regs; main = now main; ptr = now ptr; ctl = now ctl; heap = now heap }) ⌝ }
+    requires { ⌜ StepReady (now file) (now table) (record { regs = regs; main = now main; ptr = now ptr; ctl = now ctl; heap = now heap }) ⌝ }
     ensures { λ r. ⌜ r ≡ planAt (now (file .entry)) (record { regs = regs; main = now (main .entry); ptr = now (ptr .entry); ctl = now (ctl .entry); heap = now (heap .entry) }) ⌝ }
 {
     let place = regs.place;

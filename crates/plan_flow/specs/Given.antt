@@ -6,12 +6,12 @@ use mathlib.Core.Logic.{_⊎_, inl, inr}
 use mathlib.Core.Path.{_≡_, _∙_, ap}
 use lib.ListN.{length, getD}
 use borrow.Author.Tests.{eq-eqb, ne-eqb, le-leb, lt-leb}
-use Rattle.model.specs.Choice.{if_then_else_, most, all}
+use Rattle.model.specs.Choice.{if_then_else_, atMost, all}
 use Rattle.model.specs.Words.{truth}
-use Rattle.model.specs.File.{call, operand, headOf, entry, insOf, paramsMain, paramsPtr, mostMain, mostPtr}
+use Rattle.model.specs.File.{call, operand, headOf, entry, insOf, paramsMain, paramsPtr, greatestMain, greatestPtr}
 use Rattle.model.specs.Control.{Machine, recordWords}
 use Rattle.model.specs.Moves.{mainWord, mtop, ptop}
-use Rattle.plan_meaning.specs.Planned.{write, onValue, planOf}
+use Rattle.plan_meaning.specs.Planned.{write, planValue, planOf}
 use Rattle.model.specs.declared.Regs.{Regs}
 use Rattle.model.specs.declared.Value.{Value}
 use Rattle.plan_meaning.specs.declared.Into.the-variants.{Main, Frame}
@@ -30,7 +30,7 @@ pub record Body (f : List ℕ) (p n : ℕ) : Type 0 where
   pub short : length f ≤ 4096
 
 -- a top of a stack
-pub record Within (l : List ℕ) (top : ℕ) : Type 0 where
+pub record TopWithin (l : List ℕ) (top : ℕ) : Type 0 where
   pub below : top ≤ length l
   pub few : length l ≤ 4096
 
@@ -46,7 +46,7 @@ pub record Callee (f table : List ℕ) (r : Regs) : Type 0 where
 unfoldable pub Binary : ℕ → ℕ → ℕ → Value → Type 0
 Binary k a b v =
     (f : List ℕ) (p : ℕ) (m : Machine) (q : ℕ) → mainWord m 2 ≡ a → mainWord m 1 ≡ b →
-    onValue v (λ w. write Main q (mtop m - 1) (ptop m) (mtop m - 2) w) ≡ planOf f m q (insOf f p k)
+    planValue v (λ w. write Main q (mtop m - 1) (ptop m) (mtop m - 2) w) ≡ planOf f m q (insOf f p k)
 
 -- of two codes, the one that a test has left
 pub other : {A B : Type 0} → A ⊎ B → (A → ⊥) → B
@@ -67,8 +67,8 @@ pub record Numbers (f : List ℕ) (n h : ℕ) (v : Head) : Type 0 where
   pub at : h ≡ headOf f n
   pub main : v .a ≡ paramsMain f n
   pub ptr : v .b ≡ paramsPtr f n
-  pub most-main : v .x ≡ mostMain f n
-  pub most-ptr : v .y ≡ mostPtr f n
+  pub most-main : v .x ≡ greatestMain f n
+  pub most-ptr : v .y ≡ greatestPtr f n
 
 pub numbers : {f table : List ℕ} {r : Regs} (s : ℕ) {v : Head} → Callee f table r → s ≡ operand f (r .place) →
     HeadIs f (getD table s 0) v → Numbers f (operand f (r .place)) (getD table s 0) v
@@ -88,8 +88,8 @@ numbers {f} {table} {r} s {v} C e H =
 -- a call in the head's numbers: where it finds no room, and where it does
 module _ {f : List ℕ} {n h : ℕ} {v : Head} (N : Numbers f n h v) (m : Machine) (q : ℕ) where
   call-is : planOf f m q (call n)
-      ≡ (if all (most (mtop m - v .a + v .x) (length (m .main)) ∷ most (ptop m - v .b + v .y) (length (m .ptr))
-      ∷ most (m .regs .ctop + recordWords) (length (m .ctl)) ∷ [])
+      ≡ (if all (atMost (mtop m - v .a + v .x) (length (m .main)) ∷ atMost (ptop m - v .b + v .y) (length (m .ptr))
+      ∷ atMost (m .regs .ctop + recordWords) (length (m .ctl)) ∷ [])
       then write Frame (h + 7) (mtop m) (ptop m) (mtop m - v .a) (ptop m - v .b)
       else NoRoom)
   unfolding planOf entry
@@ -105,6 +105,6 @@ module _ {f : List ℕ} {n h : ℕ} {v : Head} (N : Numbers f n h v) (m : Machin
       length (m .ctl) < m .regs .ctop + recordWords → NoRoom ≡ planOf f m q (call n)
   no-ctl s t u = rw (call-is, le-leb _ _ s, le-leb _ _ t, lt-leb _ _ u)
 
-  pub room : mtop m - v .a + v .x ≤ length (m .main) → ptop m - v .b + v .y ≤ length (m .ptr) →
+  pub frame-room : mtop m - v .a + v .x ≤ length (m .main) → ptop m - v .b + v .y ≤ length (m .ptr) →
       m .regs .ctop + recordWords ≤ length (m .ctl) → write Frame (h + 7) (mtop m) (ptop m) (mtop m - v .a) (ptop m - v .b) ≡ planOf f m q (call n)
-  room s t u = rw (call-is, le-leb _ _ s, le-leb _ _ t, le-leb _ _ u)
+  frame-room s t u = rw (call-is, le-leb _ _ s, le-leb _ _ t, le-leb _ _ u)

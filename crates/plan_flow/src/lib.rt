@@ -12,10 +12,10 @@ ghost use mathlib.Core.Logic.{_⊎_};
 ghost use Prim.Native.Nat.{ℕ, _+_, _<_, _≤_};
 ghost use Rattle.model.specs.Words.{valueOf};
 ghost use Rattle.model.specs.Control.{Machine, setRegs, setMain, setPtr, setCtl};
-ghost use Rattle.plan_meaning.specs.Planned.{write, onValue};
+ghost use Rattle.plan_meaning.specs.Planned.{write, planValue};
 ghost use Rattle.numbers.specs.Small.{Small};
 ghost use Rattle.control_stack.specs.Layout.{Numbered};
-ghost use Rattle.plan_flow.specs.Given.{planned, Body, Within, Callee, Binary};
+ghost use Rattle.plan_flow.specs.Given.{planned, Body, TopWithin, Callee, Binary};
 
 pub fn writes(into: Into, place: usize, mtop: usize, ptop: usize, at: usize, word: u32) -> Plan
     ensures { λ r. ⌜ r ≡ write into place mtop ptop at word ⌝ }
@@ -32,7 +32,7 @@ pub fn writes(into: Into, place: usize, mtop: usize, ptop: usize, at: usize, wor
 
 // A whole number's word on the main stack, or exception 1.
 fn number(z: i64, place: usize, mtop: usize, ptop: usize, at: usize) -> Plan
-    ensures { λ r. ⌜ r ≡ onValue (valueOf z) (λ w. write Into.Main place mtop ptop at w) ⌝ }
+    ensures { λ r. ⌜ r ≡ planValue (valueOf z) (λ w. write Into.Main place mtop ptop at w) ⌝ }
 {
     if !arithmetic::fits(z) {
         return Plan::OutOfRange;
@@ -42,7 +42,7 @@ fn number(z: i64, place: usize, mtop: usize, ptop: usize, at: usize) -> Plan
 
 // The same for a division, where 0 divides nothing.
 fn result(value: Value, place: usize, mtop: usize, ptop: usize, at: usize) -> Plan
-    ensures { λ r. ⌜ r ≡ onValue value (λ w. write Into.Main place mtop ptop at w) ⌝ }
+    ensures { λ r. ⌜ r ≡ planValue value (λ w. write Into.Main place mtop ptop at w) ⌝ }
 {
     match value {
         Value::Word(w) => writes(Into::Main, place, mtop, ptop, at, w),
@@ -93,7 +93,7 @@ pub fn jumps(file: &[u8], regs: Regs, kind: u8) -> Plan
 
 // 2 and 5: forwards where the word is false; 5 keeps it then.
 pub fn on_false(file: &[u8], main: &[u32], regs: Regs, kind: u8) -> Plan
-    requires { ⌜ Body (now file) (regs .place) 2 × Within (now main) (regs .mtop) × (1 ≤ regs .mtop) × ((kind ≡ 2) ⊎ (kind ≡ 5)) ⌝ }
+    requires { ⌜ Body (now file) (regs .place) 2 × TopWithin (now main) (regs .mtop) × (1 ≤ regs .mtop) × ((kind ≡ 2) ⊎ (kind ≡ 5)) ⌝ }
     ensures { λ r. ⌜ ((m : Machine) → r ≡ planned (now (file .entry)) (setRegs regs (setMain (now (main .entry)) m)) 3 kind) ⌝ }
 {
     let place = regs.place;
@@ -110,7 +110,7 @@ pub fn on_false(file: &[u8], main: &[u32], regs: Regs, kind: u8) -> Plan
 
 // 4 and 6: where the word is true, 4 backwards, 6 forwards and keeps it.
 pub fn on_true(file: &[u8], main: &[u32], regs: Regs, kind: u8) -> Plan
-    requires { ⌜ Body (now file) (regs .place) 2 × Within (now main) (regs .mtop) × (1 ≤ regs .mtop) × ((kind ≡ 4) ⊎ (kind ≡ 6)) ⌝ }
+    requires { ⌜ Body (now file) (regs .place) 2 × TopWithin (now main) (regs .mtop) × (1 ≤ regs .mtop) × ((kind ≡ 4) ⊎ (kind ≡ 6)) ⌝ }
     ensures { λ r. ⌜ ((m : Machine) → r ≡ planned (now (file .entry)) (setRegs regs (setMain (now (main .entry)) m)) 3 kind) ⌝ }
 {
     let place = regs.place;
@@ -147,7 +147,7 @@ pub fn calls(
     ctl: &[u32],
     regs: Regs,
 ) -> Plan
-    requires { ⌜ Body (now file) (regs .place) 2 × Within (now main) (regs .mtop) × Within (now ptr) (regs .ptop)
+    requires { ⌜ Body (now file) (regs .place) 2 × TopWithin (now main) (regs .mtop) × TopWithin (now ptr) (regs .ptop)
         × (regs .ctop ≤ 1280) × Callee (now file) (now table) regs ⌝ }
     ensures { λ r. ⌜ ((m : Machine) → r ≡ planned (now (file .entry)) (setRegs regs (setMain (now (main .entry)) (setPtr (now (ptr .entry)) (setCtl (now (ctl .entry)) m)))) 3 72) ⌝ }
 {
@@ -203,7 +203,7 @@ fn compare(kind: u8, a: u32, b: u32) -> u32
 
 // 130, 195, 198, 201 and 204.
 pub fn compares(main: &[u32], regs: Regs, kind: u8) -> Plan
-    requires { ⌜ (regs .place < 4096) × Within (now main) (regs .mtop) × (2 ≤ regs .mtop)
+    requires { ⌜ (regs .place < 4096) × TopWithin (now main) (regs .mtop) × (2 ≤ regs .mtop)
         × ((kind ≡ 130) ⊎ ((kind ≡ 195) ⊎ ((kind ≡ 198) ⊎ ((kind ≡ 201) ⊎ (kind ≡ 204))))) ⌝ }
     ensures { λ r. ⌜ ((f : List ℕ) (m : Machine) → r ≡ planned f (setRegs regs (setMain (now (main .entry)) m)) 1 kind) ⌝ }
 {
@@ -215,7 +215,7 @@ pub fn compares(main: &[u32], regs: Regs, kind: u8) -> Plan
 
 // 140 and 142.
 pub fn sums(main: &[u32], regs: Regs, kind: u8) -> Plan
-    requires { ⌜ (regs .place < 4096) × Within (now main) (regs .mtop) × (2 ≤ regs .mtop) × ((kind ≡ 140) ⊎ (kind ≡ 142)) ⌝ }
+    requires { ⌜ (regs .place < 4096) × TopWithin (now main) (regs .mtop) × (2 ≤ regs .mtop) × ((kind ≡ 140) ⊎ (kind ≡ 142)) ⌝ }
     ensures { λ r. ⌜ ((f : List ℕ) (m : Machine) → r ≡ planned f (setRegs regs (setMain (now (main .entry)) m)) 1 kind) ⌝ }
 {
     let place = regs.place + 1;
@@ -231,7 +231,7 @@ pub fn sums(main: &[u32], regs: Regs, kind: u8) -> Plan
 
 // 141, 143 and 145.
 pub fn products(main: &[u32], regs: Regs, kind: u8) -> Plan
-    requires { ⌜ (regs .place < 4096) × Within (now main) (regs .mtop) × (2 ≤ regs .mtop) × ((kind ≡ 141) ⊎ ((kind ≡ 143) ⊎ (kind ≡ 145))) ⌝ }
+    requires { ⌜ (regs .place < 4096) × TopWithin (now main) (regs .mtop) × (2 ≤ regs .mtop) × ((kind ≡ 141) ⊎ ((kind ≡ 143) ⊎ (kind ≡ 145))) ⌝ }
     ensures { λ r. ⌜ ((f : List ℕ) (m : Machine) → r ≡ planned f (setRegs regs (setMain (now (main .entry)) m)) 1 kind) ⌝ }
 {
     let place = regs.place + 1;
@@ -250,7 +250,7 @@ pub fn products(main: &[u32], regs: Regs, kind: u8) -> Plan
 
 // 144 and 146.
 pub fn unaries(main: &[u32], regs: Regs, kind: u8) -> Plan
-    requires { ⌜ (regs .place < 4096) × Within (now main) (regs .mtop) × (1 ≤ regs .mtop) × ((kind ≡ 144) ⊎ (kind ≡ 146)) ⌝ }
+    requires { ⌜ (regs .place < 4096) × TopWithin (now main) (regs .mtop) × (1 ≤ regs .mtop) × ((kind ≡ 144) ⊎ (kind ≡ 146)) ⌝ }
     ensures { λ r. ⌜ ((f : List ℕ) (m : Machine) → r ≡ planned f (setRegs regs (setMain (now (main .entry)) m)) 1 kind) ⌝ }
 {
     let place = regs.place + 1;

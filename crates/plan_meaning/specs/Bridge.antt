@@ -18,7 +18,7 @@ use Rattle.model.specs.Checker.{basicEffect, effectOf}
 use Rattle.model.specs.Heap.{markOf, viewKind, inPtrs, inPlain, maySetPlain, maySetPtr}
 use Rattle.model.specs.Control.{Machine, running, records, recordWords}
 use Rattle.model.specs.Moves.{mtop, ptop, mainWord, ptrWord, mainWords, ptrWords, goTo, inFrame, popMain, popPtr, pushNew, finished}
-use Rattle.model.specs.Instructions.{codeOf, nilObject, noSuchWord, heapFull, noRoom, Result, done, throws, fails, andGo, onValue, onObject, newOf, makes, callTests, basicRule, rule}
+use Rattle.model.specs.Instructions.{codeOf, nilObject, noSuchWord, heapFull, noRoom, Result, done, throws, fails, andGo, onValue, onObject, newOf, makes, calleeTests, basicRule, rule}
 use Rattle.model.specs.Step.{next, outcome, instruct, step}
 use Rattle.model.specs.declared.Value.{Value}
 use Rattle.model.specs.declared.Value.the-variants.{Word, Outside}
@@ -86,13 +86,13 @@ module _ (f : List ℕ) (m : Machine) (q : ℕ) where
   comes e s = record { to = e; suits = s }
 
   on-value : (v : Value) (p : ℕ → Plan) (r : ℕ → Result) → ((w : ℕ) → Comes (p w) (andGo q (r w))) →
-      Comes (plan.onValue v p) (andGo q (onValue v r))
+      Comes (plan.planValue v p) (andGo q (onValue v r))
   unfolding settle
   on-value (Word w) p r k = k w
   on-value Outside p r k = comes refl tt
 
   on-object : (o : ℕ) (t u : Bool) (p : Plan) (m′ : Machine) → (o ≢ 0 → u ≡ t) → (o ≢ 0 → t ≡ true → Comes p (andGo q (done m′))) →
-      Comes (plan.onObject o t p) (andGo q (onObject o u m′))
+      Comes (plan.planObject o t p) (andGo q (onObject o u m′))
   unfolding settle
   on-object o t u p m′ d k = go (eqb o 0) refl
     where
@@ -269,8 +269,8 @@ module _ (f : List ℕ) (m : Machine) (q : ℕ) where
   agrees (call n) d e A =
       let b = call-after f (m .regs .place) (call-byte f (m .regs .place) n e) in
       let w = A .in-file in
-      on-test (all (callTests f m n)) _ _ _ (codeOf noRoom) (comes refl tt)
-      (λ u. let T = all-true (callTests f m n) u in
+      on-test (all (calleeTests f m n)) _ _ _ (codeOf noRoom) (comes refl tt)
+      (λ u. let T = all-true (calleeTests f m n) u in
       comes (rw (d, callee-is f (m .regs .place) n e)) (record { operand = omega arith; behind = b; base = omega arith; room = T .1 .1 .0 }))
   agrees return d e A =
       let w = A .whole in

@@ -10,7 +10,7 @@ use Rattle.model.specs.File.{onMain, onPtr, keepMain, keepPtr, keepNone, Basic,
 use Rattle.model.specs.Heap.{markOf, rootOf, inPtrs, inPlain}
 use Rattle.model.specs.Control.{Machine, running, recordWords}
 use Rattle.model.specs.Moves.{mtop, ptop, mainWord, ptrWord}
-use Rattle.model.specs.Instructions.{callTests}
+use Rattle.model.specs.Instructions.{calleeTests}
 use Rattle.model.specs.declared.Value.{Value}
 use Rattle.model.specs.declared.Value.the-variants.{Word, Outside}
 use Rattle.plan_meaning.specs.declared.Into.{Into}
@@ -24,13 +24,13 @@ abbrev pub write : Into → ℕ → ℕ → ℕ → ℕ → ℕ → Plan
 write i q m p at w = Write (record { into = i; place = q; mtop = m; ptop = p; at = at; word = w })
 
 -- exception 2 for a nil object, then 3 where the word is not in the part asked for, else the plan
-abbrev pub onObject : ℕ → Bool → Plan → Plan
-onObject o inPart plan = if eqb o 0 then NilObject else if inPart then plan else NoSuchWord
+abbrev pub planObject : ℕ → Bool → Plan → Plan
+planObject o inPart plan = if eqb o 0 then NilObject else if inPart then plan else NoSuchWord
 
 -- exception 1, or the plan for the word
-abbrev pub onValue : Value → (ℕ → Plan) → Plan
-onValue (Word w) plan = plan w
-onValue Outside plan = OutOfRange
+abbrev pub planValue : Value → (ℕ → Plan) → Plan
+planValue (Word w) plan = plan w
+planValue Outside plan = OutOfRange
 
 -- an instruction that works on words, with q the next place. In the order of the table:
 -- 20, 21 "push word s of the frame"; 22, 23 "pop, store in word s"; 30, 31 "pop object, push its word s"; 32, 33 "pop object, then
@@ -43,16 +43,16 @@ basicPlan m q (local onPtr s) = write Pointer q (mtop m) (ptop m + 1) (ptop m) (
 basicPlan m q (assign onMain s) = write Main q (mtop m - 1) (ptop m) (running m .mainBase + s) (mainWord m 1)
 basicPlan m q (assign onPtr s) = write Pointer q (mtop m) (ptop m - 1) (running m .ptrBase + s) (ptrWord m 1)
 basicPlan m q (field onMain s) =
-    onObject (ptrWord m 1) (inPlain (m .heap) (ptrWord m 1) s)
+    planObject (ptrWord m 1) (inPlain (m .heap) (ptrWord m 1) s)
     (write Read q (mtop m + 1) (ptop m - 1) (mtop m) (wordAt (m .heap) (ptrWord m 1 + s)))
 basicPlan m q (field onPtr s) =
-    onObject (ptrWord m 1) (inPtrs (m .heap) (ptrWord m 1) s)
+    planObject (ptrWord m 1) (inPtrs (m .heap) (ptrWord m 1) s)
     (write Pointer q (mtop m) (ptop m) (ptop m - 1) (wordAt (m .heap) (ptrWord m 1 + s)))
 basicPlan m q (setField onMain s) =
-    onObject (ptrWord m 1) (inPlain (m .heap) (ptrWord m 1) s)
+    planObject (ptrWord m 1) (inPlain (m .heap) (ptrWord m 1) s)
     (write Heap q (mtop m - 1) (ptop m - 1) (ptrWord m 1 + s) (mainWord m 1))
 basicPlan m q (setField onPtr s) =
-    onObject (ptrWord m 1) (inPtrs (m .heap) (ptrWord m 1) s)
+    planObject (ptrWord m 1) (inPtrs (m .heap) (ptrWord m 1) s)
     (write Heap q (mtop m) (ptop m - 2) (ptrWord m 1 + s) (ptrWord m 2))
 basicPlan m q (make (form k n)) =
     if leb (markOf (m .heap) + (2 + k + n)) (length (m .heap))
@@ -66,9 +66,9 @@ basicPlan m q (retract keepMain k n) = write DropMain q (mtop m - k) (ptop m - n
 basicPlan m q (retract keepPtr k n) = write DropPointer q (mtop m - k) (ptop m - n) (ptop m - n - 1) (ptrWord m 1)
 basicPlan m q (retract keepNone k n) = write Drop q (mtop m - k) (ptop m - n) 0 0
 basicPlan m q (binary o) =
-    onValue (operate o (mainWord m 2) (mainWord m 1)) (λ w. write Main q (mtop m - 1) (ptop m) (mtop m - 2) w)
+    planValue (operate o (mainWord m 2) (mainWord m 1)) (λ w. write Main q (mtop m - 1) (ptop m) (mtop m - 2) w)
 basicPlan m q samePtr = write Read q (mtop m + 1) (ptop m - 2) (mtop m) (bit (eqb (ptrWord m 2) (ptrWord m 1)))
-basicPlan m q (unary o) = onValue (operate1 o (mainWord m 1)) (λ w. write Main q (mtop m) (ptop m) (mtop m - 1) w)
+basicPlan m q (unary o) = planValue (operate1 o (mainWord m 1)) (λ w. write Main q (mtop m) (ptop m) (mtop m - 1) w)
 
 -- q is the next place. 1 to 6: jumps; 72: the word and the index written are the new frame's bases; 73: back to the return place;
 -- 160, 161: the handler's record; 162 "pop a word, raise it"
@@ -82,7 +82,7 @@ planOf f m q (branchKeep false t) =
 planOf f m q (branchKeep true t) =
     if truth (mainWord m 1) then write Nothing t (mtop m) (ptop m) 0 0 else write Pop q (mtop m - 1) (ptop m) 0 0
 planOf f m q (call n) =
-    if all (callTests f m n)
+    if all (calleeTests f m n)
     then write Frame (entry f n) (mtop m) (ptop m) (mtop m - paramsMain f n) (ptop m - paramsPtr f n)
     else NoRoom
 planOf f m q return = write Return (running m .returns) (mtop m) (ptop m) 0 0

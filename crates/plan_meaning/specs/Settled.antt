@@ -40,8 +40,8 @@ abbrev pub viewSet : Put → Machine → Machine
 viewSet p m = setHeap (formedFrom p m) (ptrSet p m)
 
 -- 72: a new frame, which the 72 at the machine's place opens
-abbrev pub called : List ℕ → Put → Machine → Machine
-called f p m =
+abbrev pub calledBy : List ℕ → Put → Machine → Machine
+calledBy f p m =
     goTo (p .place)
     (openFrame
     (record {
@@ -92,7 +92,7 @@ applyInto f Drop p m = cutOnly p m
 applyInto f DropMain p m = mainSet p m
 applyInto f DropPointer p m = ptrSet p m
 applyInto f View p m = viewSet p m
-applyInto f Frame p m = called f p m
+applyInto f Frame p m = calledBy f p m
 applyInto f Return p m = if eqb (m .regs .frame) 1 then finished m else returned p m
 applyInto f Handler p m = opened p m
 applyInto f Close p m = closed p m

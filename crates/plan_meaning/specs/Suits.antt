@@ -26,25 +26,25 @@ pub record Drops (r : Regs) (put : Put) : Type 0 where
 
 -- a write into a list of the stacks or the heap, whose lengths are lm, lp and lh: the word lies in it, and so many words go at most, at `Pop`
 -- exactly one; of a retract only that none is added
-abbrev pub Fits : Into → ℕ → ℕ → ℕ → Regs → Put → Type 0
-Fits Nothing lm lp lh r put = Pops 0 0 r put
-Fits Pop lm lp lh r put = (put .mtop < r .mtop) × Pops 1 0 r put
-Fits Push lm lp lh r put = (put .at < lm) × Pops 0 0 r put
-Fits Main lm lp lh r put = (put .at < lm) × Pops 1 0 r put
-Fits Pointer lm lp lh r put = (put .at < lp) × Pops 0 1 r put
-Fits Heap lm lp lh r put = (put .at < lh) × Pops 1 2 r put
-Fits Read lm lp lh r put = (put .at < lm) × Pops 0 2 r put
-Fits Drop lm lp lh r put = Drops r put
-Fits DropMain lm lp lh r put = (put .at < lm) × Drops r put
-Fits DropPointer lm lp lh r put = (put .at < lp) × Drops r put
-Fits View lm lp lh r put = ⊥
-Fits Frame lm lp lh r put = ⊥
-Fits Return lm lp lh r put = ⊥
-Fits Handler lm lp lh r put = ⊥
-Fits Close lm lp lh r put = ⊥
+abbrev pub WriteFits : Into → ℕ → ℕ → ℕ → Regs → Put → Type 0
+WriteFits Nothing lm lp lh r put = Pops 0 0 r put
+WriteFits Pop lm lp lh r put = (put .mtop < r .mtop) × Pops 1 0 r put
+WriteFits Push lm lp lh r put = (put .at < lm) × Pops 0 0 r put
+WriteFits Main lm lp lh r put = (put .at < lm) × Pops 1 0 r put
+WriteFits Pointer lm lp lh r put = (put .at < lp) × Pops 0 1 r put
+WriteFits Heap lm lp lh r put = (put .at < lh) × Pops 1 2 r put
+WriteFits Read lm lp lh r put = (put .at < lm) × Pops 0 2 r put
+WriteFits Drop lm lp lh r put = Drops r put
+WriteFits DropMain lm lp lh r put = (put .at < lm) × Drops r put
+WriteFits DropPointer lm lp lh r put = (put .at < lp) × Drops r put
+WriteFits View lm lp lh r put = ⊥
+WriteFits Frame lm lp lh r put = ⊥
+WriteFits Return lm lp lh r put = ⊥
+WriteFits Handler lm lp lh r put = ⊥
+WriteFits Close lm lp lh r put = ⊥
 
 abbrev pub FitsIn : Into → Put → Machine → Type 0
-FitsIn i put m = Fits i (length (m .main)) (length (m .ptr)) (length (m .heap)) (m .regs) put
+FitsIn i put m = WriteFits i (length (m .main)) (length (m .ptr)) (length (m .heap)) (m .regs) put
 
 -- 36: the words popped are there, and the heap has room for them
 pub record Forms (put : Put) (m : Machine) : Type 0 where
@@ -54,7 +54,7 @@ pub record Forms (put : Put) (m : Machine) : Type 0 where
   pub room : markOf (m .heap) + (2 + ((ptop m - put .at) + (mtop m - put .mtop))) ≤ length (m .heap)
 
 -- 72: its operand is there, the base is that of words on the stack, and the record fits
-pub record Calls (f : List ℕ) (put : Put) (m : Machine) : Type 0 where
+pub record CallSuits (f : List ℕ) (put : Put) (m : Machine) : Type 0 where
   pub operand : m .regs .place + 2 < length f
   pub behind : after f (m .regs .place) ≡ m .regs .place + 3
   pub base : put .at ≤ mtop m
@@ -73,7 +73,7 @@ Suits f Drop put m = FitsIn Drop put m
 Suits f DropMain put m = FitsIn DropMain put m
 Suits f DropPointer put m = FitsIn DropPointer put m
 Suits f View put m = Forms put m
-Suits f Frame put m = Calls f put m
+Suits f Frame put m = CallSuits f put m
 Suits f Return put m = Unit {0}
 Suits f Handler put m = m .regs .ctop + recordWords ≤ length (m .ctl)
 Suits f Close put m = 1 ≤ m .regs .handler

@@ -10,7 +10,7 @@ use Rattle.model.specs.Control.{registerBytes, bytesOf, regBytes}
 use Rattle.model.specs.declared.Regs.{Regs}
 
 -- the registers are words
-pub record Words (r : Regs) : Type 0 where
+pub record RegsWords (r : Regs) : Type 0 where
   pub place : r .place < 4294967296
   pub frame : r .frame < 4294967296
   pub handler : r .handler < 4294967296

@@ -5,7 +5,7 @@ ghost use Prim.Native.Nat.{_+_, _*_, _/_, _<_};
 ghost use lib.ListN.{length};
 ghost use Rattle.model.specs.Control.{registers, registerBytes, wordFrom, regsFrom, regBytes};
 ghost use Rattle.numbers.specs.Small.{Small};
-ghost use Rattle.registers.specs.Registers.{Words, Stored};
+ghost use Rattle.registers.specs.Registers.{RegsWords, Stored};
 use model::Regs;
 
 // Register `i`.
@@ -21,7 +21,7 @@ fn word_from(bytes: &[u8], i: usize) -> usize
 
 pub fn regs_from(bytes: &[u8]) -> Regs
     requires { ⌜ length (now bytes) ≡ registerBytes ⌝ }
-    ensures { λ r. ⌜ (r ≡ regsFrom (now (bytes .entry))) × Words r ⌝ }
+    ensures { λ r. ⌜ (r ≡ regsFrom (now (bytes .entry))) × RegsWords r ⌝ }
 {
     Regs {
         place: word_from(bytes, 0),

@@ -12,7 +12,7 @@ use Rattle.plan_meaning.specs.Settled.{settle}
 use Rattle.apply.specs.Ended.{endedOf, went-on, went-off}
 use Rattle.apply.specs.declared.Outcome.{Outcome}
 use Rattle.theory_step.specs.Settling.{alive-plan}
-use Rattle.run_steps.specs.Going.{Runs, Alike, Going, going-trans, stepped}
+use Rattle.run_steps.specs.Going.{Runs, SameLengths, Going, going-trans, stepped}
 use Rattle.run.specs.declared.Ended.{Ended}
 use Rattle.model.specs.declared.Regs.{Regs}
 use Rattle.plan_meaning.specs.declared.Plan.{Plan}
@@ -23,10 +23,10 @@ abbrev pub endedWith : Answer → Regs → Ended
 endedWith a r = record { answer = a; regs = r }
 
 module _ (f table : List ℕ) where
-  pub finished-at : (n k : ℕ) (m : Machine) → m .regs .state ≡ 1 → runOn f n k m ≡ ran (Finished k) m
+  pub run-finished : (n k : ℕ) (m : Machine) → m .regs .state ≡ 1 → runOn f n k m ≡ ran (Finished k) m
   unfolding runOn
-  finished-at zero k m e = rw (eq-eqb (m .regs .state) 1 e)
-  finished-at (suc n) k m e = rw (eq-eqb (m .regs .state) 1 e)
+  run-finished zero k m e = rw (eq-eqb (m .regs .state) 1 e)
+  run-finished (suc n) k m e = rw (eq-eqb (m .regs .state) 1 e)
 
   -- from the start of a run: what it comes to at m, with n steps of the budget left
   module _ (budget : ℕ) (m₀ : Machine) (n : ℕ) (m : Machine) (G : Going f table budget m₀ n m) where
@@ -34,7 +34,7 @@ module _ (f table : List ℕ) where
     done = let e : 0 + (budget - n) ≡ budget - n = omega arith in G .same 0 ∙ ap (λ (i : ℕ). runOn f n i m) e
 
     pub going-finished : m .regs .state ≡ 1 → ran (Finished (budget - n)) m ≡ runOn f budget 0 m₀
-    going-finished e = sym (done ∙ finished-at n (budget - n) m e)
+    going-finished e = sym (done ∙ run-finished n (budget - n) m e)
 
     pub going-spent : n ≤ 0 → (m .regs .state ≡ 1 → ⊥) → ran (Spent budget) m ≡ runOn f budget 0 m₀
     unfolding runOn
@@ -57,7 +57,7 @@ module _ (f table : List ℕ) where
         let left : n ≡ suc (n - 1) = omega arith in
         sym (done budget m₀ n m G ∙ ap (λ (i : ℕ). runOn f i (budget - n) m) left ∙ rw (ne-eqb (m .regs .state) 1 on?, w))
 
-    pub going-on : (budget : ℕ) (m₀ : Machine) → Going f table budget m₀ n m → o .on ≡ true → Alike m′ m →
+    pub going-on : (budget : ℕ) (m₀ : Machine) → Going f table budget m₀ n m → o .on ≡ true → SameLengths m′ m →
         Going f table budget m₀ (n - 1) m′
     going-on budget m₀ G t a =
         going-trans f table budget m₀ n m (n - 1) m′ G

@@ -26,7 +26,7 @@ pub record Runs (f table : List ℕ) (m : Machine) : Type 0 where
   pub alive : Alive f map table m
 
 -- the lists keep their lengths
-pub record Alike (m m₀ : Machine) : Type 0 where
+pub record SameLengths (m m₀ : Machine) : Type 0 where
   pub main : length (m .main) ≡ length (m₀ .main)
   pub ptr : length (m .ptr) ≡ length (m₀ .ptr)
   pub ctl : length (m .ctl) ≡ length (m₀ .ctl)
@@ -40,10 +40,10 @@ pub record Going (f table : List ℕ) (n : ℕ) (m : Machine) (n′ : ℕ) (m′
   pub less : n′ ≤ n
   pub same : (k : ℕ) → runOn f n k m ≡ runOn f n′ (k + (n - n′)) m′
   pub runs : Runs f table m′
-  pub alike : Alike m′ m
+  pub alike : SameLengths m′ m
 
 -- a plan that is settled apart: it is that of the next instruction, and it raises or is late
-pub record Stopped (f : List ℕ) (m : Machine) (plan : Plan) : Type 0 where
+pub record PlanPaused (f : List ℕ) (m : Machine) (plan : Plan) : Type 0 where
   pub is : plan ≡ planAt f m
   pub late : Later (m .regs) plan
 
@@ -51,13 +51,13 @@ pub record Stopped (f : List ℕ) (m : Machine) (plan : Plan) : Type 0 where
 pub record Paused (f table : List ℕ) (n : ℕ) (m : Machine) (n′ : ℕ) (m′ : Machine) (plan : Plan) : Type 0 where
   pub going : Going f table n m n′ m′
   pub on? : m′ .regs .state ≡ 1 → ⊥
-  pub stopped : 0 < n′ → Stopped f m′ plan
+  pub stopped : 0 < n′ → PlanPaused f m′ plan
 
 -- no plan writes, or the write was not done: the plan is settled apart
-pub stopped-raise : (f : List ℕ) (m : Machine) (plan : Plan) → plan ≡ planAt f m → ((put : Put) → plan ≡ Write put → ⊥) → Stopped f m plan
+pub stopped-raise : (f : List ℕ) (m : Machine) (plan : Plan) → plan ≡ planAt f m → ((put : Put) → plan ≡ Write put → ⊥) → PlanPaused f m plan
 stopped-raise f m plan e never = record { is = e; late = λ put u. absurd (never put u) }
 
-pub stopped-late : (f : List ℕ) (m : Machine) (put : Put) → Write put ≡ planAt f m → Late (put .into) (m .regs) → Stopped f m (Write put)
+pub stopped-late : (f : List ℕ) (m : Machine) (put : Put) → Write put ≡ planAt f m → Late (put .into) (m .regs) → PlanPaused f m (Write put)
 stopped-late f m put e L = record { is = e; late = λ put′ u. subst (λ (p : Put). Late (p .into) (m .regs)) (write-one put put′ u) L }
   where
     write-one : (p q : Put) → Write p ≡ Write q → p ≡ q
@@ -107,7 +107,7 @@ module _ (f table : List ℕ) where
     left : n ≡ suc (n - 1)
     left = omega arith
 
-    pub stepped : (m′ : Machine) → step f m ≡ next m′ → Alike m′ m → Going f table n m (n - 1) m′
+    pub stepped : (m′ : Machine) → step f m ≡ next m′ → SameLengths m′ m → Going f table n m (n - 1) m′
     unfolding runOn
     stepped m′ w a =
         record {
@@ -121,7 +121,7 @@ module _ (f table : List ℕ) where
 
     -- a plan's writes are done
     pub going-applied : (put : Put) (t : Tried) (m′ : Machine) → Write put ≡ planAt f m → t .done ≡ true →
-        m′ ≡ appliedIf (t .done) f put m → Alike m′ m → Going f table n m (n - 1) m′
+        m′ ≡ appliedIf (t .done) f put m → SameLengths m′ m → Going f table n m (n - 1) m′
     unfolding settle
     going-applied put t m′ e d a l =
         stepped m′ (sym (alive-plan (R .alive) on?) ∙ rw (← e) (ap next (sym (a ∙ ap (λ (u : Bool). appliedIf u f put m) d)))) l

@@ -6,7 +6,7 @@ use mathlib.Core.List.{List}
 use mathlib.Core.Path.{_≡_, refl, ap, sym, _∙_}
 use native.Mathlib.Omega.{arith}
 use lib.ListN.{length}
-use Rattle.model.specs.Checker.{Known, stateAt, Result, refused as stops, passed as goes, flow}
+use Rattle.model.specs.Checker.{Known, stateAt, Flow, refused as stops, passed as goes, flow}
 use Rattle.model.specs.Rules.{Assignment, Keeps}
 use Rattle.model.specs.Calls.{mapSize, Verdict, pass, refuse, flowed, verdictOf, answered, checkOf}
 use Rattle.model.specs.Claim.{Bytes, assigned, InOrder, MapKeeps, MapAlone, RefusedExactly, RightCode, PassedExactly}
@@ -27,7 +27,7 @@ module _ (f map : List ℕ) where
       go (refuse n p new) e = absurd (never n p e)
 
   -- past refusals 1 to 4 the answer is the pass's
-  answer-is : InOrder f → mapSize f ≤ length map → (r : Result Known) → flow f ≡ r → checkOf f map .answer ≡ answered (flowed f map r) .answer
+  answer-is : InOrder f → mapSize f ≤ length map → (r : Flow Known) → flow f ≡ r → checkOf f map .answer ≡ answered (flowed f map r) .answer
   unfolding checkOf
   answer-is W room r e = ap (λ (v : Verdict). answered v .answer) (flow-verdict f map W room ∙ ap (flowed f map) e)
 
@@ -52,7 +52,7 @@ refused f map B W room = (
   λ w. go w (flow f) refl,
 )
   where
-    go : ((A : Assignment) → Keeps f A → ⊥) → (r : Result Known) → flow f ≡ r → (n : ℕ) × (p : ℕ) × (checkOf f map .answer ≡ Refused n p)
+    go : ((A : Assignment) → Keeps f A → ⊥) → (r : Flow Known) → flow f ≡ r → (n : ℕ) × (p : ℕ) × (checkOf f map .answer ≡ Refused n p)
     go w (stops n p) e = (n, p, answer-is f map W room (stops n p) e)
     go w (goes k) e = absurd (w (stateAt k) (flow-keeps f (W .places) B (W .records) (W .heads) k e))
 

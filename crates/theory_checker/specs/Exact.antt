@@ -11,14 +11,14 @@ use lib.Seq.{drop-at}
 use borrow.Author.Tests.{leb-true, le-leb}
 use Rattle.model.specs.Choice.{if_then_else_, Mem}
 use Rattle.model.specs.File.{fileMost, Records, broken, starts, recordsOf, Heads, wrong, right, headsOf, procs, instructions}
-use Rattle.model.specs.Checker.{none, state, unset, Known, stateAt, firsts, Result, refused, passed, flow, mapFrom}
+use Rattle.model.specs.Checker.{none, state, unset, Known, stateAt, firsts, Flow, refused, passed, flow, mapFrom}
 use Rattle.model.specs.Rules.{Assignment, Keeps}
 use Rattle.model.specs.Sound.{mainAt, ptrAt, innerAt}
 use Rattle.model.specs.Calls.{mapSize, overMap, Verdict, pass, refuse, flowed, headed, scanned, verdictOf}
 use Rattle.model.specs.Claim.{Bytes, assigned, InOrder}
-use Rattle.laws.specs.Choices.{and-true}
+use Rattle.laws.specs.Choices.{both-true}
 use Rattle.laws_file.specs.Walk.{heads-right, right-heads, instruction-below}
-use Rattle.theory_checker.specs.Flow.{taken-targets, Shape, keeps-shape, keeps-same, flow-rest, flow-keeps, keeps-flow}
+use Rattle.theory_checker.specs.Flow.{taken-targets, StateShape, keeps-shape, keeps-same, flow-rest, flow-keeps, keeps-flow}
 
 -- three numbers a place
 get-behind : (a b c : ℕ) (map : List ℕ) (i j : ℕ) → i ≡ suc (suc (suc j)) → getD (a ∷ b ∷ c ∷ map) i none ≡ getD map j none
@@ -57,23 +57,23 @@ front-at new rest n p e h =
 
 module _ (f map : List ℕ) (k : Known) where
   -- the finished map
-  abbrev pub finished : List ℕ
-  finished = overMap f map (mapFrom k (length f) 0)
+  abbrev pub finishedMap : List ℕ
+  finishedMap = overMap f map (mapFrom k (length f) 0)
 
-  pub finished-at : (p : ℕ) → p < length f → assigned finished p ≡ stateAt k p
+  pub finished-map-at : (p : ℕ) → p < length f → assigned finishedMap p ≡ stateAt k p
   unfolding overMap
-  finished-at p h =
+  finished-map-at p h =
       let z : 0 + p ≡ p = omega arith in
       front-at (mapFrom k (length f) 0) (drop (mapSize f) map) (length f) p (map-length k (length f) 0) h
       ∙ map-at k (length f) 0 p h
       ∙ ap (stateAt k) z
 
-  pub finished-length : mapSize f ≤ length map → length finished ≡ length map
+  pub finished-length : mapSize f ≤ length map → length finishedMap ≡ length map
   unfolding overMap
   finished-length h = simp (length-append, map-length, length-drop) (omega arith)
 
 -- a map finished again is the same
-pub finished-again : (f map : List ℕ) (k : Known) → finished f (finished f map k) k ≡ finished f map k
+pub finished-again : (f map : List ℕ) (k : Known) → finishedMap f (finishedMap f map k) k ≡ finishedMap f map k
 unfolding overMap
 finished-again f map k =
     ap (λ (l : List ℕ). mapFrom k (length f) 0 ++ l)
@@ -85,7 +85,7 @@ pub record Passed (f map new : List ℕ) : Type 0 where
   pub room : mapSize f ≤ length map
   pub known : Known
   pub flows : flow f ≡ passed known
-  pub is : new ≡ finished f map known
+  pub is : new ≡ finishedMap f map known
 
 module _ (f map : List ℕ) where
   if-pass : (t : Bool) (v : Verdict) (n : ℕ) (new : List ℕ) → (if t then v else refuse n 0 map) ≡ pass new → (t ≡ true) × (v ≡ pass new)
@@ -101,7 +101,7 @@ module _ (f map : List ℕ) where
   headed-pass (wrong p) new e = (cc, cc)
   headed-pass right new e = (refl, e)
 
-  flowed-pass : (r : Result Known) (new : List ℕ) → flowed f map r ≡ pass new → (k : Known) × (r ≡ passed k) × (new ≡ finished f map k)
+  flowed-pass : (r : Flow Known) (new : List ℕ) → flowed f map r ≡ pass new → (k : Known) × (r ≡ passed k) × (new ≡ finishedMap f map k)
   flowed-pass (refused n p) new e = ([], cc, cc)
   flowed-pass (passed k) new e = (k, refl, cc)
 
@@ -110,7 +110,7 @@ module _ (f map : List ℕ) where
   passed-as new e =
       let v : Verdict = if leb (mapSize f) (length map) then scanned f map (recordsOf f) else refuse 2 0 map in
       let a = if-pass (leb 1 (length f) && leb (length f) fileMost) v 1 new e in
-      let l = and-true (leb 1 (length f)) (leb (length f) fileMost) (a .0) in
+      let l = both-true (leb 1 (length f)) (leb (length f) fileMost) (a .0) in
       let b = if-pass (leb (mapSize f) (length map)) (scanned f map (recordsOf f)) 2 new (a .1) in
       let c = scanned-pass (recordsOf f) new (b .1) in
       let d = headed-pass (headsOf f) new (c .2) in
@@ -156,7 +156,7 @@ module _ (f map new : List ℕ) (e : verdictOf f map ≡ pass new) where
       let w = P .is in
       flow-verdict f new (P .formed) (omega arith)
       ∙ ap (flowed f new) (P .flows)
-      ∙ ap pass (ap (λ (x : List ℕ). finished f x (P .known)) w ∙ finished-again f map (P .known) ∙ sym w)
+      ∙ ap pass (ap (λ (x : List ℕ). finishedMap f x (P .known)) w ∙ finished-again f map (P .known) ∙ sym w)
 
 module _ (f map : List ℕ) (B : Bytes f) (new : List ℕ) (e : verdictOf f map ≡ pass new) where
   P : Passed f map new
@@ -166,7 +166,7 @@ module _ (f map : List ℕ) (B : Bytes f) (new : List ℕ) (e : verdictOf f map 
   W = P .formed
 
   map-is : (p : ℕ) → p < length f → stateAt (P .known) p ≡ assigned new p
-  map-is p l = sym (finished-at f map (P .known) p l) ∙ ap (λ (m : List ℕ). assigned m p) (sym (P .is))
+  map-is p l = sym (finished-map-at f map (P .known) p l) ∙ ap (λ (m : List ℕ). assigned m p) (sym (P .is))
 
   known-is : (p : ℕ) → Mem p (instructions f) → stateAt (P .known) p ≡ assigned new p
   known-is p m = map-is p (instruction-below f (W .places) (W .records) p m)
@@ -178,7 +178,7 @@ module _ (f map : List ℕ) (B : Bytes f) (new : List ℕ) (e : verdictOf f map 
       (flow-keeps f (W .places) B (W .records) (W .heads) (P .known) (P .flows))
 
   -- its depths lie within the procedure's, and its third numbers are below their places
-  pub passed-shape : (p : ℕ) → Mem p (instructions f) → Shape f (assigned new) p
+  pub passed-shape : (p : ℕ) → Mem p (instructions f) → StateShape f (assigned new) p
   passed-shape = keeps-shape f (W .places) B (W .records) (W .heads) (assigned new) passed-keeps
 
   -- "three times 65,535 where no instruction starts"

@@ -11,13 +11,13 @@ use native.Mathlib.Omega.{arith}
 use lib.Dec.{eqb}
 use borrow.Author.Tests.{eqb-true, eqb-false, ne-eqb}
 use Rattle.model.specs.Choice.{if_then_else_, all, All, all-true, true-all, Mem, member}
-use Rattle.model.specs.File.{byteAt, Ins, basic, jump, branch, branchKeep, call, return, enter, exit, raise, insOf, insAt, starts, recordsOf, procs, headOf, entry, procAt, instructions, paramsMain, mostMain, mostPtr, headTests}
-use Rattle.model.specs.Checker.{none, State, state, unset, isSet, Known, stateAt, first, firsts, Effect, effect, basicEffect, effectOf, moved, floorTests, goesOn, passes, own, targetTests, nextTests, depthTests, leaveTests, Step, next, passed, need, passAll, takeWith, take, takeAll, flow}
+use Rattle.model.specs.File.{byteAt, Ins, basic, jump, branch, branchKeep, call, return, enter, exit, raise, insOf, insAt, starts, recordsOf, procs, headOf, entry, procAt, instructions, paramsMain, greatestMain, greatestPtr, headTests}
+use Rattle.model.specs.Checker.{none, State, state, unset, isSet, Known, stateAt, first, firsts, Effect, effect, basicEffect, effectOf, moved, floorTests, goesOn, passes, own, targetTests, nextTests, depthTests, leaveTests, Taking, good, passed, need, passAll, takeWith, takeOne, takeAll, flow}
 use Rattle.model.specs.Rules.{Assignment, Opens, Fine, First, Got, Keeps}
 use Rattle.model.specs.Claim.{Bytes}
 use Rattle.theory_checker.specs.Pass as Pass
-use Rattle.theory_checker.specs.Pass.{goOn-inv, Set, Sent, Linked, outer-none, outerAt, Places, unset-at, Code, Taken, Laws, Ran, ran, ran-places, Found, found}
-use Rattle.laws.specs.Choices.{and-true}
+use Rattle.theory_checker.specs.Pass.{goOn-inv, Set, Sent, Linked, innermost-none, innermostAt, Places, unset-at, Code, Taken, Laws, PassRan, pass-ran, ran-places, PassFound, pass-found}
+use Rattle.laws.specs.Choices.{both-true}
 use Rattle.laws.specs.Members.{member-in}
 use Rattle.laws_file.specs.Walk.{HeadsHold, instructions-rise, entry-in, entry-proc}
 
@@ -54,23 +54,23 @@ enter-code f p n e = go (eqb (byteAt f p) 160) refl
     go false h = absurd (true≢false (sym (ap isEnter e) ∙ other-code f p (byteAt f p) h))
 
 -- what the tests of refusals 5 to 8 say of the instruction at p, with its state and its handler's
-pub record Fits (f : List ℕ) (p : ℕ) (s o : State) : Type 0 where
+pub record TestsHold (f : List ℕ) (p : ℕ) (s o : State) : Type 0 where
   pub targets : All (targetTests f p (insAt f p))
   pub nexts : All (nextTests f p (insAt f p))
   pub depths : All (depthTests f p (insAt f p) s o)
   pub leaves : All (leaveTests f p (insAt f p) s)
 
 -- depths within those of the procedure that p lies in
-abbrev pub Within : List ℕ → ℕ → State → Type 0
-Within f p u = (u .main ≤ mostMain f (procAt f p)) × (u .ptr ≤ mostPtr f (procAt f p))
+abbrev pub DepthsWithin : List ℕ → ℕ → State → Type 0
+DepthsWithin f p u = (u .main ≤ greatestMain f (procAt f p)) × (u .ptr ≤ greatestPtr f (procAt f p))
 
 -- a passed state has depths within the procedure's, or those of the state that it comes from
-abbrev pub Depths : List ℕ → ℕ → State → State → Type 0
-Depths f p s u = Within f p u ⊎ ((u .main ≡ s .main) × (u .ptr ≡ s .ptr))
+abbrev pub DepthsFrom : List ℕ → ℕ → State → State → Type 0
+DepthsFrom f p s u = DepthsWithin f p u ⊎ ((u .main ≡ s .main) × (u .ptr ≡ s .ptr))
 
 -- its innermost open handler is the one of the state that it comes from, the 160 itself, or the one that was open there
-abbrev pub Inner : List ℕ → ℕ → State → State → State → Type 0
-Inner f p s o u = (u .inner ≡ s .inner) ⊎ (((u .inner ≡ p) × (byteAt f p ≡ 160)) ⊎ (u .inner ≡ o .inner))
+abbrev pub InnerFrom : List ℕ → ℕ → State → State → State → Type 0
+InnerFrom f p s o u = (u .inner ≡ s .inner) ⊎ (((u .inner ≡ p) × (byteAt f p ≡ 160)) ⊎ (u .inner ≡ o .inner))
 
 -- it lies above the floor o if the state that it comes from does, and where its innermost open handler is another its depths are not
 pub record High (s o u : State) : Type 0 where
@@ -82,8 +82,8 @@ pub record High (s o u : State) : Type 0 where
 pub record Moves (f : List ℕ) (p : ℕ) (s o : State) (q : ℕ) (u : State) : Type 0 where
   pub there : Mem q (instructions f)
   pub same-proc : procAt f q ≡ procAt f p
-  pub depths : Depths f p s u
-  pub inner : Inner f p s o u
+  pub depths : DepthsFrom f p s u
+  pub inner : InnerFrom f p s o u
   pub high : High s o u
 
 -- n words popped of a stack of depth d, which is not below the floor a, and m pushed
@@ -108,11 +108,11 @@ same-high s o i = record { main = λ h. h; ptr = λ h. h; alike = inr (refl, ref
 pub own-in : (f : List ℕ) (p q : ℕ) → own f p q ≡ true → Mem q (instructions f) × (procAt f q ≡ procAt f p)
 unfolding own
 own-in f p q e =
-    let a = and-true (member q (instructions f)) (eqb (procAt f q) (procAt f p)) e in
+    let a = both-true (member q (instructions f)) (eqb (procAt f q) (procAt f p)) e in
     (member-in q (instructions f) (a .0), eqb-true (procAt f q) (procAt f p) (a .1))
 
 module _ (f : List ℕ) (p : ℕ) (s o : State) where
-  moves-to : (q r : ℕ) (u t : State) → own f p r ≡ true → Depths f p s t → Inner f p s o t → High s o t → _≡_ {A = ℕ × State} (q, u) (r, t) → Moves f p s o q u
+  moves-to : (q r : ℕ) (u t : State) → own f p r ≡ true → DepthsFrom f p s t → InnerFrom f p s o t → High s o t → _≡_ {A = ℕ × State} (q, u) (r, t) → Moves f p s o q u
   moves-to q r u t w d i h e =
       let a = own-in f p r w in
       subst (λ (x : ℕ × State). Moves f p s o (x .0) (x .1)) (sym e) (record { there = a .0; same-proc = a .1; depths = d; inner = i; high = h })
@@ -142,10 +142,10 @@ module _ (f : List ℕ) (p : ℕ) (s o : State) where
   moves-by exit e t n d q u (inl h) = moves-to q _ u _ (n .0) (inr (refl, refl)) (inr (inr refl)) (same-high s o (o .inner)) h
   moves-by raise e t n d q u h = absurd h
 
-  pub moves : Fits f p s o → (q : ℕ) (u : State) → Sent q u (passes f p (insAt f p) s o) → Moves f p s o q u
+  pub moves : TestsHold f p s o → (q : ℕ) (u : State) → Sent q u (passes f p (insAt f p) s o) → Moves f p s o q u
   moves F = moves-by (insAt f p) refl (F .targets) (F .nexts) (F .depths)
 
-need-inv : (t : Bool) (n : ℕ) (c : Step Known) (k : Known) → need t n c ≡ next k → (t ≡ true) × (c ≡ next k)
+need-inv : (t : Bool) (n : ℕ) (c : Taking Known) (k : Known) → need t n c ≡ good k → (t ≡ true) × (c ≡ good k)
 need-inv true n c k e = (refl, e)
 need-inv false n c k e = (cc, cc)
 
@@ -153,47 +153,47 @@ need-inv false n c k e = (cc, cc)
 abbrev code : List ℕ → Code
 code f =
     record {
-      Fits = Fits f;
+      Meets = TestsHold f;
       sends = λ p. passes f p (insAt f p);
-      step = take f;
+      step = takeOne f;
       run = takeAll f;
     }
 
 -- what is done from each test of an instruction on
-abbrev from9 : List ℕ → ℕ → Known → Step Known
-from9 f p k = passAll (passes f p (insAt f p) (stateAt k p) (outerAt (stateAt k) p)) k
+abbrev from9 : List ℕ → ℕ → Known → Taking Known
+from9 f p k = passAll (passes f p (insAt f p) (stateAt k p) (innermostAt (stateAt k) p)) k
 
-abbrev from8 : List ℕ → ℕ → Known → Step Known
+abbrev from8 : List ℕ → ℕ → Known → Taking Known
 from8 f p k = need (all (leaveTests f p (insAt f p) (stateAt k p))) 8 (from9 f p k)
 
-abbrev from7 : List ℕ → ℕ → Known → Step Known
-from7 f p k = need (all (depthTests f p (insAt f p) (stateAt k p) (outerAt (stateAt k) p))) 7 (from8 f p k)
+abbrev from7 : List ℕ → ℕ → Known → Taking Known
+from7 f p k = need (all (depthTests f p (insAt f p) (stateAt k p) (innermostAt (stateAt k) p))) 7 (from8 f p k)
 
-abbrev from6 : List ℕ → ℕ → Known → Step Known
+abbrev from6 : List ℕ → ℕ → Known → Taking Known
 from6 f p k = need (isSet (stateAt k p) && all (nextTests f p (insAt f p))) 6 (from7 f p k)
 
-taken-step : (f : List ℕ) (p : ℕ) (k k′ : Known) → Taken (code f) p k k′ → take f p k ≡ next k′
-unfolding take takeWith
+taken-step : (f : List ℕ) (p : ℕ) (k k′ : Known) → Taken (code f) p k k′ → takeOne f p k ≡ good k′
+unfolding takeOne takeWith
 taken-step f p k k′ T =
     let F = T .fits in
     rw (
       true-all (targetTests f p (insAt f p)) (F .targets),
       T .set,
       true-all (nextTests f p (insAt f p)) (F .nexts),
-      true-all (depthTests f p (insAt f p) (stateAt k p) (outerAt (stateAt k) p)) (F .depths),
+      true-all (depthTests f p (insAt f p) (stateAt k p) (innermostAt (stateAt k) p)) (F .depths),
       true-all (leaveTests f p (insAt f p) (stateAt k p)) (F .leaves),
     )
     (T .puts)
 
-step-taken : (f : List ℕ) (p : ℕ) (k k′ : Known) → take f p k ≡ next k′ → Taken (code f) p k k′
-unfolding take takeWith
+step-taken : (f : List ℕ) (p : ℕ) (k k′ : Known) → takeOne f p k ≡ good k′ → Taken (code f) p k k′
+unfolding takeOne takeWith
 step-taken f p k k′ e =
     let i = insAt f p in
     let s = stateAt k p in
-    let o = outerAt (stateAt k) p in
+    let o = innermostAt (stateAt k) p in
     let a = need-inv (all (targetTests f p i)) 5 (from6 f p k) k′ e in
     let b = need-inv (isSet s && all (nextTests f p i)) 6 (from7 f p k) k′ (a .1) in
-    let n = and-true (isSet s) (all (nextTests f p i)) (b .0) in
+    let n = both-true (isSet s) (all (nextTests f p i)) (b .0) in
     let c = need-inv (all (depthTests f p i s o)) 7 (from8 f p k) k′ (b .1) in
     let d = need-inv (all (leaveTests f p i s)) 8 (from9 f p k) k′ (c .1) in
     record {
@@ -212,7 +212,7 @@ step-taken f p k k′ e =
 pub taken-targets : (f ps : List ℕ) (k k′ : Known) → takeAll f ps k ≡ passed k′ → (p : ℕ) → Mem p ps → All (targetTests f p (insAt f p))
 unfolding takeAll
 taken-targets f (q ∷ ps) k k′ e p m =
-    let b = goOn-inv q (take f q k) (takeAll f ps) k′ e in
+    let b = goOn-inv q (takeOne f q k) (takeAll f ps) k′ e in
     go (step-taken f q k (b .0) (b .1)) (taken-targets f ps (b .0) k′ (b .2) p) m
   where
     go : {k″ : Known} → Taken (code f) q k k″ → (Mem p ps → All (targetTests f p (insAt f p))) → Mem p (q ∷ ps) →
@@ -224,20 +224,20 @@ taken-targets f (q ∷ ps) k k′ e p m =
 byte-set : (s : State) → s .main < 256 → Set s
 byte-set s h = rw (ne-eqb (s .main) none (λ e. omega arith))
 
-sent-set : (f : List ℕ) → Bytes f → (p : ℕ) (s o : State) (q : ℕ) (u : State) → Set s → Fits f p s o →
+sent-set : (f : List ℕ) → Bytes f → (p : ℕ) (s o : State) (q : ℕ) (u : State) → Set s → TestsHold f p s o →
     Sent q u (passes f p (insAt f p) s o) → Set u
-unfolding mostMain
+unfolding greatestMain
 sent-set f B p s o q u h F m = go (moves f p s o F q u m .depths)
   where
-    go : Depths f p s u → Set u
+    go : DepthsFrom f p s u → Set u
     go (inl d) = byte-set u (omega (arith, d .0, B (headOf f (procAt f p) + 5)))
     go (inr d) = rw (d .0) h
 
-sent-inner : (f : List ℕ) (p : ℕ) (s o : State) (q : ℕ) (u : State) → Fits f p s o → Sent q u (passes f p (insAt f p) s o) →
+sent-inner : (f : List ℕ) (p : ℕ) (s o : State) (q : ℕ) (u : State) → TestsHold f p s o → Sent q u (passes f p (insAt f p) s o) →
     (u .inner ≡ s .inner) ⊎ ((u .inner ≡ p) ⊎ (u .inner ≡ o .inner))
 sent-inner f p s o q u F m = go (moves f p s o F q u m .inner)
   where
-    go : Inner f p s o u → (u .inner ≡ s .inner) ⊎ ((u .inner ≡ p) ⊎ (u .inner ≡ o .inner))
+    go : InnerFrom f p s o u → (u .inner ≡ s .inner) ⊎ ((u .inner ≡ p) ⊎ (u .inner ≡ o .inner))
     go (inl e) = inl e
     go (inr (inl e)) = inr (inl (e .0))
     go (inr (inr e)) = inr (inr e)
@@ -258,8 +258,8 @@ laws f B =
 abbrev pub Open : List ℕ → ℕ → ℕ → Type 0
 Open f q h = (h ≡ none) ⊎ (Opens f q h × (h < q))
 
-pub record Shape (f : List ℕ) (A : Assignment) (q : ℕ) : Type 0 where
-  pub within : Within f q (A q)
+pub record StateShape (f : List ℕ) (A : Assignment) (q : ℕ) : Type 0 where
+  pub within : DepthsWithin f q (A q)
   pub third : Open f q (A q .inner)
 
 -- the states known at the beginning are those of the first instructions
@@ -312,22 +312,22 @@ module _ (f ps : List ℕ) (B : Bytes f) (e : recordsOf f ≡ starts ps) (H : He
     fine : (p : ℕ) → Mem p (instructions f) → Fine f A p
     got : (q : ℕ) → Mem q (instructions f) → First f q ⊎ Got f A q
 
-  fits : (A : Assignment) (p : ℕ) → Fine f A p → Fits f p (A p) (outerAt A p)
+  fits : (A : Assignment) (p : ℕ) → Fine f A p → TestsHold f p (A p) (innermostAt A p)
   fits A p F = record { targets = F .targets; nexts = F .nexts; depths = F .depths; leaves = F .leaves }
 
   -- from them it follows that depths lie within the procedure's, and that a third number is a 160 of the procedure, below
-  shape : (A : Assignment) → Rules A → (n q : ℕ) → q < n → Mem q (instructions f) → Shape f A q
+  shape : (A : Assignment) → Rules A → (n q : ℕ) → q < n → Mem q (instructions f) → StateShape f A q
   unfolding headTests
   shape A R zero q l m = absurd (omega arith)
   shape A R (suc n) q l m = go (λ p b. shape A R n p (omega arith)) (R .got q m)
     where
-      go : ((p : ℕ) → p < q → Mem p (instructions f) → Shape f A p) → First f q ⊎ Got f A q → Shape f A q
+      go : ((p : ℕ) → p < q → Mem p (instructions f) → StateShape f A p) → First f q ⊎ Got f A q → StateShape f A q
       go r (inl w) = rw (w .is) started
         where
           h : All (headTests f (w .number))
           h = H (w .number) (w .below)
 
-          started : Shape f A (entry f (w .number))
+          started : StateShape f A (entry f (w .number))
           started =
               record {
                 within = rw (R .enters (w .number) (w .below), entry-proc f ps e (w .number) (w .below) h) (h .0, h .1 .1 .0);
@@ -338,18 +338,18 @@ module _ (f ps : List ℕ) (B : Bytes f) (e : recordsOf f ≡ starts ps) (H : He
           p : ℕ
           p = g .from
 
-          M : Moves f (g .from) (A (g .from)) (outerAt A (g .from)) q (A q)
-          M = moves f p (A p) (outerAt A p) (fits A p (R .fine p (g .there))) q (A q) (g .state-is)
+          M : Moves f (g .from) (A (g .from)) (innermostAt A (g .from)) q (A q)
+          M = moves f p (A p) (innermostAt A p) (fits A p (R .fine p (g .there))) q (A q) (g .state-is)
 
-          P : Shape f A (g .from)
+          P : StateShape f A (g .from)
           P = r p (g .earlier) (g .there)
 
-          near : Depths f (g .from) (A (g .from)) (A q) → Within f q (A q)
+          near : DepthsFrom f (g .from) (A (g .from)) (A q) → DepthsWithin f q (A q)
           near (inl d) = rw (M .same-proc) d
           near (inr d) = rw (M .same-proc, d .0, d .1) (P .within)
 
           -- a handler that is open at an earlier place of the procedure
-          still : (i : ℕ) → i < q → procAt f q ≡ procAt f i → Shape f A i → (h : ℕ) → h ≡ A i .inner → Open f q h
+          still : (i : ℕ) → i < q → procAt f q ≡ procAt f i → StateShape f A i → (h : ℕ) → h ≡ A i .inner → Open f q h
           still i l s S h e = pick (S .third)
             where
               pick : Open f i (A i .inner) → Open f q h
@@ -358,14 +358,14 @@ module _ (f ps : List ℕ) (B : Bytes f) (e : recordsOf f ≡ starts ps) (H : He
                   rw e
                   (inr (record { there = z .0 .there; opens = z .0 .opens; same-proc = z .0 .same-proc ∙ sym s }, omega (arith, z .1)))
 
-          opened : Inner f (g .from) (A (g .from)) (outerAt A (g .from)) (A q) → Open f q (A q .inner)
+          opened : InnerFrom f (g .from) (A (g .from)) (innermostAt A (g .from)) (A q) → Open f q (A q .inner)
           opened (inl z) = still p (g .earlier) (M .same-proc) P (A q .inner) z
           opened (inr (inl z)) =
               rw (z .0) (inr (record { there = g .there; opens = z .1; same-proc = sym (M .same-proc) }, g .earlier))
           opened (inr (inr z)) = outside (P .third)
             where
               none-open : A p .inner ≡ none → Open f q (A q .inner)
-              none-open w = inl (z ∙ ap (λ (x : State). x .inner) (outer-none A (A p) w))
+              none-open w = inl (z ∙ ap (λ (x : State). x .inner) (innermost-none A (A p) w))
 
               outside : Open f p (A p .inner) →
                   Open f q (A q .inner)
@@ -397,7 +397,7 @@ module _ (f ps : List ℕ) (B : Bytes f) (e : recordsOf f ≡ starts ps) (H : He
   rules : (A : Assignment) → Keeps f A → Rules A
   rules A K = record { enters = K .enters; fine = K .fine; got = K .got }
 
-  pub keeps-shape : (A : Assignment) → Keeps f A → (q : ℕ) → Mem q (instructions f) → Shape f A q
+  pub keeps-shape : (A : Assignment) → Keeps f A → (q : ℕ) → Mem q (instructions f) → StateShape f A q
   keeps-shape A K q = shape A (rules A K) (suc q) q (omega arith)
 
   -- an assignment is as good as another that has the same states at the instructions
@@ -407,15 +407,15 @@ module _ (f ps : List ℕ) (B : Bytes f) (e : recordsOf f ≡ starts ps) (H : He
       start : (n : ℕ) → n < procs f → Z (entry f n) ≡ first f n .1
       start n l = sym (w (entry f n) (entry-in f ps e n (H n l))) ∙ K .enters n l
 
-      same-outer : (p : ℕ) → Mem p (instructions f) → outerAt A p ≡ outerAt Z p
+      same-outer : (p : ℕ) → Mem p (instructions f) → innermostAt A p ≡ innermostAt Z p
       same-outer p m = pick (K .third p m)
         where
-          pick : (A p .inner ≡ none) ⊎ Opens f p (A p .inner) → outerAt A p ≡ outerAt Z p
-          pick (inl z) = rw (← (w p m)) (outer-none A (A p) z ∙ sym (outer-none Z (A p) z))
+          pick : (A p .inner ≡ none) ⊎ Opens f p (A p .inner) → innermostAt A p ≡ innermostAt Z p
+          pick (inl z) = rw (← (w p m)) (innermost-none A (A p) z ∙ sym (innermost-none Z (A p) z))
           pick (inr o) = rw (← (w p m), w (A p .inner) (o .there))
 
       same-passes : (p : ℕ) → Mem p (instructions f) →
-          passes f p (insAt f p) (A p) (outerAt A p) ≡ passes f p (insAt f p) (Z p) (outerAt Z p)
+          passes f p (insAt f p) (A p) (innermostAt A p) ≡ passes f p (insAt f p) (Z p) (innermostAt Z p)
       same-passes p m = let a = w p m in let b = same-outer p m in cc
 
       good : (p : ℕ) → Mem p (instructions f) → Fine f Z p
@@ -427,8 +427,8 @@ module _ (f ps : List ℕ) (B : Bytes f) (e : recordsOf f ≡ starts ps) (H : He
             depths = rw (same-outer p m, w p m) at (F .depths);
             leaves = rw (w p m) at (F .leaves);
             agrees = λ q t h.
-                let s : Sent q t (passes f p (insAt f p) (A p) (outerAt A p)) = rw (same-passes p m) h in
-                sym (w q (moves f p (A p) (outerAt A p) (fits A p F) q t s .there)) ∙ F .agrees q t s;
+                let s : Sent q t (passes f p (insAt f p) (A p) (innermostAt A p)) = rw (same-passes p m) h in
+                sym (w q (moves f p (A p) (innermostAt A p) (fits A p F) q t s .there)) ∙ F .agrees q t s;
           }
 
       came : (q : ℕ) → Mem q (instructions f) → First f q ⊎ Got f A q → First f q ⊎ Got f Z q
@@ -450,15 +450,15 @@ module _ (f ps : List ℕ) (B : Bytes f) (e : recordsOf f ≡ starts ps) (H : He
   unfolding flow
   flow-keeps k w = kept (stateAt k) (record { enters = start; fine = λ p m. good p (R .fine p m); got = λ q m. came q (R .got q m) })
     where
-      R : Ran (code f) (laws f B) (instructions f) (firsts f (procs f)) k
-      R = ran (code f) (laws f B) (instructions f) (firsts f (procs f)) k (instructions-rise f ps e) linked w
+      R : PassRan (code f) (laws f B) (instructions f) (firsts f (procs f)) k
+      R = pass-ran (code f) (laws f B) (instructions f) (firsts f (procs f)) k (instructions-rise f ps e) linked w
 
       start : (n : ℕ) → n < procs f → stateAt k (entry f n) ≡ first f n .1
       start n l =
           let a = firsts-at (procs f) n (omega arith) l in
           R .grown (entry f n) (rw a (first-set n)) ∙ a
 
-      good : (p : ℕ) → Pass.Fine (code f) (stateAt k) p → Fine f (stateAt k) p
+      good : (p : ℕ) → Pass.FineIn (code f) (stateAt k) p → Fine f (stateAt k) p
       good p F =
           record {
             targets = F .fits .targets;
@@ -468,7 +468,7 @@ module _ (f ps : List ℕ) (B : Bytes f) (e : recordsOf f ≡ starts ps) (H : He
             agrees = F .agrees;
           }
 
-      came : (q : ℕ) → Set (stateAt (firsts f (procs f)) q) ⊎ Pass.Got (code f) (instructions f) (stateAt k) q → First f q ⊎ Got f (stateAt k) q
+      came : (q : ℕ) → Set (stateAt (firsts f (procs f)) q) ⊎ Pass.GotIn (code f) (instructions f) (stateAt k) q → First f q ⊎ Got f (stateAt k) q
       came q (inl h) = let a = firsts-from f (procs f) q h in inl (record { number = a .0; below = a .1; is = a .2 })
       came q (inr g) = inr (record { from = g .from; there = g .there; earlier = g .earlier; state-is = g .sent })
 
@@ -502,11 +502,11 @@ module _ (f ps : List ℕ) (B : Bytes f) (e : recordsOf f ≡ starts ps) (H : He
           let a = firsts-from f (procs f) q h in
           rw (a .2, firsts-at (procs f) (a .0) (omega arith) (a .1)) (K .enters (a .0) (a .1))
 
-      came : (q : ℕ) → First f q ⊎ Got f A q → Set (stateAt (firsts f (procs f)) q) ⊎ Pass.Got (code f) (instructions f) A q
+      came : (q : ℕ) → First f q ⊎ Got f A q → Set (stateAt (firsts f (procs f)) q) ⊎ Pass.GotIn (code f) (instructions f) A q
       came q (inl x) = inl (rw (x .is, firsts-at (procs f) (x .number) (omega arith) (x .below)) (first-set (x .number)))
       came q (inr g) = inr (record { from = g .from; there = g .there; earlier = g .earlier; sent = g .state-is })
 
-      F : Found (code f) (laws f B) (instructions f) (firsts f (procs f)) A
+      F : PassFound (code f) (laws f B) (instructions f) (firsts f (procs f)) A
       F =
-          found (code f) (laws f B) (instructions f) (firsts f (procs f)) A (instructions-rise f ps e) linked start
+          pass-found (code f) (laws f B) (instructions f) (firsts f (procs f)) A (instructions-rise f ps e) linked start
           (λ p m. record { fits = fits A p (K .fine p m); agrees = K .fine p m .agrees }) (λ q m. came q (K .got q m))

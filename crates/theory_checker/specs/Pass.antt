@@ -11,8 +11,9 @@ use native.Mathlib.Omega.{arith}
 use lib.Dec.{eqb}
 use borrow.Author.Tests.{eqb-true, eq-eqb, ne-eqb}
 use Rattle.model.specs.Choice.{if_then_else_, Mem}
-use Rattle.model.specs.Checker.{none, State, state, unset, isSet, sameState, Known, stateAt, outer, Step, bad, next, Result, passed, meet, andThen, goOn, passOne, passAll}
+use Rattle.model.specs.Checker.{none, State, state, unset, isSet, sameState, Known, stateAt, innermost, Taking, bad, good, Flow, passed, meet, andTake, goOn, passOne, passAll}
 use Rattle.laws.specs.Members.{Rising}
+use Rattle.laws.specs.Choices.{both-true}
 
 -- a state that is known
 abbrev pub Set : State → Type 0
@@ -20,8 +21,8 @@ Set s = isSet s ≡ true
 
 pub same-state : (s t : State) → sameState s t ≡ true → s ≡ t
 same-state s t e =
-    let a = and-true (eqb (s .main) (t .main) && eqb (s .ptr) (t .ptr)) (eqb (s .inner) (t .inner)) e in
-    let b = and-true (eqb (s .main) (t .main)) (eqb (s .ptr) (t .ptr)) (a .0) in
+    let a = both-true (eqb (s .main) (t .main) && eqb (s .ptr) (t .ptr)) (eqb (s .inner) (t .inner)) e in
+    let b = both-true (eqb (s .main) (t .main)) (eqb (s .ptr) (t .ptr)) (a .0) in
     let m = eqb-true (s .main) (t .main) (b .0) in
     let p = eqb-true (s .ptr) (t .ptr) (b .1) in
     let h = eqb-true (s .inner) (t .inner) (a .1) in
@@ -31,15 +32,15 @@ state-same : (s : State) → sameState s s ≡ true
 state-same s = rw (eq-eqb (s .main) (s .main) refl, eq-eqb (s .ptr) (s .ptr) refl, eq-eqb (s .inner) (s .inner) refl)
 
 -- a refusal is no step, and no pass
-andThen-inv : (s : Step Known) (k : Known → Step Known) (m : Known) → andThen s k ≡ next m →
-    (m′ : Known) × (s ≡ next m′) × (k m′ ≡ next m)
+andThen-inv : (s : Taking Known) (k : Known → Taking Known) (m : Known) → andTake s k ≡ good m →
+    (m′ : Known) × (s ≡ good m′) × (k m′ ≡ good m)
 andThen-inv (bad n) k m e = (m, cc, cc)
-andThen-inv (next m′) k m e = (m′, refl, e)
+andThen-inv (good m′) k m e = (m′, refl, e)
 
-pub goOn-inv : (p : ℕ) (s : Step Known) (k : Known → Result Known) (m : Known) → goOn p s k ≡ passed m →
-    (m′ : Known) × (s ≡ next m′) × (k m′ ≡ passed m)
+pub goOn-inv : (p : ℕ) (s : Taking Known) (k : Known → Flow Known) (m : Known) → goOn p s k ≡ passed m →
+    (m′ : Known) × (s ≡ good m′) × (k m′ ≡ passed m)
 goOn-inv p (bad n) k m e = (m, cc, cc)
-goOn-inv p (next m′) k m e = (m′, refl, e)
+goOn-inv p (good m′) k m e = (m′, refl, e)
 
 -- a state passed to a place
 abbrev pub Sent : ℕ → State → List (ℕ × State) → Type 0
@@ -93,15 +94,15 @@ put-old k q s e = record { grown = λ r h. refl; there = λ r t m. put-in r t m;
 abbrev Met : Known → ℕ × State → Known → Type 0
 Met k o m = ((isSet (stateAt k (o .0)) ≡ false) × (o ∷ k ≡ m)) ⊎ ((stateAt k (o .0) ≡ o .1) × (k ≡ m))
 
-met : (k : Known) (o : ℕ × State) (m : Known) → passOne k (o .0) (o .1) ≡ next m → Met k o m
+met : (k : Known) (o : ℕ × State) (m : Known) → passOne k (o .0) (o .1) ≡ good m → Met k o m
 met k o m e = go (isSet (stateAt k (o .0))) (sameState (stateAt k (o .0)) (o .1)) refl refl e
   where
-    go : (a b : Bool) → isSet (stateAt k (o .0)) ≡ a → sameState (stateAt k (o .0)) (o .1) ≡ b → meet a b k (o ∷ k) ≡ next m → Met k o m
+    go : (a b : Bool) → isSet (stateAt k (o .0)) ≡ a → sameState (stateAt k (o .0)) (o .1) ≡ b → meet a b k (o ∷ k) ≡ good m → Met k o m
     go false b x y e = inl (x, cc)
     go true true x y e = inr (same-state (stateAt k (o .0)) (o .1) y, cc)
     go true false x y e = inr (cc, cc)
 
-put-one : (k : Known) (o : ℕ × State) (m : Known) → passOne k (o .0) (o .1) ≡ next m → Put k (o ∷ []) m
+put-one : (k : Known) (o : ℕ × State) (m : Known) → passOne k (o .0) (o .1) ≡ good m → Put k (o ∷ []) m
 put-one k o m e = pick (met k o m e)
   where
     pick : Met k o m → Put k (o ∷ []) m
@@ -111,7 +112,7 @@ put-one k o m e = pick (met k o m e)
 abbrev AllSet : List (ℕ × State) → Type 0
 AllSet os = (q : ℕ) (s : State) → Sent q s os → Set s
 
-put-all : (os : List (ℕ × State)) (k k′ : Known) → AllSet os → passAll os k ≡ next k′ → Put k os k′
+put-all : (os : List (ℕ × State)) (k k′ : Known) → AllSet os → passAll os k ≡ good k′ → Put k os k′
 put-all [] k k′ g e =
     let w : k ≡ k′ = cc in
     subst (λ (x : Known). Put k [] x) w (record { grown = λ r h. refl; there = λ q s h. absurd h; from = λ r h. inl h })
@@ -146,7 +147,7 @@ put-all (o ∷ os) k k′ g e =
 abbrev pub Places : (ℕ → Type 0) → List (ℕ × State) → Type 0
 Places In k = (q : ℕ) (s : State) → Sent q s k → In q
 
-places-all : (In : ℕ → Type 0) (os : List (ℕ × State)) (k k′ : Known) → Places In os → Places In k → passAll os k ≡ next k′ → Places In k′
+places-all : (In : ℕ → Type 0) (os : List (ℕ × State)) (k k′ : Known) → Places In os → Places In k → passAll os k ≡ good k′ → Places In k′
 places-all In [] k k′ w v e = let z : k ≡ k′ = cc in subst (λ (x : Known). Places In x) z v
 places-all In (o ∷ os) k k′ w v e =
     let a = andThen-inv (passOne k (o .0) (o .1)) (λ x. passAll os x) k′ e in
@@ -180,64 +181,64 @@ held-grown : (k k′ : Known) (h : ℕ) → Grown k k′ → Held k h → Held k
 held-grown k k′ h g (inl e) = inl e
 held-grown k k′ h g (inr e) = inr (rw (g h e) e)
 
-pub outer-none : (A : ℕ → State) (s : State) → s .inner ≡ none → outer A s ≡ state 0 0 none
-outer-none A s e = rw (eq-eqb (s .inner) none e)
+pub innermost-none : (A : ℕ → State) (s : State) → s .inner ≡ none → innermost A s ≡ state 0 0 none
+innermost-none A s e = rw (eq-eqb (s .inner) none e)
 
 -- an assignment has every known state
 abbrev Agrees : Known → (ℕ → State) → Type 0
 Agrees k A = (q : ℕ) → Set (stateAt k q) → A q ≡ stateAt k q
 
-outer-same : (k : Known) (A : ℕ → State) (s : State) → Agrees k A → Held k (s .inner) → outer A s ≡ outer (stateAt k) s
-outer-same k A s g (inl e) = outer-none A s e ∙ sym (outer-none (stateAt k) s e)
-outer-same k A s g (inr h) = rw (g (s .inner) h)
+innermost-same : (k : Known) (A : ℕ → State) (s : State) → Agrees k A → Held k (s .inner) → innermost A s ≡ innermost (stateAt k) s
+innermost-same k A s g (inl e) = innermost-none A s e ∙ sym (innermost-none (stateAt k) s e)
+innermost-same k A s g (inr h) = rw (g (s .inner) h)
 
-outer-held : (k : Known) (s : State) → Linked k → Held k (s .inner) → Held k (outer (stateAt k) s .inner)
-outer-held k s L (inl e) = inl (rw (outer-none (stateAt k) s e))
-outer-held k s L (inr h) = pick (eqb (s .inner) none)
+innermost-held : (k : Known) (s : State) → Linked k → Held k (s .inner) → Held k (innermost (stateAt k) s .inner)
+innermost-held k s L (inl e) = inl (rw (innermost-none (stateAt k) s e))
+innermost-held k s L (inr h) = pick (eqb (s .inner) none)
   where
     pick : (t : Bool) → Held k ((if t then state 0 0 none else stateAt k (s .inner)) .inner)
     pick true = inl refl
     pick false = L (s .inner) h
 
 -- the state at the innermost handler that is open at p
-abbrev pub outerAt : (ℕ → State) → ℕ → State
-outerAt A p = outer A (A p)
+abbrev pub innermostAt : (ℕ → State) → ℕ → State
+innermostAt A p = innermost A (A p)
 
 -- an instruction set: the tests of the instruction at p with its state and its handler's, what it passes on if they hold, and the pass
 pub record Code : Type 1 where
-  pub Fits : ℕ → State → State → Type 0
+  pub Meets : ℕ → State → State → Type 0
   pub sends : ℕ → State → State → List (ℕ × State)
-  pub step : ℕ → Known → Step Known
-  pub run : List ℕ → Known → Result Known
+  pub step : ℕ → Known → Taking Known
+  pub run : List ℕ → Known → Flow Known
 
 module _ (C : Code) where
-  open Code C using (Fits, sends, step, run)
+  open Code C using (Meets, sends, step, run)
 
   -- what the instruction at p passes on, by an assignment
   abbrev pub sending : (ℕ → State) → ℕ → List (ℕ × State)
-  sending A p = sends p (A p) (outerAt A p)
+  sending A p = sends p (A p) (innermostAt A p)
 
   -- the instruction at p is taken
   pub record Taken (p : ℕ) (k k′ : Known) : Type 0 where
     pub set : Set (stateAt k p)
-    pub fits : Fits p (stateAt k p) (outerAt (stateAt k) p)
-    pub puts : passAll (sending (stateAt k) p) k ≡ next k′
+    pub fits : Meets p (stateAt k p) (innermostAt (stateAt k) p)
+    pub puts : passAll (sending (stateAt k) p) k ≡ good k′
 
   pub record Laws : Type 0 where
-    pub step-taken : (p : ℕ) (k k′ : Known) → step p k ≡ next k′ → Taken p k k′
-    pub taken-step : (p : ℕ) (k k′ : Known) → Taken p k k′ → step p k ≡ next k′
+    pub step-taken : (p : ℕ) (k k′ : Known) → step p k ≡ good k′ → Taken p k k′
+    pub taken-step : (p : ℕ) (k k′ : Known) → Taken p k k′ → step p k ≡ good k′
     pub run-none : (k : Known) → run [] k ≡ passed k
     pub run-more : (p : ℕ) (ps : List ℕ) (k : Known) → run (p ∷ ps) k ≡ goOn p (step p k) (run ps)
-    pub sent-set : (p : ℕ) (s o : State) (q : ℕ) (u : State) → Set s → Fits p s o → Sent q u (sends p s o) → Set u
-    pub sent-inner : (p : ℕ) (s o : State) (q : ℕ) (u : State) → Fits p s o → Sent q u (sends p s o) →
+    pub sent-set : (p : ℕ) (s o : State) (q : ℕ) (u : State) → Set s → Meets p s o → Sent q u (sends p s o) → Set u
+    pub sent-inner : (p : ℕ) (s o : State) (q : ℕ) (u : State) → Meets p s o → Sent q u (sends p s o) →
         (u .inner ≡ s .inner) ⊎ ((u .inner ≡ p) ⊎ (u .inner ≡ o .inner))
 
   -- the rules for the instruction at p, and for what comes to q
-  pub record Fine (A : ℕ → State) (p : ℕ) : Type 0 where
-    pub fits : Fits p (A p) (outerAt A p)
+  pub record FineIn (A : ℕ → State) (p : ℕ) : Type 0 where
+    pub fits : Meets p (A p) (innermostAt A p)
     pub agrees : (q : ℕ) (t : State) → Sent q t (sending A p) → A q ≡ t
 
-  pub record Got (ps : List ℕ) (A : ℕ → State) (q : ℕ) : Type 0 where
+  pub record GotIn (ps : List ℕ) (A : ℕ → State) (q : ℕ) : Type 0 where
     pub from : ℕ
     pub there : Mem from ps
     pub earlier : from < q
@@ -249,7 +250,7 @@ module _ (C : Code) where
     put : (p : ℕ) (k k′ : Known) → Taken p k k′ → Put k (sending (stateAt k) p) k′
     put p k k′ T =
         put-all (sending (stateAt k) p) k k′
-        (λ q u. sent-set p (stateAt k p) (outerAt (stateAt k) p) q u (T .set) (T .fits)) (T .puts)
+        (λ q u. sent-set p (stateAt k p) (innermostAt (stateAt k) p) q u (T .set) (T .fits)) (T .puts)
 
     linked-step : (p : ℕ) (k k′ : Known) → Linked k → Taken p k k′ → Linked k′
     linked-step p k k′ l T r h = go (P .from r h)
@@ -257,41 +258,41 @@ module _ (C : Code) where
         P : Put k (sending (stateAt k) p) k′
         P = put p k k′ T
 
-        held : (i : ℕ) → (i ≡ stateAt k p .inner) ⊎ ((i ≡ p) ⊎ (i ≡ outerAt (stateAt k) p .inner)) → Held k i
+        held : (i : ℕ) → (i ≡ stateAt k p .inner) ⊎ ((i ≡ p) ⊎ (i ≡ innermostAt (stateAt k) p .inner)) → Held k i
         held i (inl e) = rw e (l p (T .set))
         held i (inr (inl e)) = rw e (inr (T .set))
-        held i (inr (inr e)) = rw e (outer-held k (stateAt k p) l (l p (T .set)))
+        held i (inr (inr e)) = rw e (innermost-held k (stateAt k p) l (l p (T .set)))
 
         go : Set (stateAt k r) ⊎ Sent r (stateAt k′ r) (sending (stateAt k) p) → Held k′ (stateAt k′ r .inner)
         go (inl e) = rw (P .grown r e) (held-grown k k′ (stateAt k r .inner) (P .grown) (l r e))
         go (inr m) =
             held-grown k k′ (stateAt k′ r .inner) (P .grown)
-            (held (stateAt k′ r .inner) (sent-inner p (stateAt k p) (outerAt (stateAt k) p) r (stateAt k′ r) (T .fits) m))
+            (held (stateAt k′ r .inner) (sent-inner p (stateAt k p) (innermostAt (stateAt k) p) r (stateAt k′ r) (T .fits) m))
 
     -- what a pass leaves
-    pub record Ran (ps : List ℕ) (k k′ : Known) : Type 0 where
+    pub record PassRan (ps : List ℕ) (k k′ : Known) : Type 0 where
       pub grown : Grown k k′
-      pub fine : (p : ℕ) → Mem p ps → Fine (stateAt k′) p
-      pub got : (q : ℕ) → Mem q ps → Set (stateAt k q) ⊎ Got ps (stateAt k′) q
+      pub fine : (p : ℕ) → Mem p ps → FineIn (stateAt k′) p
+      pub got : (q : ℕ) → Mem q ps → Set (stateAt k q) ⊎ GotIn ps (stateAt k′) q
 
     -- the states that come from an assignment with all that was known when p was taken are those of then
-    at-same : (p : ℕ) (k : Known) (A : ℕ → State) → Linked k → Set (stateAt k p) → Agrees k A → outerAt A p ≡ outerAt (stateAt k) p
-    at-same p k A l h g = rw (g p h) (outer-same k A (stateAt k p) g (l p h))
+    at-same : (p : ℕ) (k : Known) (A : ℕ → State) → Linked k → Set (stateAt k p) → Agrees k A → innermostAt A p ≡ innermostAt (stateAt k) p
+    at-same p k A l h g = rw (g p h) (innermost-same k A (stateAt k p) g (l p h))
 
     sending-same : (p : ℕ) (k : Known) (A : ℕ → State) → Linked k → Set (stateAt k p) → Agrees k A →
         sending A p ≡ sending (stateAt k) p
     sending-same p k A l h g = let a = g p h in let b = at-same p k A l h g in cc
 
-    pub ran : (ps : List ℕ) (k k′ : Known) → Rising ps → Linked k → run ps k ≡ passed k′ → Ran ps k k′
-    ran [] k k′ a l e =
+    pub pass-ran : (ps : List ℕ) (k k′ : Known) → Rising ps → Linked k → run ps k ≡ passed k′ → PassRan ps k k′
+    pass-ran [] k k′ a l e =
         let w : k ≡ k′ = let z = run-none k in cc in
-        subst (λ (x : Known). Ran [] k x) w (record { grown = λ q h. refl; fine = λ p h. absurd h; got = λ q h. absurd h })
-    ran (p ∷ ps) k k′ a l e =
+        subst (λ (x : Known). PassRan [] k x) w (record { grown = λ q h. refl; fine = λ p h. absurd h; got = λ q h. absurd h })
+    pass-ran (p ∷ ps) k k′ a l e =
         let b = goOn-inv p (step p k) (run ps) k′ (sym (run-more p ps k) ∙ e) in
         let T = step-taken p k (b .0) (b .1) in
-        joined (b .0) T (ran ps (b .0) k′ (a .1) (linked-step p k (b .0) l T) (b .2))
+        joined (b .0) T (pass-ran ps (b .0) k′ (a .1) (linked-step p k (b .0) l T) (b .2))
       where
-        joined : (m : Known) → Taken p k m → Ran ps m k′ → Ran (p ∷ ps) k k′
+        joined : (m : Known) → Taken p k m → PassRan ps m k′ → PassRan (p ∷ ps) k k′
         joined m T R = record { grown = all; fine = λ q. okay q; got = λ q. came q }
           where
             P : Put k (sending (stateAt k) p) m
@@ -303,52 +304,52 @@ module _ (C : Code) where
             still : stateAt k′ p ≡ stateAt k p
             still = all p (T .set)
 
-            still-at : outerAt (stateAt k′) p ≡ outerAt (stateAt k) p
+            still-at : innermostAt (stateAt k′) p ≡ innermostAt (stateAt k) p
             still-at = at-same p k (stateAt k′) l (T .set) all
 
             same : sending (stateAt k′) p ≡ sending (stateAt k) p
             same = sending-same p k (stateAt k′) l (T .set) all
 
-            mine : Fine (stateAt k′) p
+            mine : FineIn (stateAt k′) p
             mine =
                 record {
                   fits = rw (still-at, still) (T .fits);
                   agrees = λ q u h.
                       let h′ : Sent q u (sending (stateAt k) p) = rw same at h in
                       let w = P .there q u h′ in
-                      R .grown q (rw w (sent-set p (stateAt k p) (outerAt (stateAt k) p) q u (T .set) (T .fits) h′)) ∙ w;
+                      R .grown q (rw w (sent-set p (stateAt k p) (innermostAt (stateAt k) p) q u (T .set) (T .fits) h′)) ∙ w;
                 }
 
-            okay : (q : ℕ) → Mem q (p ∷ ps) → Fine (stateAt k′) q
+            okay : (q : ℕ) → Mem q (p ∷ ps) → FineIn (stateAt k′) q
             okay q (inl e) = rw e mine
             okay q (inr h) = R .fine q h
 
             just : (q : ℕ) → Mem q ps → Set (stateAt m q) →
                 Set (stateAt k q) ⊎ Sent q (stateAt m q) (sending (stateAt k) p) →
-                Set (stateAt k q) ⊎ Got (p ∷ ps) (stateAt k′) q
+                Set (stateAt k q) ⊎ GotIn (p ∷ ps) (stateAt k′) q
             just q h s (inl w) = inl w
             just q h s (inr w) =
                 inr (record { from = p; there = inl refl; earlier = let b = a .0 q h in omega arith; sent = rw (same, R .grown q s) w })
 
-            later : (q : ℕ) → Mem q ps → Set (stateAt m q) ⊎ Got ps (stateAt k′) q → Set (stateAt k q) ⊎ Got (p ∷ ps) (stateAt k′) q
+            later : (q : ℕ) → Mem q ps → Set (stateAt m q) ⊎ GotIn ps (stateAt k′) q → Set (stateAt k q) ⊎ GotIn (p ∷ ps) (stateAt k′) q
             later q h (inl s) = just q h s (P .from q s)
             later q h (inr w) = inr (record { from = w .from; there = inr (w .there); earlier = w .earlier; sent = w .sent })
 
-            came : (q : ℕ) → Mem q (p ∷ ps) → Set (stateAt k q) ⊎ Got (p ∷ ps) (stateAt k′) q
+            came : (q : ℕ) → Mem q (p ∷ ps) → Set (stateAt k q) ⊎ GotIn (p ∷ ps) (stateAt k′) q
             came q (inl e) = inl (rw e (T .set))
             came q (inr h) = later q h (R .got q h)
 
     -- only the places that states are passed to get one
-    pub ran-places : (In : ℕ → Type 0) → ((p : ℕ) (s o : State) → Fits p s o → Places In (sends p s o)) → (ps : List ℕ) (k k′ : Known) →
+    pub ran-places : (In : ℕ → Type 0) → ((p : ℕ) (s o : State) → Meets p s o → Places In (sends p s o)) → (ps : List ℕ) (k k′ : Known) →
         Places In k → run ps k ≡ passed k′ → Places In k′
     ran-places In w [] k k′ v e = let z : k ≡ k′ = let y = run-none k in cc in subst (λ (x : Known). Places In x) z v
     ran-places In w (p ∷ ps) k k′ v e =
         let b = goOn-inv p (step p k) (run ps) k′ (sym (run-more p ps k) ∙ e) in
         let T = step-taken p k (b .0) (b .1) in
         ran-places In w ps (b .0) k′
-        (places-all In (sending (stateAt k) p) k (b .0) (w p (stateAt k p) (outerAt (stateAt k) p) (T .fits)) v (T .puts)) (b .2)
+        (places-all In (sending (stateAt k) p) k (b .0) (w p (stateAt k p) (innermostAt (stateAt k) p) (T .fits)) v (T .puts)) (b .2)
 
-    meet-ok : (a b : Bool) (x y : Known) → (a ≡ true → b ≡ true) → (m : Known) × (meet a b x y ≡ next m)
+    meet-ok : (a b : Bool) (x y : Known) → (a ≡ true → b ≡ true) → (m : Known) × (meet a b x y ≡ good m)
     meet-ok false b x y h = (y, refl)
     meet-ok true true x y h = (x, refl)
     meet-ok true false x y h = absurd (true≢false (sym (h refl)))
@@ -367,7 +368,7 @@ module _ (C : Code) where
 
     -- states that the assignment has are passed on
     put-all-ok : (os : List (ℕ × State)) (k : Known) (A : ℕ → State) → Agrees k A → Gives os A →
-        (k′ : Known) × (passAll os k ≡ next k′)
+        (k′ : Known) × (passAll os k ≡ good k′)
     put-all-ok [] k A g e = (k, refl)
     put-all-ok (o ∷ os) k A g e =
         let r =
@@ -381,30 +382,30 @@ module _ (C : Code) where
         once q s (inl h) = e q s (inl h)
 
     -- where an assignment keeps the rules, the pass goes through, and knows of every instruction the assignment's state
-    pub record Found (ps : List ℕ) (k : Known) (A : ℕ → State) : Type 0 where
+    pub record PassFound (ps : List ℕ) (k : Known) (A : ℕ → State) : Type 0 where
       pub map : Known
       pub passes : run ps k ≡ passed map
       pub grown : Grown k map
       pub agrees : Agrees map A
       pub set : (p : ℕ) → Mem p ps → Set (stateAt map p)
 
-    pub found : (ps : List ℕ) (k : Known) (A : ℕ → State) → Rising ps → Linked k → Agrees k A → ((p : ℕ) → Mem p ps → Fine A p) →
-        ((q : ℕ) → Mem q ps → Set (stateAt k q) ⊎ Got ps A q) → Found ps k A
-    found [] k A a l g w r =
+    pub pass-found : (ps : List ℕ) (k : Known) (A : ℕ → State) → Rising ps → Linked k → Agrees k A → ((p : ℕ) → Mem p ps → FineIn A p) →
+        ((q : ℕ) → Mem q ps → Set (stateAt k q) ⊎ GotIn ps A q) → PassFound ps k A
+    pass-found [] k A a l g w r =
         record { map = k; passes = run-none k; grown = λ q h. refl; agrees = g; set = λ p h. absurd h }
-    found (p ∷ ps) k A a l g w r =
+    pass-found (p ∷ ps) k A a l g w r =
         let t = put-all-ok (sending (stateAt k) p) k A g sent in
         let T = taken (t .0) (t .1) in
         let P = put p k (t .0) T in
         let F =
-        found ps (t .0) A (a .1) (linked-step p k (t .0) l T) (put-agrees k (t .0) (sending (stateAt k) p) A g sent P) (λ q h. w q (inr h))
+        pass-found ps (t .0) A (a .1) (linked-step p k (t .0) l T) (put-agrees k (t .0) (sending (stateAt k) p) A g sent P) (λ q h. w q (inr h))
         (λ q h. later (t .0) T P q h (r q (inr h))) in
         joined (t .0) T P F
       where
-        W : Fine A p
+        W : FineIn A p
         W = w p (inl refl)
 
-        now : Set (stateAt k p) ⊎ Got (p ∷ ps) A p → Set (stateAt k p)
+        now : Set (stateAt k p) ⊎ GotIn (p ∷ ps) A p → Set (stateAt k p)
         now (inl h) = h
         now (inr v) = absurd (never (v .there))
           where
@@ -418,7 +419,7 @@ module _ (C : Code) where
         at-p : A p ≡ stateAt k p
         at-p = g p set-p
 
-        sat : outerAt A p ≡ outerAt (stateAt k) p
+        sat : innermostAt A p ≡ innermostAt (stateAt k) p
         sat = at-same p k A l set-p g
 
         same : sending A p ≡ sending (stateAt k) p
@@ -427,22 +428,22 @@ module _ (C : Code) where
         sent : (q : ℕ) (u : State) → Sent q u (sending (stateAt k) p) → A q ≡ u
         sent q u h = W .agrees q u (rw same h)
 
-        taken : (m : Known) → passAll (sending (stateAt k) p) k ≡ next m → Taken p k m
+        taken : (m : Known) → passAll (sending (stateAt k) p) k ≡ good m → Taken p k m
         taken m e = record { set = set-p; fits = rw (sat, at-p) at (W .fits); puts = e }
 
         later : (m : Known) → Taken p k m → Put k (sending (stateAt k) p) m → (q : ℕ) → Mem q ps →
-            Set (stateAt k q) ⊎ Got (p ∷ ps) A q → Set (stateAt m q) ⊎ Got ps A q
+            Set (stateAt k q) ⊎ GotIn (p ∷ ps) A q → Set (stateAt m q) ⊎ GotIn ps A q
         later m T P q h (inl s) = inl (rw (P .grown q s) s)
         later m T P q h (inr v) = pick (v .from) (v .there) (v .earlier) (v .sent)
           where
-            pick : (i : ℕ) → Mem i (p ∷ ps) → i < q → Sent q (A q) (sending A i) → Set (stateAt m q) ⊎ Got ps A q
+            pick : (i : ℕ) → Mem i (p ∷ ps) → i < q → Sent q (A q) (sending A i) → Set (stateAt m q) ⊎ GotIn ps A q
             pick i (inl e) b x =
                 let y : Sent q (A q) (sending A p) = rw e at x in
                 let z : Sent q (A q) (sending (stateAt k) p) = rw same at y in
-                inl (rw (P .there q (A q) z) (sent-set p (stateAt k p) (outerAt (stateAt k) p) q (A q) (T .set) (T .fits) z))
+                inl (rw (P .there q (A q) z) (sent-set p (stateAt k p) (innermostAt (stateAt k) p) q (A q) (T .set) (T .fits) z))
             pick i (inr h) b x = inr (record { from = i; there = h; earlier = b; sent = x })
 
-        joined : (m : Known) → Taken p k m → Put k (sending (stateAt k) p) m → Found ps m A → Found (p ∷ ps) k A
+        joined : (m : Known) → Taken p k m → Put k (sending (stateAt k) p) m → PassFound ps m A → PassFound (p ∷ ps) k A
         joined m T P F =
             record {
               map = F .map;

@@ -1,5 +1,5 @@
 -- Demand 3 on calls, over what is proved of heaps elsewhere: after a start that answered ready, every list of check, start and run calls
--- keeps `Held`, from which each call's claim follows. By one induction on the calls.
+-- keeps `HeldLists`, from which each call's claim follows. By one induction on the calls.
 use Prim.Native.Nat.{ℕ}
 use mathlib.Core.Path.{_≡_, refl, sym, _∙_, subst}
 use mathlib.Core.Bool.{Bool, true, false, true≢false}
@@ -15,7 +15,7 @@ use Rattle.model.specs.Control.{Machine, setRegs, registerBytes}
 use Rattle.model.specs.Step.{next, uncaught, step}
 use Rattle.model.specs.Sound.{sound?}
 use Rattle.model.specs.Calls.{toldOf, Verdict, pass, refuse, verdictOf, checkOf, Lent, machineOf, leaving, withMap, lengthTests, registerTests, soundTests, After, answers, demand, audited, afterMap, afterCheck, tested, started, startOf, ranFrom, runOf}
-use Rattle.model.specs.Claim.{Call, check, start, run, callOf, NotRefused, Depths, Pointers, Before, Claim, Bytes, Calls}
+use Rattle.model.specs.Claim.{Call, check, start, run, callOf, NotRefused, Depths, Pointers, Before, Claim, Bytes, CallsHold}
 use Rattle.model.specs.declared.Answer.the-variants as answer
 use Rattle.theory_checker.specs.Exact.{passed-again}
 use Rattle.theory_checker.specs.Leaves.{uncaught-stays}
@@ -23,15 +23,15 @@ use Rattle.theory_state.specs.Tests.{true-pointer}
 use Rattle.laws.specs.Cuts.{length-cut}
 use Rattle.laws.specs.Records.{length-put}
 use Rattle.theory_state.specs.Laws.{CodeLaws, code-laws}
-use Rattle.theory_state.specs.Sound.{Sound, Audited, sound-with, true-sound?, running-depths}
+use Rattle.theory_state.specs.Sound.{Sound, TestedPointer, sound-with, true-sound?, running-depths}
 use Rattle.theory_state.specs.Keep.{start-sound}
-use Rattle.theory_state.specs.Rules.{HeapLaws, Kept, kept-here, kept-on, step-keeps}
+use Rattle.theory_state.specs.Rules.{HeapLaws, KeptSound, kept-here, kept-on, step-keeps}
 use Rattle.theory_state.specs.Runs.{after-keeps, run-keeps}
 use Rattle.theory_state.specs.Registers.{registers-length, registers-back, sound-small}
 
 -- a state between the steps of a run on the lists l
 abbrev pub Between : Lent → Machine → Type 0
-Between l m = Kept (l .file) (l .map) (machineOf l) m
+Between l m = KeptSound (l .file) (l .map) (machineOf l) m
 
 passed-told : NotRefused answer.Passed
 unfolding toldOf
@@ -42,7 +42,7 @@ unfolding toldOf
 ready-told e = omega arith
 
 -- what holds of the lists from a ready start on
-pub record Held (l : Lent) : Type 0 where
+pub record HeldLists (l : Lent) : Type 0 where
   pub bytes : Bytes (l .file)
   pub passes : verdictOf (l .file) (l .map) ≡ pass (l .map)
   pub sizes : All (lengthTests l)
@@ -85,7 +85,7 @@ module _ (H : HeapLaws) where
     between-stays m m′ code S e = subst (Between l) (sym (uncaught-stays (l .file) m m′ code e)) S
 
     -- what a state leaves is held: its registers come back from their bytes
-    left-held : (m : Machine) → Between l m → Held (leaving l m)
+    left-held : (m : Machine) → Between l m → HeldLists (leaving l m)
     unfolding lengthTests
     left-held m S =
         let e1 = S .same-main in
@@ -101,10 +101,10 @@ module _ (H : HeapLaws) where
           passes = P;
           sizes = rw (S .same-main, S .same-ptr, S .same-ctl, S .same-heap) T;
           registers = registers-length (m .regs);
-          state = subst (λ (x : Machine). Kept (l .file) (l .map) x x) w (kept-here m (S .objects) (S .heap) (S .sound));
+          state = subst (λ (x : Machine). KeptSound (l .file) (l .map) x x) w (kept-here m (S .objects) (S .heap) (S .sound));
         }
 
-    start-held : (os : List ℕ) → Heap (l .heap) os → Held (leaving l (started l))
+    start-held : (os : List ℕ) → Heap (l .heap) os → HeldLists (leaving l (started l))
     unfolding lengthTests started
     start-held os K =
         left-held (started l)
@@ -125,7 +125,7 @@ module _ (H : HeapLaws) where
         })
 
   -- the tests of start and run pass
-  tests-pass : (l : Lent) → Held l → (rest : Lent → After) → tested l rest ≡ rest l
+  tests-pass : (l : Lent) → HeldLists l → (rest : Lent → After) → tested l rest ≡ rest l
   tests-pass l I rest =
       rw (
         I .passes,
@@ -134,20 +134,20 @@ module _ (H : HeapLaws) where
         eq-eqb (length (l .bytes)) registerBytes (I .registers),
       )
 
-  audited-sound : (l : Lent) → Held l → sound? (l .file) (l .map) (machineOf l) ≡ true
+  audited-sound : (l : Lent) → HeldLists l → sound? (l .file) (l .map) (machineOf l) ≡ true
   unfolding objectsOf
   audited-sound l I =
       true-sound? (l .file) (l .map) (machineOf l)
-      (sound-with (l .file) (l .map) (Pointer (I .state .objects)) (Audited (machineOf l)) (machineOf l)
+      (sound-with (l .file) (l .map) (Pointer (I .state .objects)) (TestedPointer (machineOf l)) (machineOf l)
       (λ v p. rw (H .clean-audit (l .heap) (I .state .objects) (I .state .heap)) (true-pointer (I .state .objects) v p))
       (I .state .sound))
 
   -- a run's tests pass, and the run follows, by the map that they left
-  run-is : (n : ℕ) (l : Lent) → Held l → runOf n l ≡ ranFrom n l
+  run-is : (n : ℕ) (l : Lent) → HeldLists l → runOf n l ≡ ranFrom n l
   unfolding runOf
   run-is n l I = tests-pass l I (λ l′. demand (soundTests l′) 12 l′ (ranFrom n l′)) ∙ rw (audited-sound l I)
 
-  call-held : (c : Call) (l : Lent) → Held l → NotRefused (callOf c l .answer) × Held (callOf c l .lists)
+  call-held : (c : Call) (l : Lent) → HeldLists l → NotRefused (callOf c l .answer) × HeldLists (callOf c l .lists)
   unfolding callOf checkOf startOf
   call-held check l I = rw (I .passes) (passed-told, I)
   call-held start l I =
@@ -159,7 +159,7 @@ module _ (H : HeapLaws) where
       let R = run-keeps (l .file) (Between l) B S n 0 (machineOf l) (I .state) in
       rw (run-is n l I) (R .1, left-held l (I .bytes) (I .passes) (I .sizes) _ (R .0))
 
-  before : (c : Call) (l : Lent) → Held l → Before c l
+  before : (c : Call) (l : Lent) → HeldLists l → Before c l
   before check l I = tt
   before start l I = tt
   before (run n) l I =
@@ -173,7 +173,7 @@ module _ (H : HeapLaws) where
             record { depths = depths-of l m T u; pointers = pointers-of l m T };
       })
 
-  pub claims : (cs : List Call) (l : Lent) → Held l → Claim cs l
+  pub claims : (cs : List Call) (l : Lent) → HeldLists l → Claim cs l
   claims [] l I = tt
   claims (c ∷ cs) l I =
       let r = call-held c l I in
@@ -188,9 +188,9 @@ module _ (H : HeapLaws) where
     ready l′ = answers answer.Ready (leaving l′ (started l′))
 
     abbrev Readied : After → Type 0
-    Readied a = a .answer ≡ answer.Ready → Held (a .lists)
+    Readied a = a .answer ≡ answer.Ready → HeldLists (a .lists)
 
-    by-registers : Held (leaving l (started l)) → Readied (demand (registerTests l) 12 l (ready l))
+    by-registers : HeldLists (leaving l (started l)) → Readied (demand (registerTests l) 12 l (ready l))
     by-registers h = go (all (registerTests l))
       where
         go : (t : Bool) → Readied (if t then ready l else answers (answer.Refused 12 0) l)
@@ -210,16 +210,16 @@ module _ (H : HeapLaws) where
         go true u e = by-heap P (all-true (lengthTests l) u) (heapOf (l .heap)) refl e
         go false u e = absurd (true≢false (cc))
 
-  ready-held : (l : Lent) → Bytes (l .file) → startOf l .answer ≡ answer.Ready → Held (startOf l .lists)
+  ready-held : (l : Lent) → Bytes (l .file) → startOf l .answer ≡ answer.Ready → HeldLists (startOf l .lists)
   unfolding startOf
   ready-held l B = go (verdictOf (l .file) (l .map)) refl
     where
       go : (v : Verdict) → verdictOf (l .file) (l .map) ≡ v →
-          afterCheck l (ready l B) v .answer ≡ answer.Ready → Held (afterCheck l (ready l B) v .lists)
+          afterCheck l (ready l B) v .answer ≡ answer.Ready → HeldLists (afterCheck l (ready l B) v .lists)
       go (pass map) u e = by-lengths (withMap map l) B (passed-again (l .file) (l .map) map u) e
       go (refuse n p map) u e = absurd (true≢false (cc))
 
-  pub calls : Calls
+  pub calls : CallsHold
   calls l B e =
       let I = ready-held l B e in
       (pointers-of (startOf l .lists) (machineOf (startOf l .lists)) (I .state), λ cs. claims cs (startOf l .lists) I)

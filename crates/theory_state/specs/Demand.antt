@@ -4,7 +4,7 @@ use mathlib.Core.List.{[], _∷_, _++_}
 use native.Mathlib.Omega.{arith}
 use lib.ListN.{length}
 use Rattle.model.specs.Heap.{markOf}
-use Rattle.model.specs.Claim.{Calls, HeapExactly}
+use Rattle.model.specs.Claim.{CallsHold, HeapExactly}
 use Rattle.audit_heap.specs.Audited.{clean-heap, heap-clean}
 use Rattle.audit_heap.specs.Stores.{store-plain, store-ptr, store-root}
 use Rattle.audit_heap.specs.Made.{pointer-more, pointer-new, made-kept}
@@ -32,8 +32,8 @@ heap-laws =
     }
 
 -- for every list of check, start and run calls after a start that answered ready
-pub demand : Calls
-demand = calls heap-laws
+pub calls-hold : CallsHold
+calls-hold = calls heap-laws
 
 -- what is sound of a heap is what the audit lets through
 pub heap-exact : HeapExactly

@@ -11,21 +11,21 @@ use lib.Dec.{eqb}
 use borrow.Author.Tests.{eq-eqb, ne-eqb, eqb-true}
 use Rattle.model.specs.Choice.{if_then_else_, All}
 use Rattle.model.specs.Words.{cut}
-use Rattle.model.specs.File.{Ins, call, return, enter, exit, operand, after, headOf, byteAt, insAt, procAt, paramsMain, paramsPtr, resultsMain, resultsPtr, mostMain, mostPtr}
+use Rattle.model.specs.File.{Ins, call, return, enter, exit, operand, after, headOf, byteAt, insAt, procAt, paramsMain, paramsPtr, resultsMain, resultsPtr, greatestMain, greatestPtr}
 use Rattle.model.specs.Checker.{State, state, none, effectOf, handlerAt}
 use Rattle.model.specs.Control.{Machine, Handler, asFrame, asHandler, frameRec, handlerRec, recAt, frameOf, handlerOf, down, recordWords, records, running}
 use Rattle.model.specs.Moves.{mtop, ptop, goTo, openHandler, closeFrame, closeHandler, finished}
-use Rattle.model.specs.Instructions.{callTests, called}
+use Rattle.model.specs.Instructions.{calleeTests, called}
 use Rattle.model.specs.Step.{caught}
 use Rattle.model.specs.Sound.{mainAt, ptrAt, innerAt, isIns, isCode, callBefore, Look}
 use Rattle.model.specs.Calls.{Lent, firstFrame, started}
 use Rattle.laws_file.specs.Codes.{call-byte, byte-call, callee-is, call-after}
-use Rattle.laws.specs.Choices.{and-true}
+use Rattle.laws.specs.Choices.{both-true}
 use Rattle.laws.specs.Cuts.{Zero, Each, length-cut, cut-zero, cut-each, set-zero}
 use Rattle.laws.specs.Records.{length-put, put-zero, down-put, down-cut, down-length}
-use Rattle.theory_state.specs.Stack.{taking, Stack, first, frame, handler, stack-here, stack-move, stack-some, stack-frame, Found, find}
+use Rattle.theory_state.specs.Stack.{taking, Stack, first, frame, handler, stack-here, stack-move, stack-some, stack-frame, HandlerFound, find-handler}
 use Rattle.theory_state.specs.Laws.{Is, CodeLaws, some, small, at-entry, no-params, at-call, at-return, at-enter, at-exit, inner-opens, depth-most}
-use Rattle.theory_state.specs.Sound.{Words, looking, Running, Sound}
+use Rattle.theory_state.specs.Sound.{StackWords, looking, Running, Sound}
 
 -- the control stack and what the registers say of it are as they were
 pub record Controlled (m m′ : Machine) : Type 0 where
@@ -59,8 +59,8 @@ module _ (f map : List ℕ) where
 
   module _ (L : CodeLaws f map) (Ptr : ℕ → Type 0) (m : Machine) where
     -- another place and control stack, the other stacks as they are
-    other-ctl : {p r h c s : ℕ} {ctl : List ℕ} → Words Ptr m → Zero c ctl →
-        Words Ptr
+    other-ctl : {p r h c s : ℕ} {ctl : List ℕ} → StackWords Ptr m → Zero c ctl →
+        StackWords Ptr
         (record {
           regs = record { place = p; frame = r; handler = h; mtop = mtop m; ptop = ptop m; ctop = c; state = s };
           main = m .main;
@@ -75,14 +75,14 @@ module _ (f map : List ℕ) where
     running-fits n i j R =
         let F = stack-frame f map (length (m .main)) (length (m .ptr)) (m .ctl) n (R .stack) in
         let D = depth-most f map L (m .regs .place) (F .0) in
-        let x = ap (mostMain f) (F .1 .1 .1 .1 .0) in
-        let y = ap (mostPtr f) (F .1 .1 .1 .1 .0) in
+        let x = ap (greatestMain f) (F .1 .1 .1 .1 .0) in
+        let y = ap (greatestPtr f) (F .1 .1 .1 .1 .0) in
         let e1 = R .main-top in
         let e2 = R .ptr-top in
         (omega arith, omega arith)
 
     -- 72: the callee's frame on top
-    pub keep-call : (n i j k : ℕ) → Running f map Ptr m n i j → insAt f (m .regs .place) ≡ call k → All (callTests f m k) →
+    pub keep-call : (n i j k : ℕ) → Running f map Ptr m n i j → insAt f (m .regs .place) ≡ call k → All (calleeTests f m k) →
         Running f map Ptr (called f k (after f (m .regs .place)) m) (suc n) (mtop m - paramsMain f k) (ptop m - paramsPtr f k)
     unfolding isCode callBefore effectOf
     keep-call n i j k R e T =
@@ -164,7 +164,7 @@ module _ (f map : List ℕ) where
             let w = asFrame (recAt (m .ctl) n) in
             let lm = length (m .main) in
             let lp = length (m .ptr) in
-            let call-at = byte-call f c (eqb-true (byteAt f c) 72 (and-true (isIns f c) (eqb (byteAt f c) 72) (T .1 .1 .1 .0) .1)) in
+            let call-at = byte-call f c (eqb-true (byteAt f c) 72 (both-true (isIns f c) (eqb (byteAt f c) 72) (T .1 .1 .1 .0) .1)) in
             let of : insAt f c ≡ call (w .proc) = rw (T .1 .1 .1 .1 .0) at call-at in
             let K = at-call f map L c (w .proc) (stack-here f map lm lp S) of in
             let I = K .gives in
@@ -277,9 +277,9 @@ module _ (f map : List ℕ) where
         Sound f map Ptr (caught f m (m .regs .handler - 1) (handlerOf (m .ctl) (m .regs .handler)) code)
     unfolding caught handlerAt
     keep-raise n i j code nil R ne =
-        go (find f map (length (m .main)) (length (m .ptr)) (m .ctl) n refl (R .stack))
+        go (find-handler f map (length (m .main)) (length (m .ptr)) (m .ctl) n refl (R .stack))
       where
-        go : (m .regs .handler ≡ 0) ⊎ Found f map (length (m .main)) (length (m .ptr)) (m .ctl) n (m .regs .handler) →
+        go : (m .regs .handler ≡ 0) ⊎ HandlerFound f map (length (m .main)) (length (m .ptr)) (m .ctl) n (m .regs .handler) →
             Sound f map Ptr (caught f m (m .regs .handler - 1) (handlerOf (m .ctl) (m .regs .handler)) code)
         go (inl z) = absurd (ne z)
         go (inr F) =
@@ -348,7 +348,7 @@ module _ (f map : List ℕ) where
 
 -- a start: the first frame alone, at procedure 0's first instruction
 pub start-sound : (Ptr : ℕ → Type 0) (l : Lent) → CodeLaws (l .file) (l .map) → Ptr 0 →
-    mostMain (l .file) 0 ≤ length (l .main) → mostPtr (l .file) 0 ≤ length (l .ptr) → recordWords ≤ length (l .ctl) →
+    greatestMain (l .file) 0 ≤ length (l .main) → greatestPtr (l .file) 0 ≤ length (l .ptr) → recordWords ≤ length (l .ctl) →
     Running (l .file) (l .map) Ptr (started l) 1 0 0
 unfolding started
 start-sound Ptr l L nil fm fp fc =

@@ -10,8 +10,8 @@ use lib.Dec.{eqb}
 use borrow.Author.Tests.{eqb-false, not-true}
 use Rattle.model.specs.Choice.{Mem}
 use Rattle.laws.specs.Choices.{taken-most}
-use Rattle.model.specs.File.{Ins, call, return, enter, exit, after, procs, procAt, entry, headTests, instructions, operand, insAt, paramsMain, paramsPtr, resultsMain, resultsPtr, mostMain, mostPtr}
-use Rattle.model.specs.Checker.{State, state, none, passes, outer, effectOf, handlerAt, targetTests, depthTests, leaveTests}
+use Rattle.model.specs.File.{Ins, call, return, enter, exit, after, procs, procAt, entry, headTests, instructions, operand, insAt, paramsMain, paramsPtr, resultsMain, resultsPtr, greatestMain, greatestPtr}
+use Rattle.model.specs.Checker.{State, state, none, passes, innermost, effectOf, handlerAt, targetTests, depthTests, leaveTests}
 use Rattle.model.specs.Rules.{Passes, Fine, Keeps}
 use Rattle.model.specs.Calls.{pass, verdictOf}
 use Rattle.model.specs.Claim.{Bytes, assigned, InOrder}
@@ -19,7 +19,7 @@ use Rattle.model.specs.Sound.{mainAt, ptrAt, innerAt, isIns}
 use Rattle.laws_file.specs.Codes.{byte-enter}
 use Rattle.laws.specs.Members.{member-in, in-member}
 use Rattle.laws_file.specs.Walk.{instruction-below, procs-some, entry-proc}
-use Rattle.theory_checker.specs.Flow.{Open, Shape, moves}
+use Rattle.theory_checker.specs.Flow.{Open, StateShape, moves}
 use Rattle.theory_checker.specs.Exact.{passed-as, passed-keeps, passed-shape}
 
 -- an instruction stands at q, of procedure n, and the map has this state there
@@ -35,7 +35,7 @@ pub record Is (f map : List ℕ) (q n : ℕ) (s : State) : Type 0 where
 pub record CodeLaws (f map : List ℕ) : Type 0 where
   pub formed : InOrder f
   pub keeps : Keeps f (assigned map)
-  pub shape : (p : ℕ) → Mem p (instructions f) → Shape f (assigned map) p
+  pub shape : (p : ℕ) → Mem p (instructions f) → StateShape f (assigned map) p
 
 pub code-laws : (f map new : List ℕ) → Bytes f → verdictOf f map ≡ pass new → CodeLaws f new
 code-laws f map new B e =
@@ -53,7 +53,7 @@ module _ (f map : List ℕ) (L : CodeLaws f map) where
   small p h = let k = instruction-below f (L .formed .places) (L .formed .records) p (there p h) in let m = L .formed .few in omega arith
 
   -- depths are at most x and y
-  pub depth-most : (p : ℕ) → isIns f p ≡ true → (mainAt map p ≤ mostMain f (procAt f p)) × (ptrAt map p ≤ mostPtr f (procAt f p))
+  pub depth-most : (p : ℕ) → isIns f p ≡ true → (mainAt map p ≤ greatestMain f (procAt f p)) × (ptrAt map p ≤ greatestPtr f (procAt f p))
   depth-most p h = L .shape p (there p h) .within
 
   pub rules : (p : ℕ) → isIns f p ≡ true → Fine f (assigned map) p
@@ -77,7 +77,7 @@ module _ (f map : List ℕ) (L : CodeLaws f map) where
   unfolding headTests
   no-params = let H = L .formed .heads 0 some in (H .1 .1 .1 .1 .1 .1 .0, H .1 .1 .1 .1 .1 .1 .1 .0)
 
-  pub results-most : (resultsMain f 0 ≤ mostMain f 0) × (resultsPtr f 0 ≤ mostPtr f 0)
+  pub results-most : (resultsMain f 0 ≤ greatestMain f 0) × (resultsPtr f 0 ≤ greatestPtr f 0)
   unfolding headTests
   results-most = let H = L .formed .heads 0 some in (H .1 .0, H .1 .1 .1 .0)
 
@@ -96,9 +96,9 @@ module _ (f map : List ℕ) (L : CodeLaws f map) where
         inner = ap (λ s. s .inner) e;
       }
 
-  pub leads : (p : ℕ) (i : Ins) (q : ℕ) (t : State) → isIns f p ≡ true → insAt f p ≡ i →
-      Mem (q, t) (passes f p i (assigned map p) (outer (assigned map) (assigned map p))) → Is f map q (procAt f p) t
-  leads p i q t h e P = passed-on p q t h (rw e P)
+  pub leads-on : (p : ℕ) (i : Ins) (q : ℕ) (t : State) → isIns f p ≡ true → insAt f p ≡ i →
+      Mem (q, t) (passes f p i (assigned map p) (innermost (assigned map) (assigned map p))) → Is f map q (procAt f p) t
+  leads-on p i q t h e P = passed-on p q t h (rw e P)
 
   -- what an instruction pops is there: `depths`
   pub pops : (p : ℕ) (i : Ins) → isIns f p ≡ true → insAt f p ≡ i →
@@ -107,14 +107,14 @@ module _ (f map : List ℕ) (L : CodeLaws f map) where
   pops p i h e = let D = rw e at (rules p h .depths) in (taken-most _ _ _ (D .0), taken-most _ _ _ (D .1 .0))
 
   -- a call: its callee's entry, what it takes, and the place behind it
-  pub record Calls (p n : ℕ) : Type 0 where
+  pub record CallSite (p n : ℕ) : Type 0 where
     pub enters : Is f map (entry f n) n (state (paramsMain f n) (paramsPtr f n) none)
     pub main-takes : paramsMain f n ≤ mainAt map p
     pub ptr-takes : paramsPtr f n ≤ ptrAt map p
     pub gives : Is f map (after f p) (procAt f p)
         (state (mainAt map p - paramsMain f n + resultsMain f n) (ptrAt map p - paramsPtr f n + resultsPtr f n) (innerAt map p))
 
-  pub at-call : (p n : ℕ) → isIns f p ≡ true → insAt f p ≡ call n → Calls p n
+  pub at-call : (p n : ℕ) → isIns f p ≡ true → insAt f p ≡ call n → CallSite p n
   unfolding passes targetTests effectOf
   at-call p n h e =
       let T = rw e at (rules p h .targets) in
@@ -123,7 +123,7 @@ module _ (f map : List ℕ) (L : CodeLaws f map) where
         enters = at-entry n (T .0);
         main-takes = k .0;
         ptr-takes = k .1;
-        gives = leads p (call n) (after f p) _ h e (inl refl);
+        gives = leads-on p (call n) (after f p) _ h e (inl refl);
       }
 
   -- a return, a 161: `leaves`
@@ -135,16 +135,16 @@ module _ (f map : List ℕ) (L : CodeLaws f map) where
       record { here = h; proc = refl; main = T .0; ptr = T .1 .0; inner = T .1 .1 .0 }
 
   -- a 160: the handler is open behind it; at its target it is closed, with one main word more
-  pub record Opens (p s : ℕ) : Type 0 where
+  pub record OpenSite (p s : ℕ) : Type 0 where
     pub behind : Is f map (after f p) (procAt f p) (state (mainAt map p) (ptrAt map p) p)
     pub target : Is f map (handlerAt f p s) (procAt f p) (state (mainAt map p + 1) (ptrAt map p) (innerAt map p))
 
-  pub at-enter : (p s : ℕ) → isIns f p ≡ true → insAt f p ≡ enter s → Opens p s
+  pub at-enter : (p s : ℕ) → isIns f p ≡ true → insAt f p ≡ enter s → OpenSite p s
   unfolding passes
   at-enter p s h e =
       record {
-        behind = leads p (enter s) (after f p) _ h e (inl refl);
-        target = leads p (enter s) (handlerAt f p s) _ h e (inr (inl refl));
+        behind = leads-on p (enter s) (after f p) _ h e (inl refl);
+        target = leads-on p (enter s) (handlerAt f p s) _ h e (inr (inl refl));
       }
 
   pub at-exit : (p : ℕ) → isIns f p ≡ true → insAt f p ≡ exit →
@@ -153,20 +153,20 @@ module _ (f map : List ℕ) (L : CodeLaws f map) where
   at-exit p h e =
       let T = rw e at (rules p h .leaves) in
       let u : eqb (innerAt map p) none ≡ false = not-true _ (T .0) in
-      (eqb-false (innerAt map p) none u, leads p exit (after f p) _ h e (inl (rw u)))
+      (eqb-false (innerAt map p) none u, leads-on p exit (after f p) _ h e (inl (rw u)))
 
   -- the innermost open handler is a 160's, of the same procedure and below the place: `third`
-  pub record Inner (p : ℕ) : Type 0 where
+  pub record InnerSite (p : ℕ) : Type 0 where
     pub here : isIns f (innerAt map p) ≡ true
-    pub opens : Opens (innerAt map p) (operand f (innerAt map p))
+    pub opens : OpenSite (innerAt map p) (operand f (innerAt map p))
     pub proc : procAt f (innerAt map p) ≡ procAt f p
     pub below : innerAt map p < p
 
-  pub inner-opens : (p : ℕ) → isIns f p ≡ true → innerAt map p ≢ none → Inner p
+  pub inner-opens : (p : ℕ) → isIns f p ≡ true → innerAt map p ≢ none → InnerSite p
   unfolding isIns
   inner-opens p h n = go (L .shape p (there p h) .third)
     where
-      go : Open f p (innerAt map p) → Inner p
+      go : Open f p (innerAt map p) → InnerSite p
       go (inl e) = absurd (n e)
       go (inr O) =
           let k = in-member (innerAt map p) (instructions f) (O .0 .there) in

@@ -6,7 +6,7 @@ use native.Mathlib.Omega.{arith}
 use native.Mathlib.Nat.{div-div-eq-div-mul, div-add-mod'}
 use lib.ListN.{length}
 use mathlib.Core.Logic.{inl, inr}
-use Rattle.model.specs.File.{mostMain, mostPtr}
+use Rattle.model.specs.File.{greatestMain, greatestPtr}
 use Rattle.model.specs.Control.{Machine, registerBytes, wordFrom, regsFrom, regBytes}
 use Rattle.model.specs.declared.Regs.{Regs}
 use Rattle.theory_state.specs.Stack.{stack-numbers}
@@ -17,7 +17,7 @@ use Rattle.theory_state.specs.Keep.{running-here, running-fits}
 abbrev words : ℕ
 words = 4294967296
 
-pub record Small (r : Regs) : Type 0 where
+pub record RegsSmall (r : Regs) : Type 0 where
   pub place : r .place < words
   pub frame : r .frame < words
   pub handler : r .handler < words
@@ -45,7 +45,7 @@ pub registers-length : (r : Regs) → length (regBytes r) ≡ registerBytes
 unfolding regBytes
 registers-length r = refl
 
-pub registers-back : (r : Regs) → Small r → regsFrom (regBytes r) ≡ r
+pub registers-back : (r : Regs) → RegsSmall r → regsFrom (regBytes r) ≡ r
 unfolding regsFrom regBytes wordFrom
 registers-back r s =
     let e0 = four-bytes (r .place) (s .place) in
@@ -59,7 +59,7 @@ registers-back r s =
 
 -- where the lists are short enough, with room for procedure 0
 pub sound-small : (f map : List ℕ) (Ptr : ℕ → Type 0) (m : Machine) → CodeLaws f map → length (m .main) < words → length (m .ptr) < words →
-    length (m .ctl) < words → mostMain f 0 ≤ length (m .main) → mostPtr f 0 ≤ length (m .ptr) → Sound f map Ptr m → Small (m .regs)
+    length (m .ctl) < words → greatestMain f 0 ≤ length (m .main) → greatestPtr f 0 ≤ length (m .ptr) → Sound f map Ptr m → RegsSmall (m .regs)
 sound-small f map Ptr m L lm lp lc xm yp (inl S) =
     let R = S .3 in
     let N = stack-numbers f map (length (m .main)) (length (m .ptr)) (m .ctl) (S .0) (R .stack) in

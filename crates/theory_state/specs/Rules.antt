@@ -13,21 +13,21 @@ use borrow.Author.Tests.{eqb-false, leb-true, ltb-true}
 use Rattle.model.specs.Choice.{if_then_else_, all, All, all-true, Mem}
 use Rattle.model.specs.Words.{wordAt, truth, operate, operate1}
 use Rattle.model.specs.File.{onMain, onPtr, keepMain, keepPtr, keepNone, Basic, local, assign, field, setField, Maker, form, makerPops, make, literal, nil, root, setRoot, retract, binary, samePtr, unary, Ins, basic, jump, branch, branchKeep, call, return, enter, exit, raise, after, insAt}
-use Rattle.model.specs.Checker.{State, effect, basicEffect, effectOf, moved, outer, passes, wordTests, depthTests}
+use Rattle.model.specs.Checker.{State, effect, basicEffect, effectOf, moved, innermost, passes, wordTests, depthTests}
 use Rattle.model.specs.Heap.{Heap, Pointer, markOf, viewKind, kinds, kindIn, inPtrs, inPlain, maySetPlain, maySetPtr, made, clean, heapOf}
 use Rattle.model.specs.Control.{Machine, handlerOf, running, records, recordWords, placeReg, mtopReg, ptopReg, setReg, setMain, setPtr, setHeap}
 use Rattle.model.specs.Moves.{mtop, ptop, mainWord, ptrWord, mainWords, ptrWords, goTo, popMain, popPtr, pushMain, pushPtr, storeMain, storePtr, storeHeap, pushNew, closeFrame, finished}
-use Rattle.model.specs.Instructions.{nilObject, noSuchWord, heapFull, Result, done, throws, fails, andGo, onObject, onValue, onRoom, object, newOf, onNew, makes, callTests, basicRule, rule}
+use Rattle.model.specs.Instructions.{nilObject, noSuchWord, heapFull, Result, done, throws, fails, andGo, onObject, onValue, onRoom, object, newOf, onNew, makes, calleeTests, basicRule, rule}
 use Rattle.model.specs.Step.{next, uncaught, outcome, raised, caught, instruct, step}
 use Rattle.model.specs.Sound.{mainAt, innerAt, isIns}
 use Rattle.model.specs.declared.Value.{Value}
 use Rattle.model.specs.declared.Value.the-variants.{Word, Outside}
 use Rattle.model.specs.Claim.{assigned}
-use Rattle.laws.specs.Choices.{and-true}
+use Rattle.laws.specs.Choices.{both-true}
 use Rattle.laws.specs.Cuts.{Zero, Each, length-cut, cut-zero, cut-each, set-zero, set-each, slice-each}
 use Rattle.laws.specs.Records.{length-put}
 use Rattle.theory_state.specs.Stack.{stack-frame}
-use Rattle.theory_state.specs.Laws.{CodeLaws, leads, pops, rules}
+use Rattle.theory_state.specs.Laws.{CodeLaws, leads-on, pops, rules}
 use Rattle.theory_state.specs.Sound.{Running, Sound}
 use Rattle.theory_state.specs.Keep.{Controlled, running-here, keep-plain, keep-call, keep-return, keep-enter, keep-exit, keep-raise}
 
@@ -53,7 +53,7 @@ pub record HeapLaws : Type 0 where
       Formed h os (made kind ps ws h)
 
 -- sound after steps from m: control records, stacks and heap, and lists as long as they were
-pub record Kept (f map : List ℕ) (m m′ : Machine) : Type 0 where
+pub record KeptSound (f map : List ℕ) (m m′ : Machine) : Type 0 where
   pub objects : List ℕ
   pub heap : Heap (m′ .heap) objects
   pub sound : Sound f map (Pointer objects) m′
@@ -62,11 +62,11 @@ pub record Kept (f map : List ℕ) (m m′ : Machine) : Type 0 where
   pub same-ctl : length (m′ .ctl) ≡ length (m .ctl)
   pub same-heap : length (m′ .heap) ≡ length (m .heap)
 
-pub kept-here : {f map : List ℕ} (m : Machine) (os : List ℕ) → Heap (m .heap) os → Sound f map (Pointer os) m → Kept f map m m
+pub kept-here : {f map : List ℕ} (m : Machine) (os : List ℕ) → Heap (m .heap) os → Sound f map (Pointer os) m → KeptSound f map m m
 kept-here m os K S =
     record { objects = os; heap = K; sound = S; same-main = refl; same-ptr = refl; same-ctl = refl; same-heap = refl }
 
-pub kept-on : {f map : List ℕ} {m m′ m″ : Machine} → Kept f map m m′ → Kept f map m′ m″ → Kept f map m m″
+pub kept-on : {f map : List ℕ} {m m′ m″ : Machine} → KeptSound f map m m′ → KeptSound f map m′ m″ → KeptSound f map m m″
 kept-on A B =
     record {
       objects = B .objects;
@@ -181,7 +181,7 @@ module _ (f map : List ℕ) (m : Machine) (os : List ℕ) (i j : ℕ) where
 
   -- what a rule gives is sound; an exception is raised apart
   abbrev Fine : Result → Type 0
-  Fine (done m′) = Kept f map m m′
+  Fine (done m′) = KeptSound f map m m′
   Fine (throws code) = Unit {0}
 
   on-object : (q o : ℕ) (t : Bool) (m′ : Machine) → (o ≢ 0 → t ≡ true → Fine (done (goTo q m′))) → Fine (andGo q (onObject o t m′))
@@ -217,7 +217,7 @@ module _ (f map : List ℕ) (m : Machine) (os : List ℕ) (i j : ℕ) where
     ahead = after f (m .regs .place)
 
     abbrev passed : Ins → List (ℕ × State)
-    passed x = passes f (m .regs .place) x now (outer (assigned map) now)
+    passed x = passes f (m .regs .place) x now (innermost (assigned map) now)
 
     -- the words that the instruction pops are there, above the bases
     pub above : (x : Ins) → At x → (effectOf f x .popMain + i ≤ mtop m) × (effectOf f x .popPtr + j ≤ ptop m)
@@ -243,7 +243,7 @@ module _ (f map : List ℕ) (m : Machine) (os : List ℕ) (i j : ℕ) where
     -- to a place that the instruction passes a state on to, the control stack as it is
     lands : (x : Ins) (t : State) (q : ℕ) {os′ : List ℕ} (m′ : Machine) → At x → Mem (q, t) (passed x) →
         t .inner ≡ innerAt map (m .regs .place) → mtop m′ ≡ i + t .main → ptop m′ ≡ j + t .ptr → Order m os′ m′ →
-        Kept f map m (goTo q m′)
+        KeptSound f map m (goTo q m′)
     lands x t q {os′} m′ e to same em ep O =
         record {
           objects = os′;
@@ -254,7 +254,7 @@ module _ (f map : List ℕ) (m : Machine) (os : List ℕ) (i j : ℕ) where
                 i,
                 j,
                 keep-plain f map (Pointer os) (Pointer os′) m (goTo q m′) n i j t R (still (O .control))
-                    (leads f map L (m .regs .place) x q t here e to) same em ep (O .same-main) (O .same-ptr) (O .zero-main) (O .zero-ptr)
+                    (leads-on f map L (m .regs .place) x q t here e to) same em ep (O .same-main) (O .same-ptr) (O .zero-main) (O .zero-ptr)
                     (O .pointers),
               );
           same-main = O .same-main;
@@ -267,7 +267,7 @@ module _ (f map : List ℕ) (m : Machine) (os : List ℕ) (i j : ℕ) where
     on : (b : Basic) {os′ : List ℕ} (m′ : Machine) → At (basic b) → Order m os′ m′ →
         mtop m′ ≡ mtop m - basicEffect b .popMain + basicEffect b .pushMain →
         ptop m′ ≡ ptop m - basicEffect b .popPtr + basicEffect b .pushPtr →
-        Kept f map m (goTo ahead m′)
+        KeptSound f map m (goTo ahead m′)
     unfolding passes effectOf
     on b m′ e O em ep =
         let k = above (basic b) e in
@@ -333,7 +333,7 @@ module _ (f map : List ℕ) (m : Machine) (os : List ℕ) (i j : ℕ) where
         (λ u v. on (field onMain s) _ e (push-main (pop-ptr start 1) _) (omega arith) (omega arith))
     basic-fine (field onPtr s) e =
         on-object ahead (ptrWord m 1) (inPtrs (m .heap) (ptrWord m 1) s) _
-        (λ u v. let w = and-true _ _ v in
+        (λ u v. let w = both-true _ _ v in
         let p = K .inside (ptrWord m 1) s (is-object _ u (pointer _)) (leb-true _ _ (w .0)) (ltb-true _ _ (w .1)) in
         on (field onPtr s) _ e (push-ptr (pop-ptr start 1) _ p) (omega arith) (omega arith))
     basic-fine (setField onMain s) e =
@@ -375,7 +375,7 @@ module _ (f map : List ℕ) (m : Machine) (os : List ℕ) (i j : ℕ) where
 
     -- with the heap as it is
     same : (m′ : Machine) → m′ .heap ≡ m .heap → Sound f map (Pointer os) m′ → length (m′ .main) ≡ length (m .main) →
-        length (m′ .ptr) ≡ length (m .ptr) → length (m′ .ctl) ≡ length (m .ctl) → Kept f map m m′
+        length (m′ .ptr) ≡ length (m .ptr) → length (m′ .ctl) ≡ length (m .ctl) → KeptSound f map m m′
     same m′ e S lm lp lc =
         record {
           objects = os;
@@ -394,7 +394,7 @@ module _ (f map : List ℕ) (m : Machine) (os : List ℕ) (i j : ℕ) where
         back : Machine
         back = goTo (running m .returns) (closeFrame m)
 
-        go : (t : Bool) → Sound f map (Pointer os) (if t then finished m else back) → Kept f map m (if t then finished m else back)
+        go : (t : Bool) → Sound f map (Pointer os) (if t then finished m else back) → KeptSound f map m (if t then finished m else back)
         go true S = same _ refl S refl refl (length-cut 0 (m .ctl))
         go false S = same _ refl S refl refl (length-cut (recordWords * (records m - 1)) (m .ctl))
 
@@ -419,8 +419,8 @@ module _ (f map : List ℕ) (m : Machine) (os : List ℕ) (i j : ℕ) where
         both (λ u. if u then goTo t m else goTo ahead (popMain 1 m))
         (kept-as (branchKeep true t) t e (inr (inl refl))) (popped (branchKeep true t) _ e k (inl refl)) (truth (mainWord m 1))
     rule-fine (call k) e =
-        on-room (all (callTests f m k)) _
-        (λ u. same _ refl (inl (_, _, _, keep-call f map L (Pointer os) m n i j k R e (all-true (callTests f m k) u))) refl refl
+        on-room (all (calleeTests f m k)) _
+        (λ u. same _ refl (inl (_, _, _, keep-call f map L (Pointer os) m n i j k R e (all-true (calleeTests f m k) u))) refl refl
         (length-put (m .ctl) (records m) _))
     rule-fine return e = return-fine e
     rule-fine (enter s) e =
@@ -434,24 +434,24 @@ module _ (f map : List ℕ) (m : Machine) (os : List ℕ) (i j : ℕ) where
     rule-fine raise e = tt
 
     -- a raise that a handler catches
-    kept-raise : (code : ℕ) (m′ : Machine) → raised f m code ≡ next m′ → Kept f map m m′
+    kept-raise : (code : ℕ) (m′ : Machine) → raised f m code ≡ next m′ → KeptSound f map m m′
     unfolding raised caught
     kept-raise code m′ e = go (eqb (m .regs .handler) 0) refl e
       where
         go : (t : Bool) → eqb (m .regs .handler) 0 ≡ t →
             (if t then uncaught code m else next (caught f m (m .regs .handler - 1) (handlerOf (m .ctl) (m .regs .handler)) code)) ≡ next m′ →
-            Kept f map m m′
+            KeptSound f map m m′
         go true u v = absurd (true≢false (cc))
         go false u v =
             let w : caught f m (m .regs .handler - 1) (handlerOf (m .ctl) (m .regs .handler)) code ≡ m′ = cc in
-            subst (Kept f map m) w
+            subst (KeptSound f map m) w
             (same _ refl (keep-raise f map L (Pointer os) m n i j code (inl refl) R (eqb-false (m .regs .handler) 0 u))
             (simp (length-set, length-cut)) (simp length-cut) (simp length-cut))
 
-    came : (r : Result) → Fine r → (m′ : Machine) → outcome f m r ≡ next m′ → Kept f map m m′
-    came (done x) F m′ e = subst (Kept f map m) (cc) F
+    came : (r : Result) → Fine r → (m′ : Machine) → outcome f m r ≡ next m′ → KeptSound f map m m′
+    came (done x) F m′ e = subst (KeptSound f map m) (cc) F
     came (throws code) F m′ e = kept-raise code m′ e
 
-    pub step-keeps : (m′ : Machine) → step f m ≡ next m′ → Kept f map m m′
+    pub step-keeps : (m′ : Machine) → step f m ≡ next m′ → KeptSound f map m m′
     unfolding step instruct
     step-keeps m′ e = came (rule f m ahead (insAt f (m .regs .place))) (rule-fine (insAt f (m .regs .place)) refl) m′ e

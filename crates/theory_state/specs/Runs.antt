@@ -11,7 +11,7 @@ use Rattle.model.specs.Choice.{if_then_else_}
 use Rattle.model.specs.Control.{Machine}
 use Rattle.model.specs.Step.{Stepped, next, uncaught, step, Ran, ran, andRun, runOn}
 use Rattle.model.specs.Calls.{toldOf}
-use Rattle.model.specs.Claim.{NotRefused, there, nowhere, andThen, afterSteps}
+use Rattle.model.specs.Claim.{NotRefused, there, nowhere, andReach, afterSteps}
 use Rattle.model.specs.declared.Answer.the-variants as answer
 
 finished-told : (k : ℕ) → NotRefused (answer.Finished k)
@@ -36,7 +36,7 @@ module _ (f : List ℕ) (I : Machine → Type 0)
     where
       go : (t : Bool) → eqb (m .regs .state) 1 ≡ t → (o : Stepped) → step f m ≡ o →
           ((x : Machine) → I x → afterSteps f k x ≡ there m′ → I m′) →
-          (if t then nowhere else andThen o (afterSteps f k)) ≡ there m′ → I m′
+          (if t then nowhere else andReach o (afterSteps f k)) ≡ there m′ → I m′
       go true u o d r v = absurd (true≢false (cc))
       go false u (next x) d r v = r x (keeps m x h (eqb-false (m .regs .state) 1 u) d) v
       go false u (uncaught c x) d r v = absurd (true≢false (cc))

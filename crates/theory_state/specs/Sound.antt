@@ -20,13 +20,13 @@ use Rattle.laws.specs.Cuts.{Zero, Each, zeros-true, true-zeros, pointers-true, 
 use Rattle.theory_state.specs.Stack.{Stack, stack?-true, true-stack?, stack-frame}
 
 -- what is demanded of the stacks' words; Ptr: what every word of the pointer stack is
-pub record Words (Ptr : ℕ → Type 0) (m : Machine) : Type 0 where
+pub record StackWords (Ptr : ℕ → Type 0) (m : Machine) : Type 0 where
   pub zero-main : Zero (m .regs .mtop) (m .main)
   pub zero-ptr : Zero (m .regs .ptop) (m .ptr)
   pub zero-ctl : Zero (m .regs .ctop) (m .ctl)
   pub pointers : Each Ptr (m .ptr)
 
-words-with : (P Q : ℕ → Type 0) (m : Machine) → ((v : ℕ) → P v → Q v) → Words P m → Words Q m
+words-with : (P Q : ℕ → Type 0) (m : Machine) → ((v : ℕ) → P v → Q v) → StackWords P m → StackWords Q m
 words-with P Q m k W =
     record { zero-main = W .zero-main; zero-ptr = W .zero-ptr; zero-ctl = W .zero-ctl; pointers = λ i. k _ (W .pointers i) }
 
@@ -50,7 +50,7 @@ pub record Running (f map : List ℕ) (Ptr : ℕ → Type 0) (m : Machine) (n i 
   pub state-is : m .regs .state ≡ 0
   pub room : m .regs .ctop ≤ length (m .ctl)
   pub stack : Stack f map (length (m .main)) (length (m .ptr)) (down (m .ctl) n) (looking map m i j)
-  pub words : Words Ptr m
+  pub words : StackWords Ptr m
 
 pub record Finished (f : List ℕ) (Ptr : ℕ → Type 0) (m : Machine) : Type 0 where
   pub state-is : m .regs .state ≡ 1
@@ -60,7 +60,7 @@ pub record Finished (f : List ℕ) (Ptr : ℕ → Type 0) (m : Machine) : Type 0
   pub ctl-top : m .regs .ctop ≡ 0
   pub main-top : m .regs .mtop ≡ resultsMain f 0
   pub ptr-top : m .regs .ptop ≡ resultsPtr f 0
-  pub words : Words Ptr m
+  pub words : StackWords Ptr m
 
 abbrev pub Sound : List ℕ → List ℕ → (ℕ → Type 0) → Machine → Type 0
 Sound f map Ptr m = ((n : ℕ) × (i : ℕ) × (j : ℕ) × Running f map Ptr m n i j) ⊎ Finished f Ptr m
@@ -96,10 +96,10 @@ sound-with f map P Q m k (inr D) =
     })
 
 -- a pointer, as the audit tests it
-abbrev pub Audited : Machine → ℕ → Type 0
-Audited m v = isPointer (objectsOf (m .heap)) v ≡ true
+abbrev pub TestedPointer : Machine → ℕ → Type 0
+TestedPointer m v = isPointer (objectsOf (m .heap)) v ≡ true
 
-words-true : (m : Machine) → All (stackTests m) → Words (Audited m) m
+words-true : (m : Machine) → All (stackTests m) → StackWords (TestedPointer m) m
 unfolding rootWords
 words-true m T =
     record {
@@ -109,7 +109,7 @@ words-true m T =
       pointers = pointers-true (objectsOf (m .heap)) (m .ptr) (T .1 .1 .1 .0);
     }
 
-true-words : (m : Machine) → Words (Audited m) m → All (stackTests m)
+true-words : (m : Machine) → StackWords (TestedPointer m) m → All (stackTests m)
 unfolding rootWords
 true-words m W = (
   true-zeros (m .regs .mtop) (m .main) (W .zero-main),
@@ -120,7 +120,7 @@ true-words m W = (
 )
 
 module _ (f map : List ℕ) (m : Machine) where
-  pub sound?-true : sound? f map m ≡ true → Sound f map (Audited m) m
+  pub sound?-true : sound? f map m ≡ true → Sound f map (TestedPointer m) m
   unfolding sound? runningTests finishedTests
   sound?-true e =
       if-cases (eqb (m .regs .state) 1) _ _
@@ -152,7 +152,7 @@ module _ (f map : List ℕ) (m : Machine) where
       ))
       e
 
-  pub true-sound? : Sound f map (Audited m) m → sound? f map m ≡ true
+  pub true-sound? : Sound f map (TestedPointer m) m → sound? f map m ≡ true
   unfolding sound? runningTests finishedTests
   true-sound? (inl S) =
       let R = S .3 in

@@ -102,7 +102,7 @@ module _ (f map : List ℕ) (lm lp : ℕ) where
   stack-numbers l (suc n) (handler u T S) = let r = stack-numbers l n S in (omega arith, omega (arith, down-length l n))
 
   -- where an exception goes: the topmost of n records that is a handler's, number h, and how it is looked at
-  pub record Found (l : List ℕ) (n h : ℕ) : Type 0 where
+  pub record HandlerFound (l : List ℕ) (n h : ℕ) : Type 0 where
     pub look : Look
     pub number : look .handler ≡ h
     pub opened : look .inner ≡ innerAt map (look .place)
@@ -112,12 +112,12 @@ module _ (f map : List ℕ) (lm lp : ℕ) where
     pub tests : All (handlerTests f map lm lp (asHandler (recAt l under)) (down l under) look)
     pub stack : Stack (down l under) (outside f map lm lp (asHandler (recAt l under)) look)
 
-  pub find : (l : List ℕ) (n : ℕ) {k : Look} → k .inner ≡ innerAt map (k .place) → Stack (down l n) k →
-      (k .handler ≡ 0) ⊎ Found l n (k .handler)
-  find l (suc n) e (first z u F T) = inl (T .1 .1 .1 .1 .1 .0)
-  find l (suc n) {k = k} e (frame z u F b T S) = more (find l n refl S)
+  pub find-handler : (l : List ℕ) (n : ℕ) {k : Look} → k .inner ≡ innerAt map (k .place) → Stack (down l n) k →
+      (k .handler ≡ 0) ⊎ HandlerFound l n (k .handler)
+  find-handler l (suc n) e (first z u F T) = inl (T .1 .1 .1 .1 .1 .0)
+  find-handler l (suc n) {k = k} e (frame z u F b T S) = more (find-handler l n refl S)
     where
-      more : (k .handler ≡ 0) ⊎ Found l n (k .handler) → (k .handler ≡ 0) ⊎ Found l (suc n) (k .handler)
+      more : (k .handler ≡ 0) ⊎ HandlerFound l n (k .handler) → (k .handler ≡ 0) ⊎ HandlerFound l (suc n) (k .handler)
       more (inl z) = inl z
       more (inr F) =
           inr
@@ -131,5 +131,5 @@ module _ (f map : List ℕ) (lm lp : ℕ) where
             tests = F .tests;
             stack = F .stack;
           })
-  find l (suc n) {k = k} e (handler u T S) =
+  find-handler l (suc n) {k = k} e (handler u T S) =
       inr (record { look = k; number = refl; opened = e; some = u; under = n; below = omega arith; tests = T; stack = S })

@@ -8,7 +8,7 @@ use mathlib.Core.Logic.{inl, inr}
 use native.Mathlib.Omega.{arith}
 use lib.ListN.{length}
 use Rattle.model.specs.Choice.{All}
-use Rattle.model.specs.File.{fileMost, procs, mostMain, mostPtr}
+use Rattle.model.specs.File.{fileMost, procs, greatestMain, greatestPtr}
 use Rattle.model.specs.Heap.{Heap, Pointer, clean, heapOf, objectsOf}
 use Rattle.model.specs.Control.{Machine, setRegs}
 use Rattle.model.specs.Step.{next, step}
@@ -20,7 +20,7 @@ use Rattle.theory_checker.specs.Exact.{passed-as, passed-again}
 use Rattle.check_scan.specs.Heading.{Placed}
 use Rattle.theory_state.specs.Tests.{pointer-true}
 use Rattle.theory_state.specs.Laws.{CodeLaws, code-laws}
-use Rattle.theory_state.specs.Sound.{Running, Sound, Audited, sound-with, sound?-true}
+use Rattle.theory_state.specs.Sound.{Running, Sound, TestedPointer, sound-with, sound?-true}
 use Rattle.theory_state.specs.Rules.{step-keeps}
 use Rattle.audit_heap.specs.Audited.{heap-clean}
 use Rattle.theory_state.specs.Demand.{heap-laws}
@@ -32,8 +32,8 @@ pub record Sizes (f : List ℕ) (m : Machine) : Type 0 where
   pub ctl-most : length (m .ctl) ≤ ctlMost
   pub heap-least : 2 ≤ length (m .heap)
   pub heap-most : length (m .heap) ≤ heapMost
-  pub main-fits : mostMain f 0 ≤ length (m .main)
-  pub ptr-fits : mostPtr f 0 ≤ length (m .ptr)
+  pub main-fits : greatestMain f 0 ≤ length (m .main)
+  pub ptr-fits : greatestPtr f 0 ≤ length (m .ptr)
 
 pub record Alive (f map table : List ℕ) (m : Machine) : Type 0 where
   -- the file passed its check, and this is its finished map
@@ -72,7 +72,7 @@ alive-run l map₀ table os r B P H T c s =
       objects = os;
       heap = heap-clean (l .heap) os c;
       sound =
-          sound-with (l .file) (l .map) (Audited m) (Pointer os) m (λ v p. pointer-true os v (rw c at p)) (sound?-true (l .file) (l .map) m s);
+          sound-with (l .file) (l .map) (TestedPointer m) (Pointer os) m (λ v p. pointer-true os v (rw c at p)) (sound?-true (l .file) (l .map) m s);
     }
 
 module _ {f map table : List ℕ} {m : Machine} (A : Alive f map table m) where

@@ -1,4 +1,4 @@
--- An alive state that is not finished is ready to be planned: `Ready`, which `plan_at` asks for. The instruction's pops, pushes and frame
+-- An alive state that is not finished is ready to be planned: `StepReady`, which `plan_at` asks for. The instruction's pops, pushes and frame
 -- words are in its frame by the rules at its place, and the frame lies in the lists.
 use Prim.Native.Nat.{ℕ, zero, suc, _+_, _-_, _<_, _≤_}
 use mathlib.Core.Path.{_≡_, refl, ap}
@@ -8,21 +8,21 @@ use native.Mathlib.Decide.{decLt}
 use native.Mathlib.Omega.{arith}
 use lib.ListN.{length, getD}
 use Rattle.model.specs.Choice.{All, Mem}
-use Rattle.model.specs.File.{local, assign, onMain, onPtr, call, heads, headOf, procs, instructions, mostMain, mostPtr}
+use Rattle.model.specs.File.{local, assign, onMain, onPtr, call, heads, headOf, procs, instructions, greatestMain, greatestPtr}
 use Rattle.model.specs.Checker.{effectOf, depthTests, targetTests}
 use Rattle.model.specs.Heap.{Pointer}
 use Rattle.model.specs.Control.{Machine, running, down}
 use Rattle.model.specs.Moves.{mtop, ptop}
 use Rattle.model.specs.Sound.{isIns, frameTests}
 use Rattle.laws.specs.Members.{member-in, getD-in}
-use Rattle.laws_file.specs.Walk.{walk, walk-above, head-in, after-head, instruction-whole}
+use Rattle.laws_file.specs.Walk.{file-walk, walk-above, head-in, after-head, instruction-whole}
 use Rattle.theory_state.specs.Stack.{stack-frame, stack-numbers}
 use Rattle.theory_state.specs.Laws.{CodeLaws, rules, pops}
 use Rattle.theory_state.specs.Sound.{looking, Running}
 use Rattle.theory_state.specs.Keep.{running-here, running-fits}
 use Rattle.theory_state.specs.Rules.{bases, frame-words}
 use Rattle.theory_state.specs.Demand.{heap-laws}
-use Rattle.plan.specs.Ready.{Ready, placeOf, here}
+use Rattle.plan.specs.Ready.{StepReady, placeOf, here}
 use Rattle.theory_step.specs.Alive.{Alive, alive-laws, alive-running}
 
 pub instruction-at : (f : List ℕ) (p : ℕ) → isIns f p ≡ true → Mem p (instructions f)
@@ -36,7 +36,7 @@ module _ (f map : List ℕ) (L : CodeLaws f map) where
       let ps = L .formed .places in
       let e = L .formed .records in
       let w = head-in f ps e g i in
-      let a = walk-above f 0 ps (walk f ps e) g (w .0) .1 in
+      let a = walk-above f 0 ps (file-walk f ps e) g (w .0) .1 in
       let b = after-head f ps e g (w .1) in
       omega arith
 
@@ -86,8 +86,8 @@ module _ {f map table : List ℕ} {m : Machine} (A : Alive f map table m) (n i j
       let D = rules f map L (placeOf m) at-place .depths in
       let P = pops f map L (placeOf m) (here f m) at-place refl in
       let F = frame-is in
-      let x = ap (mostMain f) (F .1 .1 .1 .1 .0) in
-      let y = ap (mostPtr f) (F .1 .1 .1 .1 .0) in
+      let x = ap (greatestMain f) (F .1 .1 .1 .1 .0) in
+      let y = ap (greatestPtr f) (F .1 .1 .1 .1 .0) in
       let e1 = R .main-top in
       let e2 = R .ptr-top in
       record { pop-main = omega arith; pop-ptr = omega arith; push-main = omega arith; push-ptr = omega arith }
@@ -99,7 +99,7 @@ module _ {f map table : List ℕ} {m : Machine} (A : Alive f map table m) (n i j
   unfolding targetTests
   callee k e = let T = rw e at (rules f map L (placeOf m) at-place .targets) in T .0
 
-  pub running-ready : Ready f table m
+  pub running-ready : StepReady f table m
   running-ready =
       let z = A .sizes in
       let T = taken in
@@ -141,5 +141,5 @@ module _ {f map table : List ℕ} {m : Machine} (A : Alive f map table m) (n i j
         pointers = R .words .pointers;
       }
 
-pub alive-ready : {f map table : List ℕ} {m : Machine} → Alive f map table m → (m .regs .state ≡ 1 → ⊥) → Ready f table m
+pub alive-ready : {f map table : List ℕ} {m : Machine} → Alive f map table m → (m .regs .state ≡ 1 → ⊥) → StepReady f table m
 alive-ready A u = let S = alive-running A u in running-ready A (S .0) (S .1) (S .2) (S .3)

@@ -24,7 +24,7 @@ use Rattle.laws_file.specs.Walk.{instruction-below, instruction-whole, proc-bel
 use Rattle.audit_heap.specs.Stores.{read-ptr, read-plain}
 use Rattle.audit_heap.specs.Views.{may-set-plain, may-set-ptr}
 use Rattle.laws.specs.Records.{down-length}
-use Rattle.theory_state.specs.Stack.{Stack, first, frame, handler, stack-here, stack-frame, stack-numbers, Found, find}
+use Rattle.theory_state.specs.Stack.{Stack, first, frame, handler, stack-here, stack-frame, stack-numbers, HandlerFound, find-handler}
 use Rattle.theory_state.specs.Laws.{CodeLaws, at-exit, depth-most, inner-opens}
 use Rattle.theory_state.specs.Sound.{looking, Running}
 use Rattle.plan.specs.Ready.{placeOf, here}
@@ -80,9 +80,9 @@ module _ {f map table : List ℕ} {m : Machine} (A : Alive f map table m) (n i j
 
   -- the handler found: its 160, its frame and the word for the code
   caught : (m .regs .handler ≡ 0 → ⊥) → Caught f table (m .regs) (m .main) (m .ctl)
-  caught ne = go (find f map lm lp (m .ctl) n refl (R .stack))
+  caught ne = go (find-handler f map lm lp (m .ctl) n refl (R .stack))
     where
-      go : (m .regs .handler ≡ 0) ⊎ Found f map lm lp (m .ctl) n (m .regs .handler) → Caught f table (m .regs) (m .main) (m .ctl)
+      go : (m .regs .handler ≡ 0) ⊎ HandlerFound f map lm lp (m .ctl) n (m .regs .handler) → Caught f table (m .regs) (m .main) (m .ctl)
       go (inl z) = absurd (ne z)
       go (inr F) = found (L .keeps .third (F .look .place) (instruction-at f (F .look .place) (stack-here f map lm lp (F .stack))))
         where

@@ -9,7 +9,7 @@ use borrow.Author.Needs.{needs}
 use Rattle.model.specs.File.{insAt}
 use Rattle.model.specs.Checker.{effectOf}
 use Rattle.model.specs.Sound.{callerTests}
-use Rattle.laws.specs.Tests.{fails, decided}
+use Rattle.laws.specs.Tests.{fails-all, decided}
 use Rattle.control_stack.specs.Layout.{theFrame}
 use Rattle.audit_records.specs.Records.{call-after, call-pops, is-call, not-call}
 use Rattle.audit_records.proofs.caller_right.Statement.{statement}
@@ -23,7 +23,7 @@ returns c =
     let a = c .before .before .before .before .args in
     let d = c .before .byte-at .ensures .is in
     let t = c .if1 .taken in
-    λ lm lp. fails 3 (callerTests (a .file .now) (a .map .now) lm lp (theFrame (a .w)) (a .c) (effectOf (a .file .now) (insAt (a .file .now) (a .c)))) (not-call _ _ (omega arith))
+    λ lm lp. fails-all 3 (callerTests (a .file .now) (a .map .now) lm lp (theFrame (a .w)) (a .c) (effectOf (a .file .now) (insAt (a .file .now) (a .c)))) (not-call _ _ (omega arith))
 
 operand-requires : tie.Need-operand-requires
 operand-requires c κs = search needs
@@ -33,7 +33,7 @@ returns-2 c =
     let a = c .before .before .before .before .before .before .before .args in
     let d = c .before .before .operand .ensures in
     let t = c .if2 .taken in
-    λ lm lp. fails 4 (callerTests (a .file .now) (a .map .now) lm lp (theFrame (a .w)) (a .c) (effectOf (a .file .now) (insAt (a .file .now) (a .c)))) (omega arith)
+    λ lm lp. fails-all 4 (callerTests (a .file .now) (a .map .now) lm lp (theFrame (a .w)) (a .c) (effectOf (a .file .now) (insAt (a .file .now) (a .c)))) (omega arith)
 
 add-if3 : tie.Need-add-if3
 add-if3 c = search needs
@@ -44,7 +44,7 @@ returns-3 c =
     let c₁ = c .before .before .before .before .before in
     let n = call-after (a .file .now) (a .c) (sym (c₁ .before .byte-at .ensures .is) ∙ c₁ .if1 .left) in
     let t = c .if3 .taken in
-    λ lm lp. fails 0 (callerTests (a .file .now) (a .map .now) lm lp (theFrame (a .w)) (a .c) (effectOf (a .file .now) (insAt (a .file .now) (a .c)))) (omega arith)
+    λ lm lp. fails-all 0 (callerTests (a .file .now) (a .map .now) lm lp (theFrame (a .w)) (a .c) (effectOf (a .file .now) (insAt (a .file .now) (a .c)))) (omega arith)
 
 add-if4 : tie.Need-add-if4
 add-if4 c =
@@ -65,7 +65,7 @@ returns-4 c =
     let o = sym (c₂ .before .before .operand .ensures) ∙ c₂ .if2 .left in
     let p = call-pops _ _ (sym (c₁ .before .byte-at .ensures .is) ∙ c₁ .if1 .left) _ o .0 in
     let t = c .if4 .taken in
-    λ lm lp. fails 1 (callerTests (a .file .now) (a .map .now) lm lp (theFrame (a .w)) (a .c) (effectOf (a .file .now) (insAt (a .file .now) (a .c)))) (omega arith)
+    λ lm lp. fails-all 1 (callerTests (a .file .now) (a .map .now) lm lp (theFrame (a .w)) (a .c) (effectOf (a .file .now) (insAt (a .file .now) (a .c)))) (omega arith)
 
 ptr-at-requires : tie.Need-ptr-at-requires
 ptr-at-requires c κs = search needs

@@ -7,7 +7,7 @@ use borrow.Author.Tests.{not-true, not-false, leb-true}
 use borrow.Author.Needs.{needs}
 use Rattle.model.specs.Sound.{frameTests}
 use Rattle.audit_places.specs.Places.{in-proc-true, in-proc-below}
-use Rattle.laws.specs.Tests.{fails, decided}
+use Rattle.laws.specs.Tests.{fails-all, decided}
 use Rattle.control_stack.specs.Layout.{theFrame}
 use Rattle.audit_records.specs.Records.{theLook, not-within}
 use Rattle.audit_records.proofs.frame_right.Statement.{statement}
@@ -29,17 +29,17 @@ returns-2 : tie.Need-returns-2
 returns-2 c =
     let a = c .before .before .before .before .before .before .args in
     let t = c .if2 .taken in
-    λ rs e. fails 1 (frameTests (a .file .now) (a .map .now) (a .lm) (a .lp) (theFrame (a .w)) rs (theLook (a .s))) (omega arith)
+    λ rs e. fails-all 1 (frameTests (a .file .now) (a .map .now) (a .lm) (a .lp) (theFrame (a .w)) rs (theLook (a .s))) (omega arith)
 
 returns-3 : tie.Need-returns-3
 returns-3 c =
     let a = c .before .before .before .before .before .before .before .before .before .args in
-    λ rs e. fails 2 (frameTests (a .file .now) (a .map .now) (a .lm) (a .lp) (theFrame (a .w)) rs (theLook (a .s))) (c .if3 .taken)
+    λ rs e. fails-all 2 (frameTests (a .file .now) (a .map .now) (a .lm) (a .lp) (theFrame (a .w)) rs (theLook (a .s))) (c .if3 .taken)
 
 returns-4 : tie.Need-returns-4
 returns-4 c =
     let a = c .before .before .before .before .before .before .before .before .before .before .before .before .args in
-    λ rs e. fails 3 (frameTests (a .file .now) (a .map .now) (a .lm) (a .lp) (theFrame (a .w)) rs (theLook (a .s))) (c .if4 .taken)
+    λ rs e. fails-all 3 (frameTests (a .file .now) (a .map .now) (a .lm) (a .lp) (theFrame (a .w)) rs (theLook (a .s))) (c .if4 .taken)
 
 head-of-requires : tie.Need-head-of-requires
 head-of-requires c κs =
@@ -58,7 +58,7 @@ returns-5 c =
     let a = c .before .before .before .before .before .before .before .before .before .before .before .before .before .before .before .before .args in
     let x = c .before .before .before .head-of .ensures .x-is in
     let t = c .if5 .taken in
-    λ rs e. fails 5 (frameTests (a .file .now) (a .map .now) (a .lm) (a .lp) (theFrame (a .w)) rs (theLook (a .s))) (omega arith)
+    λ rs e. fails-all 5 (frameTests (a .file .now) (a .map .now) (a .lm) (a .lp) (theFrame (a .w)) rs (theLook (a .s))) (omega arith)
 
 add-result : tie.Need-add-result
 add-result c =

@@ -4,7 +4,7 @@ use native.Mathlib.Omega.{arith}
 use borrow.Author.Tests.{eqb-true}
 use borrow.Author.Needs.{needs}
 use Rattle.model.specs.Sound.{handlerTests}
-use Rattle.laws.specs.Tests.{fails, decided}
+use Rattle.laws.specs.Tests.{fails-all, decided}
 use Rattle.control_stack.specs.Layout.{theHandler}
 use Rattle.audit_records.specs.Records.{theLook}
 use Rattle.audit_records.proofs.handler_right.Statement.{statement}
@@ -17,12 +17,12 @@ returns : tie.Need-returns
 returns c =
     let a = c .before .before .before .args in
     let t = c .if1 .taken in
-    λ f lm lp rs e. fails 0 (handlerTests f (a .map .now) lm lp (theHandler (a .w)) rs (theLook (a .s))) (omega arith)
+    λ f lm lp rs e. fails-all 0 (handlerTests f (a .map .now) lm lp (theHandler (a .w)) rs (theLook (a .s))) (omega arith)
 
 returns-2 : tie.Need-returns-2
 returns-2 c =
     let a = c .before .before .before .before .before .before .args in
-    λ f lm lp rs e. fails 1 (handlerTests f (a .map .now) lm lp (theHandler (a .w)) rs (theLook (a .s))) (c .if2 .taken)
+    λ f lm lp rs e. fails-all 1 (handlerTests f (a .map .now) lm lp (theHandler (a .w)) rs (theLook (a .s))) (c .if2 .taken)
 
 main-at-requires : tie.Need-main-at-requires
 main-at-requires c κs = search needs
@@ -35,7 +35,7 @@ returns-3 c =
     let a = c .before .before .before .before .before .before .before .before .before .before .args in
     let d = c .before .before .before .main-at .ensures .is in
     let t = c .if3 .taken in
-    λ f lm lp rs e. fails 2 (handlerTests f (a .map .now) lm lp (theHandler (a .w)) rs (theLook (a .s))) (omega arith)
+    λ f lm lp rs e. fails-all 2 (handlerTests f (a .map .now) lm lp (theHandler (a .w)) rs (theLook (a .s))) (omega arith)
 
 ptr-at-requires : tie.Need-ptr-at-requires
 ptr-at-requires c κs = search needs
@@ -48,7 +48,7 @@ returns-4 c =
     let a = c .before .before .before .before .before .before .before .before .before .before .before .before .before .before .args in
     let d = c .before .before .before .ptr-at .ensures .is in
     let t = c .if4 .taken in
-    λ f lm lp rs e. fails 3 (handlerTests f (a .map .now) lm lp (theHandler (a .w)) rs (theLook (a .s))) (omega arith)
+    λ f lm lp rs e. fails-all 3 (handlerTests f (a .map .now) lm lp (theHandler (a .w)) rs (theLook (a .s))) (omega arith)
 
 returns-5 : tie.Need-returns-5
 returns-5 c =

@@ -7,7 +7,7 @@ use Rattle.model.specs.File.{insAt}
 use Rattle.model.specs.Checker.{effectOf}
 use Rattle.model.specs.Control.{down}
 use Rattle.audit_places.specs.Places.{in-proc-below}
-use Rattle.audit_records.specs.Records.{down-length, frame-proc, frame-fits, call-below, called, told-frame, told-first, told-call, told-caller}
+use Rattle.audit_records.specs.Records.{down-length, frame-proc, frame-fits, call-below, popped-params, told-frame, told-first, told-call, told-caller}
 use Rattle.audit_records.proofs.read_frame.Statement.{statement}
 use Rattle.audit_records.proofs.read_frame.Tie as tie
 
@@ -114,7 +114,7 @@ returns-4 c =
     let own = sym (not-false _ (c₁ .if1 .left)) ∙ c₁ .before .frame-right .ensures (down (a .ctl .now) (a .left)) (down-length (a .ctl .now) (a .left)) in
     let yes = sym (not-false _ (c .before .if3 .left)) ∙ c .before .before .caller-right .ensures (a .lm) (a .lp) in
     let call = at-call-before .call-before .result in
-    let pops = called (a .file .now) (a .map .now) (a .lm) (a .lp) (w .result) call (at-head-of .head-of .result) (at-head-of .head-of .ensures) yes in
+    let pops = popped-params (a .file .now) (a .map .now) (a .lm) (a .lp) (w .result) call (at-head-of .head-of .result) (at-head-of .head-of .ensures) yes in
     let r = c .caller-of .ensures in
     told-caller _ _ _ _ _ _ _ (w .result) (w .ensures .is) (pre .3) own (at-if2 .if2 .left) _ (at-call-before .call-before .ensures) _ yes
     (r .0 (a .file .now) (a .lm) (a .lp) (effectOf (a .file .now) (insAt (a .file .now) call)) pops) (r .1)

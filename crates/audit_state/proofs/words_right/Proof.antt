@@ -4,7 +4,7 @@ use borrow.Author.Tests.{not-true, not-false}
 use borrow.Author.Needs.{needs}
 use Rattle.model.specs.Control.{Machine}
 use Rattle.model.specs.Sound.{stackTests}
-use Rattle.laws.specs.Tests.{fails}
+use Rattle.laws.specs.Tests.{fails-all}
 use Rattle.audit_state.specs.Audit.{rest-last}
 use Rattle.audit_state.proofs.words_right.Statement.{statement}
 use Rattle.audit_state.proofs.words_right.Tie as tie
@@ -17,7 +17,7 @@ returns c =
     let a = c .before .before .before .before .before .before .args in
     λ heap K.
     let m : Machine = record { regs = a .regs; main = a .main .now; ptr = a .ptr .now; ctl = a .ctl .now; heap = heap } in
-    fails 0 (stackTests m) (sym (c .before .zeros-from .ensures) ∙ not-true _ (c .if1 .taken))
+    fails-all 0 (stackTests m) (sym (c .before .zeros-from .ensures) ∙ not-true _ (c .if1 .taken))
 
 zeros-from-requires-2 : tie.Need-zeros-from-requires-2
 zeros-from-requires-2 c κs = search needs
@@ -27,7 +27,7 @@ returns-2 c =
     let a = c .before .before .before .before .before .before .before .before .args in
     λ heap K.
     let m : Machine = record { regs = a .regs; main = a .main .now; ptr = a .ptr .now; ctl = a .ctl .now; heap = heap } in
-    fails 1 (stackTests m) (sym (c .before .zeros-from2 .ensures) ∙ not-true _ (c .if2 .taken))
+    fails-all 1 (stackTests m) (sym (c .before .zeros-from2 .ensures) ∙ not-true _ (c .if2 .taken))
 
 zeros-from-requires-3 : tie.Need-zeros-from-requires-3
 zeros-from-requires-3 c κs = search needs
@@ -37,7 +37,7 @@ returns-3 c =
     let a = c .before .before .before .before .before .before .before .before .before .before .args in
     λ heap K.
     let m : Machine = record { regs = a .regs; main = a .main .now; ptr = a .ptr .now; ctl = a .ctl .now; heap = heap } in
-    fails 2 (stackTests m) (sym (c .before .zeros-from3 .ensures) ∙ not-true _ (c .if3 .taken))
+    fails-all 2 (stackTests m) (sym (c .before .zeros-from3 .ensures) ∙ not-true _ (c .if3 .taken))
 
 audit-pointers-requires : tie.Need-audit-pointers-requires
 audit-pointers-requires c κs = search needs

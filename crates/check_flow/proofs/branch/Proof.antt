@@ -3,7 +3,7 @@ use mathlib.Core.Path.{sym, _∙_}
 use native.Mathlib.Omega.{arith}
 use borrow.Author.Tests.{lt-ltb, le-ltb}
 use Rattle.check_rows.specs.Tests.{stacks-fit}
-use Rattle.check_flow.specs.Ways.{stops, passes, all-passed, own-place, next-place, here-place, ends-low, held-here, bounded-here, takes-branch, on-branch}
+use Rattle.check_flow.specs.Ways.{stops, test-passes, all-passed, own-place, next-place, here-place, ends-low, held-here, bounded-here, takes-branch, on-branch}
 use borrow.Author.Needs.{needs}
 use Rattle.check_flow.proofs.branch.Statement.{statement}
 use Rattle.check_flow.proofs.branch.Tie as tie
@@ -27,7 +27,7 @@ returns c =
     let at-own = c .before .before .before .before .before in
     let entry = at-own .before .before .before .before in
     let J = on-branch (entry .args .keep) _ (entry .pre) (c .before .before .state-in .ensures) in
-    stops (passes J (sym (at-own .own .ensures) ∙ c .before .before .before .before .if1 .taken)) (le-ltb _ _ (c .if2 .taken))
+    stops (test-passes J (sym (at-own .own .ensures) ∙ c .before .before .before .before .if1 .taken)) (le-ltb _ _ (c .if2 .taken))
 
 same-length-2 : tie.Need-same-length-2
 same-length-2 c = search needs
@@ -37,8 +37,8 @@ returns-2 c =
     let at-if1 = c .before .before .before .before .before .before in
     let at-own = at-if1 .before in
     let entry = at-own .before .before .before .before in
-    let J = passes (on-branch (entry .args .keep) _ (entry .pre) (c .before .before .before .before .state-in .ensures)) (sym (at-own .own .ensures) ∙ at-if1 .if1 .taken) in
-    stops (passes J (lt-ltb _ _ (c .before .before .if2 .left))) (le-ltb _ _ (c .if3 .taken))
+    let J = test-passes (on-branch (entry .args .keep) _ (entry .pre) (c .before .before .before .before .state-in .ensures)) (sym (at-own .own .ensures) ∙ at-if1 .if1 .taken) in
+    stops (test-passes J (lt-ltb _ _ (c .before .before .if2 .left))) (le-ltb _ _ (c .if3 .taken))
 
 outer-of-requires : tie.Need-outer-of-requires
 outer-of-requires c κs =
@@ -89,10 +89,10 @@ returns-3 c =
     let at-if1 = at-state-in .before .before in
     let at-own = at-if1 .before in
     let entry = at-own .before .before .before .before in
-    let J = passes (on-branch (entry .args .keep) _ (entry .pre) (at-state-in .state-in .ensures)) (sym (at-own .own .ensures) ∙ at-if1 .if1 .taken) in
-    let K = passes (passes J (lt-ltb _ _ (at-if2 .if2 .left))) (lt-ltb _ _ (at-if3 .if3 .left)) in
+    let J = test-passes (on-branch (entry .args .keep) _ (entry .pre) (at-state-in .state-in .ensures)) (sym (at-own .own .ensures) ∙ at-if1 .if1 .taken) in
+    let K = test-passes (test-passes J (lt-ltb _ _ (at-if2 .if2 .left))) (lt-ltb _ _ (at-if3 .if3 .left)) in
     let d = rw (at-effect .effect .ensures, at-outer-of .outer-of .ensures .is) at (at-depths-ok .depths-ok .ensures) in
-    c .before .before .pass-both .ensures ∙ sym (rw (c .before .before .before .before .if5 .taken) at (all-passed (passes K (sym d ∙ at-if4 .if4 .taken))))
+    c .before .before .pass-both .ensures ∙ sym (rw (c .before .before .before .before .if5 .taken) at (all-passed (test-passes K (sym d ∙ at-if4 .if4 .taken))))
 
 pass-both-requires-2 : tie.Need-pass-both-requires-2
 pass-both-requires-2 c κs =
@@ -124,10 +124,10 @@ returns-4 c =
     let at-if1 = at-state-in .before .before in
     let at-own = at-if1 .before in
     let entry = at-own .before .before .before .before in
-    let J = passes (on-branch (entry .args .keep) _ (entry .pre) (at-state-in .state-in .ensures)) (sym (at-own .own .ensures) ∙ at-if1 .if1 .taken) in
-    let K = passes (passes J (lt-ltb _ _ (at-if2 .if2 .left))) (lt-ltb _ _ (at-if3 .if3 .left)) in
+    let J = test-passes (on-branch (entry .args .keep) _ (entry .pre) (at-state-in .state-in .ensures)) (sym (at-own .own .ensures) ∙ at-if1 .if1 .taken) in
+    let K = test-passes (test-passes J (lt-ltb _ _ (at-if2 .if2 .left))) (lt-ltb _ _ (at-if3 .if3 .left)) in
     let d = rw (at-effect .effect .ensures, at-outer-of .outer-of .ensures .is) at (at-depths-ok .depths-ok .ensures) in
-    c .before .before .pass-both2 .ensures ∙ sym (rw (c .before .before .before .before .if5 .left) at (all-passed (passes K (sym d ∙ at-if4 .if4 .taken))))
+    c .before .before .pass-both2 .ensures ∙ sym (rw (c .before .before .before .before .if5 .left) at (all-passed (test-passes K (sym d ∙ at-if4 .if4 .taken))))
 
 same-length-5 : tie.Need-same-length-5
 same-length-5 c = search needs
@@ -140,8 +140,8 @@ returns-5 c =
     let at-if1 = at-state-in .before .before in
     let at-own = at-if1 .before in
     let entry = at-own .before .before .before .before in
-    let J = passes (on-branch (entry .args .keep) _ (entry .pre) (at-state-in .state-in .ensures)) (sym (at-own .own .ensures) ∙ at-if1 .if1 .taken) in
-    let K = passes (passes J (lt-ltb _ _ (at-if2 .if2 .left))) (lt-ltb _ _ (at-if3 .if3 .left)) in
+    let J = test-passes (on-branch (entry .args .keep) _ (entry .pre) (at-state-in .state-in .ensures)) (sym (at-own .own .ensures) ∙ at-if1 .if1 .taken) in
+    let K = test-passes (test-passes J (lt-ltb _ _ (at-if2 .if2 .left))) (lt-ltb _ _ (at-if3 .if3 .left)) in
     let d = rw (c .before .before .effect .ensures, c .before .before .before .outer-of .ensures .is) at (c .before .depths-ok .ensures) in
     stops K (sym d ∙ c .if4 .left)
 

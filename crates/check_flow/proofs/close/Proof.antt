@@ -3,7 +3,7 @@ use mathlib.Core.Bool.{not}
 use mathlib.Core.Path.{sym, _∙_, ap}
 use borrow.Author.Tests.{lt-ltb, le-ltb, eq-eqb, ne-eqb}
 use Rattle.model.specs.Checker.{State}
-use Rattle.check_flow.specs.Ways.{stops, passes, all-passed, here-place, next-place, held-here, on-close}
+use Rattle.check_flow.specs.Ways.{stops, test-passes, all-passed, here-place, next-place, held-here, on-close}
 use borrow.Author.Needs.{needs}
 use Rattle.check_flow.proofs.close.Statement.{statement}
 use Rattle.check_flow.proofs.close.Tie as tie
@@ -28,7 +28,7 @@ same-length-2 c = search needs
 returns-2 : tie.Need-returns-2
 returns-2 c =
     let entry = c .before .before .before .before .before .before .before .before in
-    stops (passes (on-close (entry .pre) (c .before .before .before .before .state-in .ensures)) (lt-ltb _ _ (c .before .before .if1 .left))) (le-ltb _ _ (c .if2 .taken))
+    stops (test-passes (on-close (entry .pre) (c .before .before .before .before .state-in .ensures)) (lt-ltb _ _ (c .before .before .if1 .left))) (le-ltb _ _ (c .if2 .taken))
 
 same-length-3 : tie.Need-same-length-3
 same-length-3 c = search needs
@@ -37,7 +37,7 @@ returns-3 : tie.Need-returns-3
 returns-3 c =
     let at-state-in = c .before .before .before .before .before .before in
     let entry = at-state-in .before .before .before .before in
-    let J = passes (passes (on-close (entry .pre) (at-state-in .state-in .ensures)) (lt-ltb _ _ (c .before .before .before .before .if1 .left))) (lt-ltb _ _ (c .before .before .if2 .left)) in
+    let J = test-passes (test-passes (on-close (entry .pre) (at-state-in .state-in .ensures)) (lt-ltb _ _ (c .before .before .before .before .if1 .left))) (lt-ltb _ _ (c .before .before .if2 .left)) in
     stops J (ap not (eq-eqb _ _ (c .if3 .taken)))
 
 outer-of-requires : tie.Need-outer-of-requires
@@ -65,9 +65,9 @@ returns-4 c =
     let at-if1 = at-if2 .before .before in
     let at-state-in = at-if1 .before .before in
     let entry = at-state-in .before .before .before .before in
-    let J = passes (passes (on-close (entry .pre) (at-state-in .state-in .ensures)) (lt-ltb _ _ (at-if1 .if1 .left))) (lt-ltb _ _ (at-if2 .if2 .left)) in
+    let J = test-passes (test-passes (on-close (entry .pre) (at-state-in .state-in .ensures)) (lt-ltb _ _ (at-if1 .if1 .left))) (lt-ltb _ _ (at-if2 .if2 .left)) in
     let o = ap (λ (u : State). u .inner) (at-outer-of .outer-of .ensures .is) in
-    (rw (c .if4 .taken, o) at (c .before .before .before .pass-one .ensures)) ∙ sym (all-passed (passes J (ap not (ne-eqb _ _ (at-if3 .if3 .left)))))
+    (rw (c .if4 .taken, o) at (c .before .before .before .pass-one .ensures)) ∙ sym (all-passed (test-passes J (ap not (ne-eqb _ _ (at-if3 .if3 .left)))))
 
 same-length-5 : tie.Need-same-length-5
 same-length-5 c = search needs
@@ -80,9 +80,9 @@ returns-5 c =
     let at-if1 = at-if2 .before .before in
     let at-state-in = at-if1 .before .before in
     let entry = at-state-in .before .before .before .before in
-    let J = passes (passes (on-close (entry .pre) (at-state-in .state-in .ensures)) (lt-ltb _ _ (at-if1 .if1 .left))) (lt-ltb _ _ (at-if2 .if2 .left)) in
+    let J = test-passes (test-passes (on-close (entry .pre) (at-state-in .state-in .ensures)) (lt-ltb _ _ (at-if1 .if1 .left))) (lt-ltb _ _ (at-if2 .if2 .left)) in
     let o = ap (λ (u : State). u .inner) (at-outer-of .outer-of .ensures .is) in
-    (rw (c .if4 .left, o) at (c .before .before .before .pass-one .ensures)) ∙ sym (all-passed (passes J (ap not (ne-eqb _ _ (at-if3 .if3 .left)))))
+    (rw (c .if4 .left, o) at (c .before .before .before .pass-one .ensures)) ∙ sym (all-passed (test-passes J (ap not (ne-eqb _ _ (at-if3 .if3 .left)))))
 
 pub close-spec : {M : Type 1} → statement M
 close-spec =

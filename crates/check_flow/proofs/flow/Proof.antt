@@ -5,7 +5,7 @@ use native.Mathlib.Omega.{arith}
 use lib.ListN.{length}
 use Rattle.laws_file.specs.Walk.{after-above}
 use Rattle.check_flow.specs.Ways.{Bounds}
-use Rattle.check_flow.specs.Flowing.{Flowing, first-whole, begun-table, head-size, flowing-start, flowing-inside, flowing-head, flowing-here, flowing-fault, flowing-take, flowing-end}
+use Rattle.check_flow.specs.Flowing.{Flowing, begun-whole, begun-table, head-size, flowing-start, flowing-inside, flowing-head, flowing-here, flowing-fault, flowing-take, flowing-end}
 use Rattle.check_flow.proofs.flow.Statement.{statement}
 use Rattle.check_flow.proofs.flow.Tie as tie
 
@@ -17,7 +17,7 @@ abbrev μ-loop : tie.MeasureT-loop
 μ-loop file m₀ table k n p₀ c₀ head₀ limits₀ m p c head limits = length file - p
 
 limits-of-requires : tie.Need-limits-of-requires Inv-loop μ-loop
-limits-of-requires c κs = let a = c .before .before .args in first-whole (a .file .now) (a .m .now) (a .table .now) (a .k) (c .before .before .pre)
+limits-of-requires c κs = let a = c .before .before .args in begun-whole (a .file .now) (a .m .now) (a .table .now) (a .k) (c .before .before .pre)
 
 loop-holds : tie.Need-loop-holds Inv-loop μ-loop
 loop-holds c =

@@ -1,7 +1,7 @@
 -- `check_flow::jump`: the tests in their order (`on-jump`), then the state passed to the target.
 use mathlib.Core.Path.{sym, _∙_}
 use borrow.Author.Tests.{lt-ltb, le-ltb}
-use Rattle.check_flow.specs.Ways.{stops, passes, all-passed, own-place, here-place, ends-low, takes-jump, on-jump}
+use Rattle.check_flow.specs.Ways.{stops, test-passes, all-passed, own-place, here-place, ends-low, takes-jump, on-jump}
 use borrow.Author.Needs.{needs}
 use Rattle.check_flow.proofs.jump.Statement.{statement}
 use Rattle.check_flow.proofs.jump.Tie as tie
@@ -21,7 +21,7 @@ returns : tie.Need-returns
 returns c =
     let at-own = c .before .before .before .before .before in
     let entry = at-own .before .before .before .before in
-    stops (passes (on-jump (entry .pre) (c .before .before .state-in .ensures)) (sym (at-own .own .ensures) ∙ c .before .before .before .before .if1 .taken)) (le-ltb _ _ (c .if2 .taken))
+    stops (test-passes (on-jump (entry .pre) (c .before .before .state-in .ensures)) (sym (at-own .own .ensures) ∙ c .before .before .before .before .if1 .taken)) (le-ltb _ _ (c .if2 .taken))
 
 pass-one-requires : tie.Need-pass-one-requires
 pass-one-requires c κs =
@@ -41,8 +41,8 @@ returns-2 c =
     let at-if1 = at-state-in .before .before in
     let at-own = at-if1 .before in
     let entry = at-own .before .before .before .before in
-    let J = passes (on-jump (entry .pre) (at-state-in .state-in .ensures)) (sym (at-own .own .ensures) ∙ at-if1 .if1 .taken) in
-    (rw (c .if3 .taken) at (c .before .before .before .pass-one .ensures)) ∙ sym (all-passed (passes J (lt-ltb _ _ (at-if2 .if2 .left))))
+    let J = test-passes (on-jump (entry .pre) (at-state-in .state-in .ensures)) (sym (at-own .own .ensures) ∙ at-if1 .if1 .taken) in
+    (rw (c .if3 .taken) at (c .before .before .before .pass-one .ensures)) ∙ sym (all-passed (test-passes J (lt-ltb _ _ (at-if2 .if2 .left))))
 
 same-length-3 : tie.Need-same-length-3
 same-length-3 c = search needs
@@ -54,8 +54,8 @@ returns-3 c =
     let at-if1 = at-state-in .before .before in
     let at-own = at-if1 .before in
     let entry = at-own .before .before .before .before in
-    let J = passes (on-jump (entry .pre) (at-state-in .state-in .ensures)) (sym (at-own .own .ensures) ∙ at-if1 .if1 .taken) in
-    (rw (c .if3 .left) at (c .before .before .before .pass-one .ensures)) ∙ sym (all-passed (passes J (lt-ltb _ _ (at-if2 .if2 .left))))
+    let J = test-passes (on-jump (entry .pre) (at-state-in .state-in .ensures)) (sym (at-own .own .ensures) ∙ at-if1 .if1 .taken) in
+    (rw (c .if3 .left) at (c .before .before .before .pass-one .ensures)) ∙ sym (all-passed (test-passes J (lt-ltb _ _ (at-if2 .if2 .left))))
 
 same-length-4 : tie.Need-same-length-4
 same-length-4 c = search needs

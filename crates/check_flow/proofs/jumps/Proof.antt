@@ -4,9 +4,9 @@ use mathlib.Core.Path.{_≡_, _∙_, ap, refl, sym}
 use native.Mathlib.Omega.{arith}
 use Rattle.model.specs.File.{codes, bodies, bodyOf, forwards, insOf}
 use Rattle.check_rows.specs.Shape.{Jump, Branch, Keep, shapeOf}
-use Rattle.check_rows.specs.Site.{room}
-use Rattle.check_rows.specs.Kinds.{body-jumps, each}
-use Rattle.check_flow.specs.Ways.{leads, led}
+use Rattle.check_rows.specs.Site.{body-room}
+use Rattle.check_rows.specs.Kinds.{body-jumps, each-from}
+use Rattle.check_flow.specs.Ways.{leadsTo, led}
 use borrow.Author.Needs.{needs}
 use Rattle.check_flow.proofs.jumps.Statement.{statement}
 use Rattle.check_flow.proofs.jumps.Tie as tie
@@ -14,51 +14,51 @@ use Rattle.check_flow.proofs.jumps.Tie as tie
 forwards-requires : tie.Need-forwards-requires
 forwards-requires c κs =
     let entry = c .before .before .before .before in
-    room (entry .pre .0 .here .site) 2 (ap bodyOf (entry .pre .0 .kind-is) ∙ body-jumps _ (entry .pre .1) (entry .pre .2))
+    body-room (entry .pre .0 .here .site) 2 (ap bodyOf (entry .pre .0 .kind-is) ∙ body-jumps _ (entry .pre .1) (entry .pre .2))
 
 jump-requires : tie.Need-jump-requires
 unfolding insOf shapeOf bodyOf bodies codes
 jump-requires c κs =
     let entry = c .before .before .before .before .before in
-    led (entry .pre .0) 1 3 (leads Jump 0 _) (c .before .before .match .keys1) refl (ap (leads Jump 0) (sym (c .forwards .ensures .is)))
+    led (entry .pre .0) 1 3 (leadsTo Jump 0 _) (c .before .before .match .keys1) refl (ap (leadsTo Jump 0) (sym (c .forwards .ensures .is)))
 
 backwards-requires : tie.Need-backwards-requires
 backwards-requires c κs =
     let entry = c .before .before .before .before in
-    room (entry .pre .0 .here .site) 2 (ap bodyOf (entry .pre .0 .kind-is) ∙ body-jumps _ (entry .pre .1) (entry .pre .2))
+    body-room (entry .pre .0 .here .site) 2 (ap bodyOf (entry .pre .0 .kind-is) ∙ body-jumps _ (entry .pre .1) (entry .pre .2))
 
 jump-requires-2 : tie.Need-jump-requires-2
 unfolding insOf shapeOf bodyOf bodies codes
 jump-requires-2 c κs =
     let entry = c .before .before .before .before .before in
-    led (entry .pre .0) 3 3 (leads Jump 0 _) (c .before .before .match .keys2) refl (ap (leads Jump 0) (sym (c .backwards .ensures .is)))
+    led (entry .pre .0) 3 3 (leadsTo Jump 0 _) (c .before .before .match .keys2) refl (ap (leadsTo Jump 0) (sym (c .backwards .ensures .is)))
 
 forwards-requires-2 : tie.Need-forwards-requires-2
 forwards-requires-2 c κs =
     let entry = c .before .before .before .before in
-    room (entry .pre .0 .here .site) 2 (ap bodyOf (entry .pre .0 .kind-is) ∙ body-jumps _ (entry .pre .1) (entry .pre .2))
+    body-room (entry .pre .0 .here .site) 2 (ap bodyOf (entry .pre .0 .kind-is) ∙ body-jumps _ (entry .pre .1) (entry .pre .2))
 
 branch-requires : tie.Need-branch-requires
 unfolding insOf shapeOf bodyOf bodies codes
 branch-requires c κs =
     let entry = c .before .before .before .before .before in
-    led (entry .pre .0) 2 3 (leads Branch 1 _) (c .before .before .match .keys3) refl (ap (leads Branch 1) (sym (c .forwards2 .ensures .is)))
+    led (entry .pre .0) 2 3 (leadsTo Branch 1 _) (c .before .before .match .keys3) refl (ap (leadsTo Branch 1) (sym (c .forwards2 .ensures .is)))
 
 backwards-requires-2 : tie.Need-backwards-requires-2
 backwards-requires-2 c κs =
     let entry = c .before .before .before .before in
-    room (entry .pre .0 .here .site) 2 (ap bodyOf (entry .pre .0 .kind-is) ∙ body-jumps _ (entry .pre .1) (entry .pre .2))
+    body-room (entry .pre .0 .here .site) 2 (ap bodyOf (entry .pre .0 .kind-is) ∙ body-jumps _ (entry .pre .1) (entry .pre .2))
 
 branch-requires-2 : tie.Need-branch-requires-2
 unfolding insOf shapeOf bodyOf bodies codes
 branch-requires-2 c κs =
     let entry = c .before .before .before .before .before in
-    led (entry .pre .0) 4 3 (leads Branch 1 _) (c .before .before .match .keys4) refl (ap (leads Branch 1) (sym (c .backwards2 .ensures .is)))
+    led (entry .pre .0) 4 3 (leadsTo Branch 1 _) (c .before .before .match .keys4) refl (ap (leadsTo Branch 1) (sym (c .backwards2 .ensures .is)))
 
 forwards-requires-3 : tie.Need-forwards-requires-3
 forwards-requires-3 c κs =
     let entry = c .before .before .before .before in
-    room (entry .pre .0 .here .site) 2 (ap bodyOf (entry .pre .0 .kind-is) ∙ body-jumps _ (entry .pre .1) (entry .pre .2))
+    body-room (entry .pre .0 .here .site) 2 (ap bodyOf (entry .pre .0 .kind-is) ∙ body-jumps _ (entry .pre .1) (entry .pre .2))
 
 branch-requires-3 : tie.Need-branch-requires-3
 unfolding insOf shapeOf bodyOf bodies codes
@@ -66,10 +66,10 @@ branch-requires-3 c κs =
     let entry = c .before .before .before .before .before in
     let f = entry .args .file .now in
     let p = entry .args .p in
-    led (entry .pre .0) (entry .args .kind) 3 (leads Keep 1 _) refl
-    (each (λ n. suc (bodyOf n) ≡ 3) 2 5 (refl, (refl, tt)) (entry .args .kind) (omega arith) (omega arith))
-    (each (λ n. shapeOf f p (insOf f p n) ≡ leads Keep 1 (forwards f p)) 2 5 (refl, (refl, tt)) (entry .args .kind) (omega arith) (omega arith)
-    ∙ ap (leads Keep 1) (sym (c .forwards3 .ensures .is)))
+    led (entry .pre .0) (entry .args .kind) 3 (leadsTo Keep 1 _) refl
+    (each-from (λ n. suc (bodyOf n) ≡ 3) 2 5 (refl, (refl, tt)) (entry .args .kind) (omega arith) (omega arith))
+    (each-from (λ n. shapeOf f p (insOf f p n) ≡ leadsTo Keep 1 (forwards f p)) 2 5 (refl, (refl, tt)) (entry .args .kind) (omega arith) (omega arith)
+    ∙ ap (leadsTo Keep 1) (sym (c .forwards3 .ensures .is)))
 
 same-length : tie.Need-same-length
 same-length c = search needs

@@ -3,7 +3,7 @@ use mathlib.Core.Path.{sym, _∙_, ap}
 use borrow.Author.Tests.{lt-ltb, le-ltb, eq-eqb, ne-eqb}
 use Rattle.code_file.specs.declared.Head.{Head}
 use Rattle.code_file.specs.Heads.{headBytes}
-use Rattle.check_flow.specs.Ways.{stops, passes, all-passed, here-place, on-return}
+use Rattle.check_flow.specs.Ways.{stops, test-passes, all-passed, here-place, on-return}
 use Rattle.check_flow.proofs.leave.Statement.{statement}
 use Rattle.check_flow.proofs.leave.Tie as tie
 
@@ -24,7 +24,7 @@ returns-2 c =
     let at-state-in = c .before .before .before .before .before in
     let at-head-at = at-state-in .before in
     let entry = at-head-at .before .before .before in
-    let J = passes (on-return (entry .pre) (at-state-in .state-in .ensures)) (lt-ltb _ _ (c .before .before .before .if1 .left)) in
+    let J = test-passes (on-return (entry .pre) (at-state-in .state-in .ensures)) (lt-ltb _ _ (c .before .before .before .if1 .left)) in
     stops J (ne-eqb _ _ (λ e. (c .if2 .taken) (e ∙ sym (ap (λ (w : Head). w .r) (at-head-at .head-at .ensures .is)))))
 
 returns-3 : tie.Need-returns-3
@@ -34,10 +34,10 @@ returns-3 c =
     let at-state-in = at-if1 .before .before in
     let at-head-at = at-state-in .before in
     let entry = at-head-at .before .before .before in
-    let J = passes (on-return (entry .pre) (at-state-in .state-in .ensures)) (lt-ltb _ _ (at-if1 .if1 .left)) in
+    let J = test-passes (on-return (entry .pre) (at-state-in .state-in .ensures)) (lt-ltb _ _ (at-if1 .if1 .left)) in
     let r = ap (λ (w : Head). w .r) (at-head-at .head-at .ensures .is) in
     let s = ap (λ (w : Head). w .s) (at-head-at .head-at .ensures .is) in
-    stops (passes J (eq-eqb _ _ (c .before .before .before .if2 .left ∙ r))) (ne-eqb _ _ (λ e. (c .if3 .taken) (e ∙ sym s)))
+    stops (test-passes J (eq-eqb _ _ (c .before .before .before .if2 .left ∙ r))) (ne-eqb _ _ (λ e. (c .if3 .taken) (e ∙ sym s)))
 
 returns-4 : tie.Need-returns-4
 unfolding headBytes
@@ -47,10 +47,10 @@ returns-4 c =
     let at-state-in = at-if1 .before .before in
     let at-head-at = at-state-in .before in
     let entry = at-head-at .before .before .before in
-    let J = passes (on-return (entry .pre) (at-state-in .state-in .ensures)) (lt-ltb _ _ (at-if1 .if1 .left)) in
+    let J = test-passes (on-return (entry .pre) (at-state-in .state-in .ensures)) (lt-ltb _ _ (at-if1 .if1 .left)) in
     let r = ap (λ (w : Head). w .r) (at-head-at .head-at .ensures .is) in
     let s = ap (λ (w : Head). w .s) (at-head-at .head-at .ensures .is) in
-    stops (passes (passes J (eq-eqb _ _ (at-if2 .if2 .left ∙ r))) (eq-eqb _ _ (c .before .before .if3 .left ∙ s))) (ne-eqb _ _ (c .if4 .taken))
+    stops (test-passes (test-passes J (eq-eqb _ _ (at-if2 .if2 .left ∙ r))) (eq-eqb _ _ (c .before .before .if3 .left ∙ s))) (ne-eqb _ _ (c .if4 .taken))
 
 returns-5 : tie.Need-returns-5
 unfolding headBytes
@@ -60,10 +60,10 @@ returns-5 c =
     let at-state-in = at-if1 .before .before in
     let at-head-at = at-state-in .before in
     let entry = at-head-at .before .before .before in
-    let J = passes (on-return (entry .pre) (at-state-in .state-in .ensures)) (lt-ltb _ _ (at-if1 .if1 .left)) in
+    let J = test-passes (on-return (entry .pre) (at-state-in .state-in .ensures)) (lt-ltb _ _ (at-if1 .if1 .left)) in
     let r = ap (λ (w : Head). w .r) (at-head-at .head-at .ensures .is) in
     let s = ap (λ (w : Head). w .s) (at-head-at .head-at .ensures .is) in
-    sym (all-passed (passes (passes (passes J (eq-eqb _ _ (at-if2 .if2 .left ∙ r))) (eq-eqb _ _ (c .before .before .if3 .left ∙ s))) (eq-eqb _ _ (c .if4 .left))))
+    sym (all-passed (test-passes (test-passes (test-passes J (eq-eqb _ _ (at-if2 .if2 .left ∙ r))) (eq-eqb _ _ (c .before .before .if3 .left ∙ s))) (eq-eqb _ _ (c .if4 .left))))
 
 pub leave-spec : {M : Type 1} → statement M
 leave-spec =

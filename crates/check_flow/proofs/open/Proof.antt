@@ -3,7 +3,7 @@ use Prim.Native.Nat.{suc}
 use mathlib.Core.Path.{sym, _∙_}
 use native.Mathlib.Omega.{arith}
 use borrow.Author.Tests.{lt-ltb, le-ltb, lt-leb, le-leb}
-use Rattle.check_flow.specs.Ways.{stops, passes, all-passed, own-place, next-place, here-place, ends-low, takes-open, on-open}
+use Rattle.check_flow.specs.Ways.{stops, test-passes, all-passed, own-place, next-place, here-place, ends-low, takes-open, on-open}
 use borrow.Author.Needs.{needs}
 use Rattle.check_flow.proofs.open.Statement.{statement}
 use Rattle.check_flow.proofs.open.Tie as tie
@@ -21,7 +21,7 @@ returns : tie.Need-returns
 returns c =
     let entry = c .before .before .before .before .before .before in
     let J = takes-open _ _ _ _ _ (entry .pre .here) (entry .pre .bounds) _ (entry .pre .shape-is) in
-    stops (passes J (sym (c .before .before .own .ensures) ∙ c .before .if1 .taken)) (lt-leb (suc (entry .args .p)) (entry .args .target) (omega (arith, c .if2 .taken)))
+    stops (test-passes J (sym (c .before .before .own .ensures) ∙ c .before .if1 .taken)) (lt-leb (suc (entry .args .p)) (entry .args .target) (omega (arith, c .if2 .taken)))
 
 state-in-requires : tie.Need-state-in-requires
 state-in-requires c κs =
@@ -36,8 +36,8 @@ returns-2 c =
     let at-if1 = c .before .before .before .before .before in
     let at-own = at-if1 .before in
     let entry = at-own .before .before .before .before in
-    let J = passes (on-open (entry .pre) (c .before .before .state-in .ensures)) (sym (at-own .own .ensures) ∙ at-if1 .if1 .taken) in
-    stops (passes J (le-leb (suc (entry .args .p)) (entry .args .target) (omega (arith, c .before .before .before .before .if2 .left)))) (le-ltb _ _ (c .if3 .taken))
+    let J = test-passes (on-open (entry .pre) (c .before .before .state-in .ensures)) (sym (at-own .own .ensures) ∙ at-if1 .if1 .taken) in
+    stops (test-passes J (le-leb (suc (entry .args .p)) (entry .args .target) (omega (arith, c .before .before .before .before .if2 .left)))) (le-ltb _ _ (c .if3 .taken))
 
 same-length-3 : tie.Need-same-length-3
 same-length-3 c = search needs
@@ -48,8 +48,8 @@ returns-3 c =
     let at-if1 = at-if2 .before in
     let at-own = at-if1 .before in
     let entry = at-own .before .before .before .before in
-    let J = passes (on-open (entry .pre) (c .before .before .before .before .state-in .ensures)) (sym (at-own .own .ensures) ∙ at-if1 .if1 .taken) in
-    stops (passes (passes J (le-leb (suc (entry .args .p)) (entry .args .target) (omega (arith, at-if2 .if2 .left)))) (lt-ltb _ _ (c .before .before .if3 .left))) (le-ltb _ _ (c .if4 .taken))
+    let J = test-passes (on-open (entry .pre) (c .before .before .before .before .state-in .ensures)) (sym (at-own .own .ensures) ∙ at-if1 .if1 .taken) in
+    stops (test-passes (test-passes J (le-leb (suc (entry .args .p)) (entry .args .target) (omega (arith, at-if2 .if2 .left)))) (lt-ltb _ _ (c .before .before .if3 .left))) (le-ltb _ _ (c .if4 .taken))
 
 same-length-4 : tie.Need-same-length-4
 same-length-4 c = search needs
@@ -62,8 +62,8 @@ returns-4 c =
     let at-if1 = at-if2 .before in
     let at-own = at-if1 .before in
     let entry = at-own .before .before .before .before in
-    let J = passes (on-open (entry .pre) (at-state-in .state-in .ensures)) (sym (at-own .own .ensures) ∙ at-if1 .if1 .taken) in
-    let K = passes (passes (passes J (le-leb (suc (entry .args .p)) (entry .args .target) (omega (arith, at-if2 .if2 .left))))
+    let J = test-passes (on-open (entry .pre) (at-state-in .state-in .ensures)) (sym (at-own .own .ensures) ∙ at-if1 .if1 .taken) in
+    let K = test-passes (test-passes (test-passes J (le-leb (suc (entry .args .p)) (entry .args .target) (omega (arith, at-if2 .if2 .left))))
     (lt-ltb _ _ (at-if3 .if3 .left))) (lt-ltb _ _ (c .before .before .before .if4 .left)) in
     stops K (lt-leb (suc (at-state-in .state-in .result .main)) (entry .args .limits .x) (omega (arith, c .if5 .taken)))
 
@@ -98,9 +98,9 @@ returns-5 c =
     let at-if1 = at-if2 .before in
     let at-own = at-if1 .before in
     let entry = at-own .before .before .before .before in
-    let J = passes (on-open (entry .pre) (at-state-in .state-in .ensures)) (sym (at-own .own .ensures) ∙ at-if1 .if1 .taken) in
-    let K = passes (passes (passes J (le-leb (suc (entry .args .p)) (entry .args .target) (omega (arith, at-if2 .if2 .left)))) (lt-ltb _ _ (at-if3 .if3 .left))) (lt-ltb _ _ (at-if4 .if4 .left)) in
-    c .before .before .pass-both .ensures ∙ sym (all-passed (passes K (le-leb (suc (at-state-in .state-in .result .main)) (entry .args .limits .x) (omega (arith, at-if5 .if5 .left)))))
+    let J = test-passes (on-open (entry .pre) (at-state-in .state-in .ensures)) (sym (at-own .own .ensures) ∙ at-if1 .if1 .taken) in
+    let K = test-passes (test-passes (test-passes J (le-leb (suc (entry .args .p)) (entry .args .target) (omega (arith, at-if2 .if2 .left)))) (lt-ltb _ _ (at-if3 .if3 .left))) (lt-ltb _ _ (at-if4 .if4 .left)) in
+    c .before .before .pass-both .ensures ∙ sym (all-passed (test-passes K (le-leb (suc (at-state-in .state-in .result .main)) (entry .args .limits .x) (omega (arith, at-if5 .if5 .left)))))
 
 same-length-6 : tie.Need-same-length-6
 same-length-6 c = search needs

@@ -1,13 +1,13 @@
 -- `check_flow::outer_of` meets its contract: with no handler open the floor is 0, else the map has the handler's state.
 use native.Mathlib.Omega.{arith}
 use Rattle.check_rows.specs.Tests.{asState}
-use Rattle.check_flow.specs.Faults.{outer-none, outer-some}
+use Rattle.check_flow.specs.Faults.{none-innermost, outer-some}
 use mathlib.Core.Logic.{⊎-elim}
 use Rattle.check_flow.proofs.outer_of.Statement.{statement}
 use Rattle.check_flow.proofs.outer_of.Tie as tie
 
 returns : tie.Need-returns
-returns c = record { is = outer-none (c .before .before .args .m .now) (asState (c .before .before .args .s)) (c .if1 .taken); inner-small = omega arith }
+returns c = record { is = none-innermost (c .before .before .args .m .now) (asState (c .before .before .args .s)) (c .if1 .taken); inner-small = omega arith }
 
 state-in-requires : tie.Need-state-in-requires
 state-in-requires c κs = ⊎-elim (λ z. absurd (c .if1 .left z)) (λ z. z) (c .before .before .pre)

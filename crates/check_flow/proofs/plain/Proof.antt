@@ -1,6 +1,6 @@
 -- `check_flow::plain`: what the instruction comes to (`takes-plain`), then its state passed to the next one.
 use native.Mathlib.Omega.{arith}
-use Rattle.check_flow.specs.Ways.{here-place, next-place, held-here, bounded-here, onwards, plain-passed, plain-refused, plain-stopped}
+use Rattle.check_flow.specs.Ways.{here-place, next-place, held-here, bounded-here, onwards-taken, plain-passed, plain-refused, plain-stopped}
 use borrow.Author.Needs.{needs}
 use Rattle.check_flow.proofs.plain.Statement.{statement}
 use Rattle.check_flow.proofs.plain.Tie as tie
@@ -26,7 +26,7 @@ pass-one-requires c κs =
     let entry = at-state-in .before .before .before .before in
     let A = entry .pre .1 in
     let S = at-state-in .state-in .ensures in
-    let W = onwards A (entry .pre .2) (entry .pre .3) S (at-outer-of .outer-of .ensures) (c .before .before .plain-at .ensures) in
+    let W = onwards-taken A (entry .pre .2) (entry .pre .3) S (at-outer-of .outer-of .ensures) (c .before .before .plain-at .ensures) in
     let w = W .pass (c .before .if1 .taken) in
     let v = next-place (A .here) _ (w .2) in
     let x = bounded-here (A .here) (A .bounds) S (at-outer-of .outer-of .ensures) in
@@ -45,7 +45,7 @@ returns c =
     let at-outer-of = at-plain-at .before in
     let at-state-in = at-outer-of .before .before in
     let entry = at-state-in .before .before .before .before in
-    let W = onwards (entry .pre .1) (entry .pre .2) (entry .pre .3) (at-state-in .state-in .ensures) (at-outer-of .outer-of .ensures) (at-plain-at .plain-at .ensures) in
+    let W = onwards-taken (entry .pre .1) (entry .pre .2) (entry .pre .3) (at-state-in .state-in .ensures) (at-outer-of .outer-of .ensures) (at-plain-at .plain-at .ensures) in
     rw (c .done .ensures) (plain-passed W (at-state-in .state-in .ensures) (at-if1 .if1 .taken) (rw (c .before .if2 .taken) at (c .before .before .before .before .pass-one .ensures)))
 
 done-requires-2 : tie.Need-done-requires-2
@@ -61,7 +61,7 @@ returns-2 c =
     let at-outer-of = at-plain-at .before in
     let at-state-in = at-outer-of .before .before in
     let entry = at-state-in .before .before .before .before in
-    let W = onwards (entry .pre .1) (entry .pre .2) (entry .pre .3) (at-state-in .state-in .ensures) (at-outer-of .outer-of .ensures) (at-plain-at .plain-at .ensures) in
+    let W = onwards-taken (entry .pre .1) (entry .pre .2) (entry .pre .3) (at-state-in .state-in .ensures) (at-outer-of .outer-of .ensures) (at-plain-at .plain-at .ensures) in
     rw (c .done2 .ensures) (plain-refused W (at-state-in .state-in .ensures) (at-if1 .if1 .taken) (rw (c .before .if2 .left) at (c .before .before .before .before .pass-one .ensures)))
 
 done-requires-3 : tie.Need-done-requires-3
@@ -74,7 +74,7 @@ returns-3 : tie.Need-returns-3
 returns-3 c =
     let at-state-in = c .before .before .before .before .before in
     let entry = at-state-in .before .before .before .before in
-    let W = onwards (entry .pre .1) (entry .pre .2) (entry .pre .3) (at-state-in .state-in .ensures) (c .before .before .before .outer-of .ensures) (c .before .before .plain-at .ensures) in
+    let W = onwards-taken (entry .pre .1) (entry .pre .2) (entry .pre .3) (at-state-in .state-in .ensures) (c .before .before .before .outer-of .ensures) (c .before .before .plain-at .ensures) in
     rw (c .done3 .ensures) (plain-stopped W (c .before .if1 .left))
 
 pub plain-spec : {M : Type 1} → statement M

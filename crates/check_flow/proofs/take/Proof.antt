@@ -6,16 +6,16 @@ use native.Mathlib.Omega.{arith}
 use Rattle.model.specs.File.{codes, bodies, bodyOf, insOf}
 use Rattle.model.specs.Checker.{handlerAt}
 use Rattle.check_rows.specs.Shape.{Open, Close, Return, shapeOf}
-use Rattle.check_rows.specs.Site.{room}
-use Rattle.check_rows.specs.Kinds.{Aside, body-jumps}
-use Rattle.check_flow.specs.Ways.{leads, led, here-place, took}
+use Rattle.check_rows.specs.Site.{body-room}
+use Rattle.check_rows.specs.Kinds.{NoJump, body-jumps}
+use Rattle.check_flow.specs.Ways.{leadsTo, led, here-place, took}
 use borrow.Author.Needs.{needs}
 use Rattle.check_flow.proofs.take.Statement.{statement}
 use Rattle.check_flow.proofs.take.Tie as tie
 
 leave-requires : tie.Need-leave-requires
 unfolding insOf shapeOf bodyOf bodies codes
-leave-requires c κs = led (c .before .before .before .before .pre .1) 73 1 (leads Return 0 0) (c .before .match .keys1) refl refl
+leave-requires c κs = led (c .before .before .before .before .pre .1) 73 1 (leadsTo Return 0 0) (c .before .match .keys1) refl refl
 
 add-done : tie.Need-add-done
 add-done c =
@@ -29,7 +29,7 @@ operand-requires : tie.Need-operand-requires
 unfolding bodyOf bodies codes
 operand-requires c κs =
     let entry = c .before .before .before .before in
-    room (entry .pre .1 .here .site) 2 (ap bodyOf (entry .pre .1 .kind-is ∙ c .before .match .keys2))
+    body-room (entry .pre .1 .here .site) 2 (ap bodyOf (entry .pre .1 .kind-is ∙ c .before .match .keys2))
 
 add-open : tie.Need-add-open
 add-open c = search needs
@@ -38,7 +38,7 @@ open-requires : tie.Need-open-requires
 unfolding insOf shapeOf bodyOf bodies codes handlerAt
 open-requires c κs =
     let entry = c .before .before .before .before .before in
-    led (entry .pre .1) 160 3 (leads Open 0 _) (c .before .before .match .keys2) refl (rw (c .operand .ensures .is, entry .pre .1 .here .head))
+    led (entry .pre .1) 160 3 (leadsTo Open 0 _) (c .before .before .match .keys2) refl (rw (c .operand .ensures .is, entry .pre .1 .here .head))
 
 add-done-2 : tie.Need-add-done-2
 add-done-2 c =
@@ -50,7 +50,7 @@ done-requires-2 c κs = search needs
 
 close-requires : tie.Need-close-requires
 unfolding insOf shapeOf bodyOf bodies codes
-close-requires c κs = led (c .before .before .before .before .pre .1) 161 1 (leads Close 0 0) (c .before .match .keys3) refl refl
+close-requires c κs = led (c .before .before .before .before .pre .1) 161 1 (leadsTo Close 0 0) (c .before .match .keys3) refl refl
 
 add-done-3 : tie.Need-add-done-3
 add-done-3 c =
@@ -76,7 +76,7 @@ done-requires-4 c κs = search needs
 plain-requires : tie.Need-plain-requires
 plain-requires c κs =
     let entry = c .before .before .before .before .before in
-    let aside : Aside (entry .args .kind) = ⊎-elim (λ t. inl (omega arith)) (λ t. inr (omega arith)) (c .before .if1 .came) in
+    let aside : NoJump (entry .args .kind) = ⊎-elim (λ t. inl (omega arith)) (λ t. inr (omega arith)) (c .before .if1 .came) in
     let r = c .before .before .match .rest in
     (entry .pre .0, entry .pre .1, aside, ((((tt, entry .pre .2), r .0 .0 .1), r .0 .1), r .1))
 

@@ -3,7 +3,7 @@ use mathlib.Core.Path.{sym, _∙_, refl}
 use borrow.Author.Tests.{lt-ltb}
 use Rattle.check_rows.specs.Shape.{Next}
 use Rattle.check_rows.specs.Tests.{stacks-fit}
-use Rattle.check_rows.specs.Rows.{unreached, past, deep, onward}
+use Rattle.check_rows.specs.Rows.{unreached-refused, past, deep, onward}
 use borrow.Author.Needs.{needs}
 use Rattle.check_rows.proofs.moves.Statement.{statement}
 use Rattle.check_rows.proofs.moves.Tie as tie
@@ -12,7 +12,7 @@ refuse-requires : tie.Need-refuse-requires
 refuse-requires c κs = search needs
 
 returns : tie.Need-returns
-returns c = c .refuse .ensures ∙ unreached _ _ _ _ _ _ (c .before .if1 .taken)
+returns c = c .refuse .ensures ∙ unreached-refused _ _ _ _ _ _ (c .before .if1 .taken)
 
 refuse-requires-2 : tie.Need-refuse-requires-2
 refuse-requires-2 c κs = search needs

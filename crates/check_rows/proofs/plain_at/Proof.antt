@@ -6,9 +6,9 @@ use mathlib.Core.Path.{_≡_, _∙_, refl, ap}
 use native.Mathlib.Omega.{arith}
 use Rattle.model.specs.File.{codes, bodies, bodyOf, insOf}
 use Rattle.model.specs.Checker.{basicEffect}
-use Rattle.laws_file.specs.Kinds.{every}
+use Rattle.laws_file.specs.Kinds.{at-each}
 use Rattle.check_rows.specs.Shape.{Next, Raise, shapeOf}
-use Rattle.check_rows.specs.Site.{room, low}
+use Rattle.check_rows.specs.Site.{body-room, low}
 use Rattle.check_rows.specs.Kinds.{body-locals, body-blocks, ins-raise, body-raise}
 use Rattle.check_rows.specs.Rows.{row, rowShape, at-row}
 use Rattle.check_rows.proofs.plain_at.Statement.{statement}
@@ -28,7 +28,7 @@ step-requires-4 c κs = (c .before .before .pre .5, low (c .before .before .pre 
 
 blocks-requires : tie.Need-blocks-requires
 blocks-requires c κs = (
-  room (c .before .before .pre .1) 4 (ap bodyOf (c .before .before .pre .2) ∙ body-blocks _ (c .match .keys5)),
+  body-room (c .before .before .pre .1) 4 (ap bodyOf (c .before .before .pre .2) ∙ body-blocks _ (c .match .keys5)),
   low (c .before .before .pre .1),
   c .match .keys5,
   c .before .before .pre .5,
@@ -53,7 +53,7 @@ calls-requires : tie.Need-calls-requires
 unfolding bodyOf bodies codes
 calls-requires c κs = (
   c .before .before .pre .0,
-  room (c .before .before .pre .1) 2 (ap bodyOf (c .before .before .pre .2 ∙ c .match .keys11)),
+  body-room (c .before .before .pre .1) 2 (ap bodyOf (c .before .before .pre .2 ∙ c .match .keys11)),
   low (c .before .before .pre .1),
   c .before .before .pre .5,
 )
@@ -73,7 +73,7 @@ step-requires-13 c κs = (c .before .before .pre .5, low (c .before .before .pre
 locals-requires : tie.Need-locals-requires
 locals-requires c κs =
     let entry = c .before .before .before .before in
-    (room (entry .pre .1) 2 (ap bodyOf (entry .pre .2) ∙ body-locals _ (omega arith) (omega arith)), omega arith, omega arith, entry .pre .5)
+    (body-room (entry .pre .1) 2 (ap bodyOf (entry .pre .2) ∙ body-locals _ (omega arith) (omega arith)), omega arith, omega arith, entry .pre .5)
 
 raises-requires : tie.Need-raises-requires
 raises-requires c κs =
@@ -134,9 +134,9 @@ returns-13 c =
     let f = entry .args .file .now in
     let p = entry .args .p in
     at-row f p _ 1 _ _ _ (rowShape Next (row 1 0 1 0 0 0)) _ (entry .pre .2)
-    (every (λ n. suc (bodyOf n) ≡ 1) (144 ∷ 146 ∷ []) _
+    (at-each (λ n. suc (bodyOf n) ≡ 1) (144 ∷ 146 ∷ []) _
     (refl, (refl, tt)) (c .before .match .keys13))
-    (every (λ n. shapeOf f p (insOf f p n) ≡ rowShape Next (row 1 0 1 0 0 0)) (144 ∷ 146 ∷ []) _
+    (at-each (λ n. shapeOf f p (insOf f p n) ≡ rowShape Next (row 1 0 1 0 0 0)) (144 ∷ 146 ∷ []) _
     (refl, (refl, tt)) (c .before .match .keys13))
     (c .step11 .ensures)
 
@@ -147,9 +147,9 @@ returns-14 c =
     let f = entry .args .file .now in
     let p = entry .args .p in
     at-row f p _ 1 _ _ _ (rowShape Next (row 2 0 1 0 0 0)) _ (entry .pre .2)
-    (every (λ n. suc (bodyOf n) ≡ 1) (130 ∷ 140 ∷ 142 ∷ 145 ∷ 195 ∷ 198 ∷ 201 ∷ 204 ∷ []) _
+    (at-each (λ n. suc (bodyOf n) ≡ 1) (130 ∷ 140 ∷ 142 ∷ 145 ∷ 195 ∷ 198 ∷ 201 ∷ 204 ∷ []) _
     (refl, (refl, (refl, (refl, (refl, (refl, (refl, (refl, tt)))))))) (c .before .match .keys14))
-    (every (λ n. shapeOf f p (insOf f p n) ≡ rowShape Next (row 2 0 1 0 0 0)) (130 ∷ 140 ∷ 142 ∷ 145 ∷ 195 ∷ 198 ∷ 201 ∷ 204 ∷ []) _
+    (at-each (λ n. shapeOf f p (insOf f p n) ≡ rowShape Next (row 2 0 1 0 0 0)) (130 ∷ 140 ∷ 142 ∷ 145 ∷ 195 ∷ 198 ∷ 201 ∷ 204 ∷ []) _
     (refl, (refl, (refl, (refl, (refl, (refl, (refl, (refl, tt)))))))) (c .before .match .keys14))
     (c .step12 .ensures)
 
@@ -160,9 +160,9 @@ returns-15 c =
     let f = entry .args .file .now in
     let p = entry .args .p in
     at-row f p _ 1 _ _ _ (rowShape Next (row 2 0 1 0 0 0)) _ (entry .pre .2)
-    (every (λ n. suc (bodyOf n) ≡ 1) (141 ∷ 143 ∷ []) _
+    (at-each (λ n. suc (bodyOf n) ≡ 1) (141 ∷ 143 ∷ []) _
     (refl, (refl, tt)) (c .before .match .keys15))
-    (every (λ n. shapeOf f p (insOf f p n) ≡ rowShape Next (row 2 0 1 0 0 0)) (141 ∷ 143 ∷ []) _
+    (at-each (λ n. shapeOf f p (insOf f p n) ≡ rowShape Next (row 2 0 1 0 0 0)) (141 ∷ 143 ∷ []) _
     (refl, (refl, tt)) (c .before .match .keys15))
     (c .step13 .ensures)
 

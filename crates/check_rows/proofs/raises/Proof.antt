@@ -5,7 +5,7 @@ use native.Mathlib.Nat.{add-zero, sub-zero}
 use native.Mathlib.Omega.{arith}
 use Rattle.check_rows.specs.Shape.{Raise}
 use Rattle.check_rows.specs.Tests.{asState, stacksOk, stacks-fit}
-use Rattle.check_rows.specs.Rows.{row, unreached, deep, onward}
+use Rattle.check_rows.specs.Rows.{row, unreached-refused, deep, onward}
 use borrow.Author.Needs.{needs}
 use Rattle.check_rows.proofs.raises.Statement.{statement}
 use Rattle.check_rows.proofs.raises.Tie as tie
@@ -17,7 +17,7 @@ refuse-requires : tie.Need-refuse-requires
 refuse-requires c κs = search needs
 
 returns : tie.Need-returns
-returns c = c .refuse .ensures ∙ unreached _ _ _ _ _ _ (c .before .if1 .taken)
+returns c = c .refuse .ensures ∙ unreached-refused _ _ _ _ _ _ (c .before .if1 .taken)
 
 effect-requires : tie.Need-effect-requires
 effect-requires c κs = search needs

@@ -4,7 +4,7 @@ use native.Mathlib.Omega.{arith}
 use borrow.Author.Needs.{needs}
 use Rattle.model.specs.Control.{setRegs, setMain, setPtr, setCtl}
 use Rattle.model.specs.File.{insOf}
-use Rattle.plan_flow.specs.Given.{numbers, no-main, no-ptr, no-ctl, room, planned}
+use Rattle.plan_flow.specs.Given.{numbers, no-main, no-ptr, no-ctl, frame-room, planned}
 use Rattle.plan_flow.proofs.calls.Statement.{statement}
 use Rattle.plan_flow.proofs.calls.Tie as tie
 
@@ -98,7 +98,7 @@ returns-4 c =
     let read = c .before .before .before .before .before .before .before .before .before .before .before in
     let k = numbers _ (read .before .before .before .before .before .before .before .pre .4) (read .before .before .operand .ensures .is)
     (read .head-at .ensures) in
-    c .writes .ensures ∙ room k (setRegs _ (setMain _ (setPtr _ (setCtl _ m)))) _ (c .before .before .before .before .before .if1 .left)
+    c .writes .ensures ∙ frame-room k (setRegs _ (setMain _ (setPtr _ (setCtl _ m)))) _ (c .before .before .before .before .before .if1 .left)
     (c .before .before .before .if2 .left) (c .before .if3 .left)
 
 pub calls-spec : {M : Type 1} → statement M

@@ -6,7 +6,7 @@ use native.Mathlib.Omega.{arith}
 use borrow.Author.Needs.{needs}
 use Rattle.theory_step.specs.Settling.{alive-settles}
 use Rattle.run_steps.specs.Going.{Paused, going-start, going-trans}
-use Rattle.run.specs.Endings.{finished-at, going-finished, going-spent, going-uncaught, going-on}
+use Rattle.run.specs.Endings.{run-finished, going-finished, going-spent, going-uncaught, going-on}
 use Rattle.run.proofs.run_on.Statement.{statement}
 use Rattle.run.proofs.run_on.Tie as tie
 
@@ -31,7 +31,7 @@ answered-requires c κs = search needs
 returns : tie.Need-returns Inv-loop μ-loop
 returns c =
     let back8 = c .before .before .before .before .before .before .before .before in
-    let S = back8 in rw (c .answered .ensures) (sym (finished-at (S .args .file .now) (S .args .table .now) (S .args .budget) 0 (record {
+    let S = back8 in rw (c .answered .ensures) (sym (run-finished (S .args .file .now) (S .args .table .now) (S .args .budget) 0 (record {
       regs = S .args .regs;
       main = S .args .main .now;
       ptr
