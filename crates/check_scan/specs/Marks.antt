@@ -15,6 +15,7 @@ use Rattle.model.specs.Choice.{if_then_else_, Mem, member}
 use Rattle.model.specs.File.{starts, recordsOf, isHead, select, instructions}
 use Rattle.model.specs.Checker.{none, State, state, unset, isSet, Known, stateAt}
 use Rattle.laws_file.specs.Walk.{instructions-are}
+use Rattle.laws.specs.Members.{getD-any}
 
 abbrev pub unreached : ℕ
 unreached = 65534
