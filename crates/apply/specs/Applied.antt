@@ -18,7 +18,7 @@ use Rattle.plan_meaning.specs.declared.Into.the-variants as into
 use Rattle.plan_meaning.specs.declared.Put.{Put}
 use Rattle.laws.specs.Cuts.{Topped}
 use Rattle.apply_records.specs.Asks.{PushesRecord, Room}
-use Rattle.apply_words.specs.Asks.{Plain, Retract, Dropping, onwards, plainWrite, triedOn, tried as written}
+use Rattle.apply_words.specs.Asks.{Plain, Retract, Dropping, onwards, plainWrite, triedOn, triedWrite}
 use Rattle.apply.specs.declared.Tried.{Tried}
 use Rattle.plan_meaning.specs.Suits.{FitsIn, Forms, CallSuits, Suits}
 use Rattle.apply.specs.Applies.{Applies, Late, Lately, tried, appliedIf}
@@ -152,12 +152,12 @@ module _ (f : List ℕ) (put : Put) (m : Machine) (main ptr ctl heap : List ℕ)
 
 -- a plain write that is done, or left
 module _ (put : Put) (m : Machine) (main ptr heap : List ℕ) where
-  pub plain-done : (r : Bool) → record { regs = triedOn r put (m .regs); main = main; ptr = ptr; ctl = m .ctl; heap = heap } ≡ written r (put .into) put m → r ≡ true →
+  pub plain-done : (r : Bool) → record { regs = triedOn r put (m .regs); main = main; ptr = ptr; ctl = m .ctl; heap = heap } ≡ triedWrite r (put .into) put m → r ≡ true →
       record { regs = onwards put (m .regs); main = main; ptr = ptr; ctl = m .ctl; heap = heap } ≡ plainWrite (put .into) put m
   plain-done true e t = e
   plain-done false e t = absurd (true≢false (sym t))
 
-  pub plain-undone : (r : Bool) → record { regs = triedOn r put (m .regs); main = main; ptr = ptr; ctl = m .ctl; heap = heap } ≡ written r (put .into) put m → r ≡ false →
+  pub plain-undone : (r : Bool) → record { regs = triedOn r put (m .regs); main = main; ptr = ptr; ctl = m .ctl; heap = heap } ≡ triedWrite r (put .into) put m → r ≡ false →
       record { regs = m .regs; main = main; ptr = ptr; ctl = m .ctl; heap = heap } ≡ m
   plain-undone true e t = absurd (true≢false t)
   plain-undone false e t = e

@@ -70,7 +70,7 @@ pub record Among (f m : List ℕ) (h p : ℕ) (l : Limits) (kind : ℕ) : Type 0
   pub kind-is : byteAt f p ≡ kind
 
 abbrev pub takenBy : ℕ → ℕ → Taken
-takenBy n q = record { fault = n; good = q }
+takenBy n q = record { fault = n; next = q }
 
 -- what taking an instruction leaves
 pub record Took (f : List ℕ) (p : ℕ) (m m′ : List ℕ) (r : Taken) : Type 0 where
@@ -329,7 +329,7 @@ module _ (f m : List ℕ) (h p : ℕ) (l : Limits) (H : Here f m h (l .end) p) (
 
       result : Shape → Onward
       result sh =
-          record { fault = 0; goes = goesBy (sh .way); good = after f p; main = moved (effectIn sh) s .main; ptr = moved (effectIn sh) s .ptr }
+          record { fault = 0; goes = goesBy (sh .way); next = after f p; main = moved (effectIn sh) s .main; ptr = moved (effectIn sh) s .ptr }
 
       ends : Shape → Taking (List ℕ)
       ends sh = passAllIn ((after f p, nextState sh p s o) ∷ []) m
