@@ -21,13 +21,13 @@ module _ (f map : List ℕ) (lm lp : ℕ) (l : List ℕ) where
     unfolding lowest stack?
     read-none h = let e : left ≡ 0 = omega arith in sym (so-far ∙ ap (λ (n : ℕ). lowest n s) e)
 
-    module _ (r : Below) (some : 0 < left) (tells : RecordTells f map lm lp (recAt l (left - 1)) (down l (left - 1)) s r) where
+    module _ (r : Below) (some : 0 < left) (reading : RecordTells f map lm lp (recAt l (left - 1)) (down l (left - 1)) s r) where
       read : lowest count top ≡ tells r (lowest (left - 1))
       unfolding lowest
-      read = let e : left ≡ suc (left - 1) = omega arith in so-far ∙ ap (λ (n : ℕ). lowest n s) e ∙ tells .is
+      read = let e : left ≡ suc (left - 1) = omega arith in so-far ∙ ap (λ (n : ℕ). lowest n s) e ∙ reading .is
 
       pub read-end : (t : Bool) → r ≡ End t → t ≡ lowest count top
       read-end t e = sym (read ∙ ap (λ (b : Below). tells b (lowest (left - 1))) e)
 
       pub read-on : (s′ : Look) → r ≡ On s′ → Near s′ × (lowest count top ≡ lowest (left - 1) s′)
-      read-on s′ e = (rw e at (tells .near), read ∙ ap (λ (b : Below). tells b (lowest (left - 1))) e)
+      read-on s′ e = (rw e at (reading .near), read ∙ ap (λ (b : Below). tells b (lowest (left - 1))) e)

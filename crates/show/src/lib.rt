@@ -1,4 +1,6 @@
 // start and run over lent lists, with the bench's line printed.
+mod line;
+
 use model::Answer;
 
 // Runs what the lists hold, and prints the line.
@@ -13,7 +15,7 @@ pub fn go(
     budget: u32,
 ) {
     let a = calls::run(file, map, main, ptr, ctl, heap, regs, budget);
-    print::line(a, main, regs);
+    line::line(a, main, regs);
 }
 
 // Starts, runs if that was ready, and prints the line.
@@ -29,7 +31,7 @@ pub fn begin(
 ) {
     let a = calls::start(file, map, main, ptr, ctl, heap, regs);
     let Answer::Ready = a else {
-        print::line(a, main, regs);
+        line::line(a, main, regs);
         return;
     };
     go(file, map, main, ptr, ctl, heap, regs, budget);

@@ -1,10 +1,10 @@
--- `print::words` is safe and ends: i counts up to the length of the list.
+-- `show::line::words` is safe and ends: i counts up to the length of the list.
 use Prim.Native.Nat.{_-_}
 use native.Mathlib.Omega.{arith}
 use lib.ListN.{length}
 use borrow.Author.Needs.{needs}
-use Rattle.print.proofs.words.Statement.{statement}
-use Rattle.print.proofs.words.Tie as tie
+use Rattle.show.proofs.line.words.Statement.{statement}
+use Rattle.show.proofs.line.words.Tie as tie
 
 abbrev Inv-loop : tie.InvT-loop
 Inv-loop main top i₀ t4 i = Unit {0}

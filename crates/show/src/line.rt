@@ -1,10 +1,7 @@
 // The bench's line: an answer, and for an ending the steps and the main stack.
 use libc::STDOUT_FILENO;
 use model::Answer;
-
-fn wide(x: u8) -> u64 {
-    x as u64
-}
+use model::REGISTER_BYTES;
 
 fn long(x: u32) -> u64 {
     x as u64
@@ -14,12 +11,13 @@ fn count(x: usize) -> u64 {
     x as u64
 }
 
-// The main top: the fourth word of the registers, most significant byte first. 0 where the list is too short.
-fn main_top(regs: &[u8]) -> u64 {
-    if regs.len() < 16 {
+// The main top; 0 where the list has another length than the registers.
+fn main_top(bytes: &[u8]) -> u64 {
+    if bytes.len() != REGISTER_BYTES {
         return 0;
     }
-    wide(regs[12]) << 24 | wide(regs[13]) << 16 | wide(regs[14]) << 8 | wide(regs[15])
+    let regs = registers::regs_from(bytes);
+    count(regs.mtop)
 }
 
 // A word as a signed number.
