@@ -22,6 +22,7 @@ use Rattle.apply_words.specs.Asks.{Plain, Retract, Dropping, onwards, plainWrit
 use Rattle.apply.specs.declared.Tried.{Tried}
 use Rattle.plan_meaning.specs.Suits.{FitsIn, Forms, CallSuits, Suits}
 use Rattle.apply.specs.Applies.{Applies, Late, Lately, tried, appliedIf}
+use Rattle.model.specs.Calls.{mainMost, ptrMost}
 
 -- by where it writes
 module _ (f : List ℕ) (put : Put) (m : Machine) (A : Applies f put m) where
@@ -40,12 +41,12 @@ module _ (f : List ℕ) (put : Put) (m : Machine) (A : Applies f put m) where
       }
 
   pub to-call : put .into ≡ into.Frame →
-      PushesRecord (m .regs) (m .ctl) × (m .regs .place + 2 < length f) × (after f (m .regs .place) ≡ m .regs .place + 3) × (put .at ≤ 4096)
+      PushesRecord (m .regs) (m .ctl) × (m .regs .place + 2 < length f) × (after f (m .regs .place) ≡ m .regs .place + 3) × (put .at ≤ mainMost)
   to-call e =
       let C : CallSuits f put m = suits e in
       (pushes (C .room), C .operand, C .behind, omega (arith, C .base, A .stands .main .fits, A .stands .main-most))
 
-  pub to-open : put .into ≡ into.Handler → PushesRecord (m .regs) (m .ctl) × (m .regs .mtop ≤ 4096) × (m .regs .ptop ≤ 4096)
+  pub to-open : put .into ≡ into.Handler → PushesRecord (m .regs) (m .ctl) × (m .regs .mtop ≤ mainMost) × (m .regs .ptop ≤ ptrMost)
   to-open e =
       let room : m .regs .ctop + recordWords ≤ length (m .ctl) = suits e in (
         pushes room,
@@ -54,7 +55,7 @@ module _ (f : List ℕ) (put : Put) (m : Machine) (A : Applies f put m) where
       )
 
   pub to-close : put .into ≡ into.Close →
-      Topped (m .regs .ctop) (m .ctl) × (1 ≤ m .regs .handler) × (5 * m .regs .handler ≤ m .regs .ctop)
+      Topped (m .regs .ctop) (m .ctl) × (1 ≤ m .regs .handler) × (recordWords * m .regs .handler ≤ m .regs .ctop)
   to-close e = (A .stands .ctl, suits e, A .stands .handler)
 
   to-form : put .into ≡ into.View → Room (length (m .main)) (length (m .ptr)) (m .heap) (m .regs) put

@@ -6,19 +6,21 @@ ghost use Prim.Native.Nat.{ℕ, _+_, _*_, _<_, _≤_};
 ghost use lib.ListN.{length};
 ghost use Rattle.model.specs.File.{operand, headOf};
 ghost use Rattle.model.specs.Words.{cut};
-ghost use Rattle.model.specs.Control.{frameOf};
+ghost use Rattle.model.specs.Control.{frameOf, recordWords};
 ghost use Rattle.model.specs.Step.{raised};
 ghost use Rattle.plan_meaning.specs.Settled.{applied, settle};
 ghost use Rattle.laws.specs.Cuts.{Topped};
 ghost use Rattle.apply_words.specs.Asks.{onwards};
 ghost use Rattle.apply.specs.Applies.{Applies, Late, Lately, Later, tried, appliedIf};
 ghost use Rattle.apply.specs.Ended.{Targets, Raises, Settles, endedOf, resumed, raisedBy};
+use control_stack::Handler;
+use model::PROCS_MOST;
+use model::RECORD;
+use model::Regs;
 use plan_meaning::Into;
 use plan_meaning::Plan;
 use plan_meaning::Put;
-use control_stack::Handler;
-use model::RECORD;
-use model::Regs;
+ghost use Rattle.model.specs.Calls.{mainMost, ctlMost};
 
 // What a step leads to: on with these registers, or an exception of this code that no handler catches.
 pub struct Outcome {
@@ -136,7 +138,7 @@ fn apply_late(
 }
 
 // Where a 160's operand leads: it counts from the head of the procedure whose frame is given.
-fn target(file: &[u8], table: &[usize; 64], ctl: &[u32], at: usize, frame: usize) -> usize
+fn target(file: &[u8], table: &[usize; PROCS_MOST], ctl: &[u32], at: usize, frame: usize) -> usize
     requires { ⌜ Targets (now file) (now table) (now ctl) at frame ⌝ }
     ensures { λ r. ⌜ r ≡ headOf (now (file .entry)) (frameOf (now (ctl .entry)) frame .proc) + operand (now (file .entry)) at ⌝ }
 {
@@ -146,7 +148,7 @@ fn target(file: &[u8], table: &[usize; 64], ctl: &[u32], at: usize, frame: usize
 
 // The registers in the handler: the code lies on its main top, and its record is gone.
 fn resume(guard: Handler, place: usize, handler: usize, state: usize) -> Regs
-    requires { ⌜ (guard .«main_top» < 4096) × (1 ≤ handler) × (handler ≤ 1280) ⌝ }
+    requires { ⌜ (guard .«main_top» < mainMost) × (1 ≤ handler) × (handler ≤ ctlMost) ⌝ }
     ensures { λ r. ⌜ r ≡ resumed guard place handler state ⌝ }
 {
     let above = guard.main_top + 1;
@@ -164,7 +166,7 @@ fn resume(guard: Handler, place: usize, handler: usize, state: usize) -> Regs
 
 // A handler's record and those above it go. The topmost goes by itself: often it is the only one, and needs no loop.
 fn unwind(ctl: &mut [u32], under: usize, top: usize)
-    requires { ⌜ Topped top (now ctl) × (under + 5 ≤ top) ⌝ }
+    requires { ⌜ Topped top (now ctl) × (under + recordWords ≤ top) ⌝ }
     ensures { λ _. ⌜ now (ctl .exit) ≡ cut under (now (ctl .entry)) ⌝ }
 {
     let rest = top - RECORD;
@@ -175,7 +177,7 @@ fn unwind(ctl: &mut [u32], under: usize, top: usize)
 // Raises an exception, all in one step: frames and the handler's record go, both stacks are cut to its tops, the code is pushed.
 pub fn raise(
     file: &[u8],
-    table: &[usize; 64],
+    table: &[usize; PROCS_MOST],
     main: &mut [u32],
     ptr: &mut [u32],
     ctl: &mut [u32],
@@ -244,7 +246,7 @@ pub fn code_of(plan: Plan, main: &[u32], mtop: usize) -> u32
 // What a plan comes to that `apply` left, or that is no write: a raise.
 pub fn step_with(
     file: &[u8],
-    table: &[usize; 64],
+    table: &[usize; PROCS_MOST],
     main: &mut [u32],
     ptr: &mut [u32],
     ctl: &mut [u32],

@@ -4,16 +4,17 @@ ghost use mathlib.Core.List.{List};
 ghost use Prim.Native.Nat.{ℕ, _+_, _-_, _*_, _<_, _≤_};
 ghost use lib.ListN.{length};
 ghost use lib.Seq.{sets, slice};
-ghost use Rattle.model.specs.File.{after};
+ghost use Rattle.model.specs.File.{after, fileMost};
 ghost use Rattle.model.specs.Heap.{viewKind, made};
 ghost use Rattle.plan_meaning.specs.Settled.{calledBy, returned, opened, closed};
 ghost use Rattle.laws.specs.Cuts.{Topped};
 ghost use Rattle.apply_records.specs.Asks.{PushesRecord, Room};
-use plan_meaning::Put;
 use control_stack::Frame;
 use control_stack::Handler;
 use model::RECORD;
 use model::Regs;
+use plan_meaning::Put;
+ghost use Rattle.model.specs.Calls.{mainMost, ptrMost};
 
 // The words from start to end, copied to a place of the heap.
 fn copy(heap: &mut [u32], to: usize, from: &[u32], start: usize, end: usize)
@@ -31,7 +32,7 @@ fn copy(heap: &mut [u32], to: usize, from: &[u32], start: usize, end: usize)
 
 // 72: a new frame. The operand is its procedure, the return place is behind it.
 pub fn call(file: &[u8], ctl: &mut [u32], regs: Regs, put: Put) -> Regs
-    requires { ⌜ PushesRecord regs (now ctl) × (regs .place + 2 < length (now file)) × (after (now file) (regs .place) ≡ regs .place + 3) × (put .at ≤ 4096) ⌝ }
+    requires { ⌜ PushesRecord regs (now ctl) × (regs .place + 2 < length (now file)) × (after (now file) (regs .place) ≡ regs .place + 3) × (put .at ≤ fileMost) ⌝ }
     ensures { λ r. ⌜ ((main ptr heap : List ℕ) → record { regs = r; main = main; ptr = ptr; ctl = now (ctl .exit); heap = heap }
         ≡ calledBy (now (file .entry)) put (record { regs = regs; main = main; ptr = ptr; ctl = now (ctl .entry); heap = heap })) ⌝ }
 {
@@ -81,7 +82,7 @@ pub fn leave(ctl: &mut [u32], regs: Regs, put: Put) -> Regs
 
 // 160: a handler's record.
 pub fn open(ctl: &mut [u32], regs: Regs, put: Put) -> Regs
-    requires { ⌜ PushesRecord regs (now ctl) × (regs .mtop ≤ 4096) × (regs .ptop ≤ 4096) ⌝ }
+    requires { ⌜ PushesRecord regs (now ctl) × (regs .mtop ≤ mainMost) × (regs .ptop ≤ ptrMost) ⌝ }
     ensures { λ r. ⌜ ((main ptr heap : List ℕ) → record { regs = r; main = main; ptr = ptr; ctl = now (ctl .exit); heap = heap }
         ≡ opened put (record { regs = regs; main = main; ptr = ptr; ctl = now (ctl .entry); heap = heap })) ⌝ }
 {

@@ -9,9 +9,9 @@ ghost use Rattle.model.specs.Control.{Machine};
 ghost use Rattle.model.specs.Moves.{finished};
 ghost use Rattle.laws.specs.Cuts.{Topped};
 ghost use Rattle.apply_words.specs.Asks.{Plain, Retract, Dropping, InMain, InPtr, onwards, plainWrite, triedWrite, triedOn};
+use model::Regs;
 use plan_meaning::Into;
 use plan_meaning::Put;
-use model::Regs;
 
 // Zeroes the words from new to old, the top so far.
 fn clear(l: &mut [u32], new: usize, old: usize)

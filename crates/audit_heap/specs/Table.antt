@@ -12,6 +12,7 @@ use Rattle.audit_heap.specs.declared.HeapAudit.{HeapAudit}
 use Rattle.audit_heap.specs.declared.HeapAudit.the-variants.{Clean, Fault}
 use Rattle.audit_heap.specs.First.{walked, auditAnswer}
 use Rattle.numbers.specs.Small.{Small}
+use Rattle.model.specs.Calls.{heapMost}
 
 -- the mark of a word; past the table's end there is none
 unfoldable pub isMarked : List Bool → ℕ → Bool
@@ -49,7 +50,7 @@ marked-pointer os t v M = M v
 pub record Range (h : List ℕ) : Type 0 where
   pub low : firstObject ≤ markOf h
   pub high : markOf h ≤ length h
-  pub long : length h ≤ 16384
+  pub long : length h ≤ heapMost
 
 -- the fault of one object
 unfoldable pub faultAt : List ℕ → ℕ → ℕ → HeapAudit

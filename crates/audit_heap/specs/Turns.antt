@@ -22,6 +22,7 @@ use Rattle.audit_heap.specs.Audited.{good-object}
 use Rattle.audit_heap.specs.Every.{oneIf}
 use Rattle.audit_heap.specs.Table.{Unmarked, Marks, isMarked, markedAt, Range, faultAt, objectsFound, LinksCounted, Walked}
 use Rattle.numbers.specs.Small.{Small}
+use Rattle.model.specs.Checker.{none}
 
 -- A range of words
 

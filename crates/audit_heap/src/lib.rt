@@ -13,6 +13,7 @@ ghost use Rattle.audit_heap.specs.First.{firstBad, zeroAt, freeWords};
 ghost use Rattle.audit_heap.specs.Every.{oneIf, Every};
 ghost use Rattle.audit_heap.specs.Table.{Unmarked, Marks, isMarked, markedAt, objectsFound, Range, faultAt, LinksCounted, Walked, Audited};
 ghost use Rattle.numbers.specs.Small.{Small};
+ghost use Rattle.model.specs.Calls.{heapMost};
 
 // What the audit answers: the heap is sound, or the index of the word at fault.
 pub enum HeapAudit {
@@ -68,7 +69,7 @@ fn is_view(heap: &[u32], q: usize) -> bool
 
 // The fault of the object at `q`, which is to end at `mark` or before it.
 fn judge_object(heap: &[u32], q: usize, mark: usize) -> HeapAudit
-    requires { ⌜ (q < mark) × (mark ≤ length (now heap)) × (length (now heap) ≤ 16384) ⌝ }
+    requires { ⌜ (q < mark) × (mark ≤ length (now heap)) × (length (now heap) ≤ heapMost) ⌝ }
     ensures { λ r. ⌜ r ≡ faultAt (now (heap .entry)) q mark ⌝ }
 {
     let next = q + 1;
@@ -222,7 +223,7 @@ fn free_zero(heap: &[u32]) -> HeapAudit
 
 // The audit for refusal 11. No mark is set before it; of a sound heap the marks are nil's and the objects' then.
 pub fn audit_heap(heap: &[u32], marks: &mut [bool]) -> HeapAudit
-    requires { ⌜ (2 ≤ length (now heap)) × (length (now heap) ≤ 16384) × (length (now heap) ≤ length (now marks)) × Unmarked (now marks) ⌝ }
+    requires { ⌜ (2 ≤ length (now heap)) × (length (now heap) ≤ heapMost) × (length (now heap) ≤ length (now marks)) × Unmarked (now marks) ⌝ }
     ensures { λ r. ⌜ Audited (now (heap .entry)) r (now (marks .exit)) ⌝ }
 {
     let mark = numbers::word(heap[0]);

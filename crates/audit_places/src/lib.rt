@@ -9,9 +9,9 @@ ghost use Rattle.numbers.specs.Small.{Small};
 ghost use Rattle.check_scan.specs.Heading.{Placed};
 ghost use Rattle.audit_places.specs.Places.{Tabled, AuditReady, endOf, inProc, HeadFor};
 use code_file::Head;
-
-// No instruction, no handler.
-pub const NONE: usize = 65535;
+use model::NONE_OPEN;
+use model::PROCS_MOST;
+ghost use Rattle.model.specs.Checker.{none};
 
 // A byte of the file; past its end 0.
 pub fn byte_at(file: &[u8], p: usize) -> usize
@@ -34,9 +34,13 @@ pub fn operand(file: &[u8], p: usize) -> usize
 
 // A number of the map; past its end 65,535.
 fn number(map: &[u16], i: usize) -> usize
-    ensures { λ r. ⌜ Small 65536 (getD (now (map .entry)) i 65535) r ⌝ }
+    ensures { λ r. ⌜ Small 65536 (getD (now (map .entry)) i none) r ⌝ }
 {
-    if i < map.len() { map[i] as usize } else { NONE }
+    if i < map.len() {
+        map[i] as usize
+    } else {
+        NONE_OPEN
+    }
 }
 
 pub fn main_at(map: &[u16], p: usize) -> usize
@@ -61,7 +65,7 @@ pub fn inner_at(map: &[u16], p: usize) -> usize
 }
 
 // Where procedure `n` ends: at the next head, or with the file.
-fn end_of(file: &[u8], table: &[usize; 64], k: usize, n: usize) -> usize
+fn end_of(file: &[u8], table: &[usize; PROCS_MOST], k: usize, n: usize) -> usize
     requires { ⌜ Placed (now file) (now table) k × (n < k) ⌝ }
     ensures { λ r. ⌜ r ≡ endOf (now (file .entry)) n ⌝ }
 {
@@ -70,7 +74,14 @@ fn end_of(file: &[u8], table: &[usize; 64], k: usize, n: usize) -> usize
 }
 
 // An instruction of procedure `n` starts at `p`.
-pub fn within(file: &[u8], map: &[u16], table: &[usize; 64], k: usize, n: usize, p: usize) -> bool
+pub fn within(
+    file: &[u8],
+    map: &[u16],
+    table: &[usize; PROCS_MOST],
+    k: usize,
+    n: usize,
+    p: usize,
+) -> bool
     requires { ⌜ AuditReady (now file) (now map) (now table) k × (p < 4294967296) ⌝ }
     ensures { λ r. ⌜ r ≡ inProc (now (file .entry)) n p ⌝ }
 {
@@ -83,10 +94,10 @@ pub fn within(file: &[u8], map: &[u16], table: &[usize; 64], k: usize, n: usize,
     if end_of(file, table, k, n) <= p {
         return false;
     }
-    main_at(map, p) != NONE
+    main_at(map, p) != NONE_OPEN
 }
 
-pub fn head_of(file: &[u8], table: &[usize; 64], k: usize, n: usize) -> Head
+pub fn head_of(file: &[u8], table: &[usize; PROCS_MOST], k: usize, n: usize) -> Head
     requires { ⌜ Tabled (now file) (now table) k × (n < k) ⌝ }
     ensures { λ r. ⌜ HeadFor (now (file .entry)) n r ⌝ }
 {

@@ -23,6 +23,7 @@ use Rattle.audit_records.specs.declared.Below.the-variants.{End, On}
 use Rattle.laws.specs.Tests.{fails-at}
 use Rattle.code_file.specs.declared.Head.{Head}
 use Rattle.audit_places.specs.Places.{MapShows, beyond, inProc, HeadFor}
+use Rattle.model.specs.Calls.{mainMost, ptrMost}
 
 -- the struct of the code as the model's record
 abbrev pub theLook : LookRead → Look
@@ -46,14 +47,14 @@ pub record Near (s : LookRead) : Type 0 where
 -- what is known where a record is read: the lengths of the main and the pointer stack are in 01's range
 pub record Reads (lm lp left : ℕ) (s : LookRead) : Type 0 where
   pub near : Near s
-  pub main : lm ≤ 4096
-  pub ptr : lp ≤ 4096
+  pub main : lm ≤ mainMost
+  pub ptr : lp ≤ ptrMost
   pub few : left < 4294967296
 
 -- the bases of a frame that lies in the lists
 pub record BasesFit (w : FrameRead) : Type 0 where
-  pub main : w .«main_base» ≤ 4096
-  pub ptr : w .«ptr_base» ≤ 4096
+  pub main : w .«main_base» ≤ mainMost
+  pub ptr : w .«ptr_base» ≤ ptrMost
 
 -- a call, by its code: the place behind it, and what it pops, which is its procedure's parameters
 module _ (f : List ℕ) (c : ℕ) (b : byteAt f c ≡ 72) where
@@ -130,7 +131,7 @@ module _ (f map : List ℕ) (lm lp : ℕ) (w : FrameRead) (rs : List Rec) (s : L
       go false i e = fails-at 0 tests i
 
   -- the bases of a frame that passes are those read above it, and it lies in the lists
-  pub frame-fits : true ≡ all tests → lm ≤ 4096 → lp ≤ 4096 → BasesFit w
+  pub frame-fits : true ≡ all tests → lm ≤ mainMost → lp ≤ ptrMost → BasesFit w
   frame-fits e m p = let h = all-true tests (sym e) in record { main = omega arith; ptr = omega arith }
 
   pub frame-proc : true ≡ all tests → inProc f (w .proc) (s .place) ≡ true

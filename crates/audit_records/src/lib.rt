@@ -6,8 +6,8 @@ ghost use Prim.Native.Nat.{ℕ, _+_, _-_, _*_, _<_};
 ghost use lib.ListN.{length};
 ghost use Rattle.model.specs.Choice.{all};
 ghost use Rattle.model.specs.File.{insAt};
-ghost use Rattle.model.specs.Checker.{Effect, effectOf};
-ghost use Rattle.model.specs.Control.{Rec, recAt, down};
+ghost use Rattle.model.specs.Checker.{Effect, effectOf, none};
+ghost use Rattle.model.specs.Control.{Rec, recAt, down, recordWords};
 ghost use Rattle.model.specs.Sound.{callBefore, frameTests, firstTests, callerTests, caller, handlerTests, outside};
 ghost use Rattle.audit_places.specs.Places.{MapShows, AuditReady, HeadFor};
 ghost use Rattle.control_stack.specs.Layout.{theFrame, theHandler};
@@ -15,7 +15,8 @@ ghost use Rattle.audit_records.specs.Records.{theLook, Near, Reads, Base
 use code_file::Head;
 use control_stack::Frame;
 use control_stack::Handler;
-use audit_places::NONE;
+use model::NONE_OPEN;
+use model::PROCS_MOST;
 
 const CALL: usize = 72;
 
@@ -42,7 +43,7 @@ pub struct Look {
 fn frame_right(
     file: &[u8],
     map: &[u16],
-    table: &[usize; 64],
+    table: &[usize; PROCS_MOST],
     k: usize,
     lm: usize,
     lp: usize,
@@ -181,8 +182,8 @@ pub enum Below {
 
 // A handler's record, on top of `left` others, leads to the next outer one of its frame, or to the frame.
 fn read_handler(map: &[u16], ctl: &[u32], left: usize, s: Look) -> Below
-    requires { ⌜ Near s × (left < 4294967296) × (5 * left + 4 < length (now ctl)) ⌝ }
-    ensures { λ r. ⌜ ((f : List ℕ) (lm lp : ℕ) → (s .inner ≡ 65535 → ⊥) → RecordTells f (now (map .entry)) lm lp (recAt (now (ctl .entry)) left) (down (now (ctl .entry)) left) s r) ⌝ }
+    requires { ⌜ Near s × (left < 4294967296) × (recordWords * left + 4 < length (now ctl)) ⌝ }
+    ensures { λ r. ⌜ ((f : List ℕ) (lm lp : ℕ) → (s .inner ≡ none → ⊥) → RecordTells f (now (map .entry)) lm lp (recAt (now (ctl .entry)) left) (down (now (ctl .entry)) left) s r) ⌝ }
 {
     let w = control_stack::handler_at(ctl, left);
     if !handler_right(map, left, w, s) {
@@ -195,7 +196,7 @@ fn read_handler(map: &[u16], ctl: &[u32], left: usize, s: Look) -> Below
 fn read_frame(
     file: &[u8],
     map: &[u16],
-    table: &[usize; 64],
+    table: &[usize; PROCS_MOST],
     k: usize,
     lm: usize,
     lp: usize,
@@ -203,7 +204,7 @@ fn read_frame(
     left: usize,
     s: Look,
 ) -> Below
-    requires { ⌜ AuditReady (now file) (now map) (now table) k × Reads lm lp left s × (5 * left + 4 < length (now ctl)) × (s .inner ≡ 65535) ⌝ }
+    requires { ⌜ AuditReady (now file) (now map) (now table) k × Reads lm lp left s × (recordWords * left + 4 < length (now ctl)) × (s .inner ≡ none) ⌝ }
     ensures { λ r. ⌜ RecordTells (now (file .entry)) (now (map .entry)) lm lp (recAt (now (ctl .entry)) left) (down (now (ctl .entry)) left) s r ⌝ }
 {
     let w = control_stack::frame_at(ctl, left);
@@ -225,7 +226,7 @@ fn read_frame(
 pub fn read_record(
     file: &[u8],
     map: &[u16],
-    table: &[usize; 64],
+    table: &[usize; PROCS_MOST],
     k: usize,
     lm: usize,
     lp: usize,
@@ -233,10 +234,10 @@ pub fn read_record(
     left: usize,
     s: Look,
 ) -> Below
-    requires { ⌜ AuditReady (now file) (now map) (now table) k × Reads lm lp left s × (5 * left + 4 < length (now ctl)) ⌝ }
+    requires { ⌜ AuditReady (now file) (now map) (now table) k × Reads lm lp left s × (recordWords * left + 4 < length (now ctl)) ⌝ }
     ensures { λ r. ⌜ RecordTells (now (file .entry)) (now (map .entry)) lm lp (recAt (now (ctl .entry)) left) (down (now (ctl .entry)) left) s r ⌝ }
 {
-    if s.inner == NONE {
+    if s.inner == NONE_OPEN {
         read_frame(file, map, table, k, lm, lp, ctl, left, s)
     } else {
         read_handler(map, ctl, left, s)

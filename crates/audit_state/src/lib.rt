@@ -6,24 +6,26 @@ ghost use Prim.Native.Nat.{ℕ, _*_, _<_, _≤_};
 ghost use lib.ListN.{length, drop};
 ghost use Rattle.model.specs.Heap.{objectsOf};
 ghost use Rattle.model.specs.Choice.{all};
-ghost use Rattle.model.specs.Control.{Machine, setRegs, down};
+ghost use Rattle.model.specs.Control.{Machine, setRegs, down, recordWords};
 ghost use Rattle.model.specs.Sound.{zeros, stack?, stackTests, topmost, sound?};
 ghost use Rattle.audit_heap.specs.Table.{Marks};
 ghost use Rattle.registers.specs.Registers.{RegsWords};
 ghost use Rattle.audit_places.specs.Places.{AuditReady};
 ghost use Rattle.audit_records.specs.Records.{theLook, Near};
 ghost use Rattle.audit_state.specs.Audit.{topsOk, doneOk};
-use code_file::Head;
-use model::RECORD;
-use model::Regs;
 use audit_records::Below;
 use audit_records::Look;
+use code_file::Head;
+use model::PROCS_MOST;
+use model::RECORD;
+use model::Regs;
+ghost use Rattle.model.specs.Calls.{mainMost, ptrMost};
 
 // The topmost `count` records, from the top downwards.
 fn records_right(
     file: &[u8],
     map: &[u16],
-    table: &[usize; 64],
+    table: &[usize; PROCS_MOST],
     k: usize,
     lm: usize,
     lp: usize,
@@ -31,7 +33,7 @@ fn records_right(
     count: usize,
     top: Look,
 ) -> bool
-    requires { ⌜ AuditReady (now file) (now map) (now table) k × Near top × (5 * count ≤ length (now ctl)) × (count < 4294967296) × (lm ≤ 4096) × (lp ≤ 4096) ⌝ }
+    requires { ⌜ AuditReady (now file) (now map) (now table) k × Near top × (recordWords * count ≤ length (now ctl)) × (count < 4294967296) × (lm ≤ mainMost) × (lp ≤ ptrMost) ⌝ }
     ensures { λ r. ⌜ r ≡ stack? (now (file .entry)) (now (map .entry)) lm lp (down (now (ctl .entry)) count) (theLook top) ⌝ }
 {
     let mut left = count;
@@ -136,7 +138,7 @@ fn top_frame(map: &[u16], regs: Regs) -> Look
 pub fn sound_state(
     file: &[u8],
     map: &[u16],
-    table: &[usize; 64],
+    table: &[usize; PROCS_MOST],
     k: usize,
     main: &[u32],
     ptr: &[u32],
@@ -144,7 +146,7 @@ pub fn sound_state(
     marks: &[bool],
     regs: Regs,
 ) -> bool
-    requires { ⌜ AuditReady (now file) (now map) (now table) k × RegsWords regs × (length (now main) ≤ 4096) × (length (now ptr) ≤ 4096) ⌝ }
+    requires { ⌜ AuditReady (now file) (now map) (now table) k × RegsWords regs × (length (now main) ≤ mainMost) × (length (now ptr) ≤ ptrMost) ⌝ }
     ensures { λ r. ⌜ ((heap : List ℕ) → Marks (objectsOf heap) (now (marks .entry)) →
         r ≡ sound? (now (file .entry)) (now (map .entry)) (record { regs = regs; main = now (main .entry); ptr = now (ptr .entry); ctl = now (ctl .entry); heap = heap })) ⌝ }
 {

@@ -8,10 +8,10 @@ use native.Mathlib.Omega.{arith}
 use lib.ListN.{length, replicate, length-replicate}
 use borrow.Author.Tests.{eq-eqb, ne-eqb}
 use Rattle.model.specs.Choice.{if_then_else_, Test, atMost, all, All, all-true}
-use Rattle.model.specs.File.{byteAt, heads, isHead, headOf}
+use Rattle.model.specs.File.{byteAt, heads, isHead, headOf, headKind, procsMost}
 use Rattle.model.specs.Heap.{clean, heapOf, objectsOf}
-use Rattle.model.specs.Control.{registerBytes}
-use Rattle.model.specs.Calls.{pass, refuse, verdictOf, Checked, checked, answered, checkOf, Lent, withMap, After, answers, lengthTests, afterMap, afterCheck, tested}
+use Rattle.model.specs.Control.{registerBytes, recordWords}
+use Rattle.model.specs.Calls.{pass, refuse, verdictOf, Checked, checked, answered, checkOf, Lent, withMap, After, answers, lengthTests, afterMap, afterCheck, tested, mainMost, ptrMost, ctlMost, heapMost}
 use Rattle.model.specs.Calls as model
 use Rattle.theory_checker.specs.Exact.{passed-as}
 use Rattle.laws_file.specs.Walk.{first-head, after-head}
@@ -31,18 +31,18 @@ use Rattle.model.specs.declared.Answer.the-variants.{Passed, Refused}
 -- refusal 10 on numbers, as the model's lengthTests has it
 abbrev pub lengthList : Head → ℕ → ℕ → ℕ → ℕ → List Test
 lengthList v main ptr ctl heap =
-    atMost 1 main ∷ atMost main 4096 ∷ atMost 1 ptr ∷ atMost ptr 4096 ∷ atMost 5 ctl ∷ atMost ctl 1280 ∷ atMost 2 heap ∷ atMost heap 16384 ∷ atMost (v .x) main
+    atMost 1 main ∷ atMost main mainMost ∷ atMost 1 ptr ∷ atMost ptr ptrMost ∷ atMost recordWords ctl ∷ atMost ctl ctlMost ∷ atMost 2 heap ∷ atMost heap heapMost ∷ atMost (v .x) main
     ∷ atMost (v .y) ptr ∷ []
 
 -- an empty table of heads, and one of marks, fresh and long enough for any heap that is not too long
 pub record Tables (table : List ℕ) (marks : List Bool) (heap : List ℕ) : Type 0 where
-  pub empty : table ≡ replicate 64 0
+  pub empty : table ≡ replicate procsMost 0
   pub fresh : Unmarked marks
-  pub room : length heap ≤ 16384 → length heap ≤ length marks
+  pub room : length heap ≤ heapMost → length heap ≤ length marks
 
 -- tables as the code makes them
-pub tables-fresh : (n : ℕ) (table : List ℕ) (marks : List Bool) (heap : List ℕ) → table ≡ replicate 64 0 → marks ≡ replicate n false →
-    (length heap ≤ 16384 → length heap ≤ n) → Tables table marks heap
+pub tables-fresh : (n : ℕ) (table : List ℕ) (marks : List Bool) (heap : List ℕ) → table ≡ replicate procsMost 0 → marks ≡ replicate n false →
+    (length heap ≤ heapMost → length heap ≤ n) → Tables table marks heap
 tables-fresh n table marks heap e f r =
     record { empty = e; fresh = rw f (unmarked-fresh n); room = rw (f, length-replicate {A = Bool} n false) r }
 
@@ -78,7 +78,7 @@ first-whole f map new e =
     let r = rest-inv f 0 (P .places) (P .some) (sym (records-first f z) ∙ w) in
     let a = whole-inside f 0 (r .0) in
     let b = after-head f (P .places) w 0 z in
-    (rw (w, r .1 .2, eq-eqb (byteAt f 0) 240 z), omega arith)
+    (rw (w, r .1 .2, eq-eqb (byteAt f 0) headKind z), omega arith)
 
 -- a refusal is no pass
 refuse-pass : {A : Type 0} (n p k : ℕ) → Refuse n p ≡ Pass k → A

@@ -10,7 +10,7 @@ use Rattle.model.specs.Heap.{objectsOf}
 use Rattle.model.specs.Control.{regsFrom}
 use Rattle.model.specs.Sound.{sound?}
 use Rattle.model.specs.Claim.{Bytes}
-use Rattle.model.specs.Calls.{Lent, withMap, machineOf, After, answers, lengthTests, soundTests, demand, testedForRun}
+use Rattle.model.specs.Calls.{Lent, withMap, machineOf, After, answers, lengthTests, soundTests, demand, testedForRun, mainMost, ptrMost}
 use Rattle.check_flow.specs.declared.Verdict.{Verdict}
 use Rattle.check_flow.specs.declared.Verdict.the-variants.{Pass, Refuse}
 use Rattle.audit_heap.specs.Table.{Marks}
@@ -54,7 +54,7 @@ module _ (l : Lent) (map table : List ℕ) (marks : List Bool) (v : Verdict) (A 
     pub test-ready : Bytes (l .file) → AuditReady (l .file) map table k
     test-ready B = passed-ready (l .file) (l .map) map table k B (S .passes) (S .placed)
 
-    pub test-lengths : (length (l .main) ≤ 4096) × (length (l .ptr) ≤ 4096)
+    pub test-lengths : (length (l .main) ≤ mainMost) × (length (l .ptr) ≤ ptrMost)
     unfolding lengthTests
     test-lengths = (S .lengths .1 .0, S .lengths .1 .1 .1 .0)
 

@@ -4,16 +4,21 @@ ghost use Rattle.model.specs.Choice.{all};
 ghost use lib.ListN.{replicate};
 ghost use Rattle.call_tests.specs.Admit.{lengthList, Tables, Admitted, AdmittedMarks};
 ghost use Rattle.call_tests.specs.Tested.{TestedAs};
-use code_file::Head;
-use check_flow::Verdict;
 use audit_heap::HeapAudit;
+use check_flow::Verdict;
+use code_file::Head;
+use model::CTL_MOST;
+use model::HEAP_MOST;
+use model::MAIN_MOST;
+use model::PROCS_MOST;
+use model::PTR_MOST;
+use model::RECORD;
+use model::REGISTER_BYTES;
 use model::Regs;
+ghost use Rattle.model.specs.File.{procsMost};
 
 // A heap of so many words at most is short.
 const FEW: usize = 2048;
-
-// No heap has more words.
-const MOST: usize = 16384;
 
 // Refusal 10: the lent lengths, with the head of procedure 0.
 fn lengths_right(head: Head, main: usize, ptr: usize, ctl: usize, heap: usize) -> bool
@@ -22,25 +27,25 @@ fn lengths_right(head: Head, main: usize, ptr: usize, ctl: usize, heap: usize) -
     if main < 1 {
         return false;
     }
-    if 4096 < main {
+    if MAIN_MOST < main {
         return false;
     }
     if ptr < 1 {
         return false;
     }
-    if 4096 < ptr {
+    if PTR_MOST < ptr {
         return false;
     }
-    if ctl < 5 {
+    if ctl < RECORD {
         return false;
     }
-    if 1280 < ctl {
+    if CTL_MOST < ctl {
         return false;
     }
     if heap < 2 {
         return false;
     }
-    if 16384 < heap {
+    if HEAP_MOST < heap {
         return false;
     }
     if main < head.x {
@@ -54,7 +59,7 @@ fn lengths_right(head: Head, main: usize, ptr: usize, ctl: usize, heap: usize) -
 fn admit_with(
     file: &[u8],
     map: &mut [u16],
-    table: &mut [usize; 64],
+    table: &mut [usize; PROCS_MOST],
     marks: &mut [bool],
     main: &[u32],
     ptr: &[u32],
@@ -83,7 +88,7 @@ fn admit_with(
         match audit {
             HeapAudit::Fault(q) => Verdict::Refuse(11, q),
             HeapAudit::Clean => {
-                if bytes.len() == 28 {
+                if bytes.len() == REGISTER_BYTES {
                     Verdict::Pass(k)
                 } else {
                     Verdict::Refuse(12, 0)
@@ -99,14 +104,14 @@ fn admit_with(
 pub fn admit(
     file: &[u8],
     map: &mut [u16],
-    table: &mut [usize; 64],
+    table: &mut [usize; PROCS_MOST],
     main: &[u32],
     ptr: &[u32],
     ctl: &[u32],
     heap: &[u32],
     bytes: &[u8],
 ) -> Verdict
-    requires { ⌜ now table ≡ replicate 64 0 ⌝ }
+    requires { ⌜ now table ≡ replicate procsMost 0 ⌝ }
     ensures { λ r. ⌜ Admitted (record {
       file = now (file .entry);
       map = now (map .entry);
@@ -121,7 +126,7 @@ pub fn admit(
         let mut few = [false; FEW];
         return admit_with(file, map, table, &mut few, main, ptr, ctl, heap, bytes);
     }
-    let mut marks = [false; MOST];
+    let mut marks = [false; HEAP_MOST];
     admit_with(file, map, table, &mut marks, main, ptr, ctl, heap, bytes)
 }
 
@@ -135,7 +140,7 @@ pub enum Tested {
 fn test_with(
     file: &[u8],
     map: &mut [u16],
-    table: &mut [usize; 64],
+    table: &mut [usize; PROCS_MOST],
     marks: &mut [bool],
     main: &[u32],
     ptr: &[u32],
@@ -171,14 +176,14 @@ fn test_with(
 pub fn test_for_run(
     file: &[u8],
     map: &mut [u16],
-    table: &mut [usize; 64],
+    table: &mut [usize; PROCS_MOST],
     main: &[u32],
     ptr: &[u32],
     ctl: &[u32],
     heap: &[u32],
     bytes: &[u8],
 ) -> Tested
-    requires { ⌜ now table ≡ replicate 64 0 ⌝ }
+    requires { ⌜ now table ≡ replicate procsMost 0 ⌝ }
     ensures { λ r. ⌜ TestedAs (record {
       file = now (file .entry);
       map = now (map .entry);
@@ -193,6 +198,6 @@ pub fn test_for_run(
         let mut few = [false; FEW];
         return test_with(file, map, table, &mut few, main, ptr, ctl, heap, bytes);
     }
-    let mut marks = [false; MOST];
+    let mut marks = [false; HEAP_MOST];
     test_with(file, map, table, &mut marks, main, ptr, ctl, heap, bytes)
 }

@@ -6,6 +6,8 @@ ghost use Rattle.calls.specs.Starts.{firstRegs};
 use call_tests::Tested;
 use check_flow::Verdict;
 use model::Answer;
+use model::HEAD_SIZE;
+use model::PROCS_MOST;
 use model::RECORD;
 use model::Regs;
 
@@ -25,7 +27,7 @@ fn first() -> Regs
     ensures { λ r. ⌜ r ≡ firstRegs ⌝ }
 {
     Regs {
-        place: 7,
+        place: HEAD_SIZE,
         frame: 1,
         handler: 0,
         mtop: 0,
@@ -63,7 +65,7 @@ pub fn start(
       bytes = now (bytes .entry);
     }) ⌝ }
 {
-    let mut table = [0usize; 64];
+    let mut table = [0usize; PROCS_MOST];
     let v = call_tests::admit(file, map, &mut table, main, ptr, ctl, heap, bytes);
     match v {
         Verdict::Refuse(n, p) => Answer::Refused(n, p),
@@ -106,7 +108,7 @@ pub fn run(
       bytes = now (bytes .entry);
     }) ⌝ }
 {
-    let mut table = [0usize; 64];
+    let mut table = [0usize; PROCS_MOST];
     let t = call_tests::test_for_run(file, map, &mut table, main, ptr, ctl, heap, bytes);
     match t {
         Tested::Unfit(n, p) => Answer::Refused(n, p),

@@ -15,6 +15,7 @@ use Rattle.check_rows.specs.Tests.{asState}
 use Rattle.check_scan.specs.Marks.{unreached, stateIn, putIn}
 use Rattle.laws.specs.Members.{getD-any}
 use Rattle.check_flow.specs.Takes.{passOneIn, passAllIn}
+use Rattle.model.specs.File.{fileMost}
 
 -- a state is passed on, or another one is there
 abbrev pub passAns : Bool → List ℕ → Taking (List ℕ)
@@ -39,7 +40,7 @@ pub record OuterIs (m : List ℕ) (s : State) (r : Numbers) : Type 0 where
 
 -- a handler's place: none, or one that the map has
 abbrev pub HandlerIn : List ℕ → ℕ → Type 0
-HandlerIn m h = (h ≡ 65535) ⊎ ((3 * h + 2 < length m) × (h < 4096))
+HandlerIn m h = (h ≡ none) ⊎ ((3 * h + 2 < length m) × (h < fileMost))
 
 pub held-as : (m : List ℕ) (q : ℕ) (r : Numbers) → StateIs m q r → HandlerIn m (stateIn m q .inner) → HandlerIn m (r .inner)
 held-as m q r I h = rw (ap (λ (s : State). s .inner) (I .is)) h
@@ -47,7 +48,7 @@ held-as m q r I h = rw (ap (λ (s : State). s .inner) (I .is)) h
 -- a place that a state is passed to lies in the part, and the state's numbers fit it
 pub record Fitting (m : List ℕ) (q : ℕ) (s : State) : Type 0 where
   pub inside : 3 * q + 2 < length m
-  pub low : q < 4096
+  pub low : q < fileMost
   pub main-small : s .main < 65536
   pub ptr-small : s .ptr < 65536
   pub inner-small : s .inner < 65536
@@ -63,10 +64,10 @@ state-is m q a b c l ea eb ec =
     λ i. state (e0 i) (e1 i) (e2 i)
 
 module _ (m : List ℕ) (s : State) where
-  pub none-innermost : s .inner ≡ 65535 → state 0 0 65535 ≡ innermost (stateIn m) s
+  pub none-innermost : s .inner ≡ none → state 0 0 none ≡ innermost (stateIn m) s
   none-innermost z = rw (eq-eqb (s .inner) none z)
 
-  pub outer-some : (u : State) → (s .inner ≡ 65535 → ⊥) → u ≡ stateIn m (s .inner) → u ≡ innermost (stateIn m) s
+  pub outer-some : (u : State) → (s .inner ≡ none → ⊥) → u ≡ stateIn m (s .inner) → u ≡ innermost (stateIn m) s
   outer-some u z e = rw (ne-eqb (s .inner) none z) e
 
 module _ (m : List ℕ) (q : ℕ) (t s : State) (is : t ≡ stateIn m q) where

@@ -11,7 +11,7 @@ use lib.ListN.{length, getD, drop, length-drop}
 use lib.Seq.{getD-drop, drop-drop}
 use borrow.Author.Tests.{lt-ltb, le-ltb, eq-eqb, ne-eqb, eqb-true}
 use Rattle.model.specs.Choice.{if_then_else_, Mem, member}
-use Rattle.model.specs.File.{unknown, bodies, bodyOf, byteAt, after, whole?, Records, starts, recordsOf, startsIn, isHead, select, instructions, heads, procs, headOf, procAt, greatestMain, greatestPtr}
+use Rattle.model.specs.File.{unknown, bodies, bodyOf, byteAt, after, whole?, Records, starts, recordsOf, startsIn, isHead, select, instructions, heads, procs, headOf, procAt, greatestMain, greatestPtr, fileMost, headKind, headSize}
 use Rattle.model.specs.Checker.{none, State, state, isSet, Known, stateAt, innermost, own, firsts, Taking, bad, good, refused, passed, goOn, takeOne, takeAll, flow, mapFrom}
 use Rattle.laws_file.specs.Walk.{instructions-others, instructions-are, Walk, file-walk, walk-above, records-walk, after-above, after-head, head-in, first-head, instruction-below, HeadsHold, procs-some}
 use Rattle.laws.specs.Members.{member-in, in-member, select-in, getD-in, in-select}
@@ -30,7 +30,7 @@ use Rattle.check_flow.specs.declared.Verdict.the-variants.{Pass, Refuse}
 -- the records and heads of a file are right, and its part shows the first instructions
 pub record Begun (f m table : List ℕ) (k : ℕ) : Type 0 where
   pub some : 1 ≤ length f
-  pub few : length f ≤ 4096
+  pub few : length f ≤ fileMost
   pub bytes : (i : ℕ) → byteAt f i < 256
   pub places : List ℕ
   pub records : recordsOf f ≡ starts places
@@ -56,7 +56,7 @@ whole-known : (f : List ℕ) (p : ℕ) → whole? f p ≡ true → bodyOf (byteA
 unfolding whole?
 whole-known f p e z = true≢false (sym e ∙ rw (eq-eqb (bodyOf (byteAt f p)) unknown z))
 
-pub head-size : (f : List ℕ) (p : ℕ) → byteAt f p ≡ 240 → after f p ≡ p + 7
+pub head-size : (f : List ℕ) (p : ℕ) → byteAt f p ≡ headKind → after f p ≡ p + headSize
 unfolding after bodyOf bodies
 head-size f p z = rw z (omega arith)
 
@@ -102,7 +102,7 @@ module _ (f m₀ table : List ℕ) (k : ℕ) (B : Begun f m₀ table k) where
       let e = B .records in
       let z = first-head f (B .places) e in
       let r = rest-inv f 0 (B .places) (B .some) (sym (records-first f z) ∙ e) in
-      rw (e, r .1 .2, eq-eqb (byteAt f 0) 240 z)
+      rw (e, r .1 .2, eq-eqb (byteAt f 0) headKind z)
 
   pub begun-table : Table f table k
   begun-table =
@@ -150,15 +150,15 @@ module _ (f m₀ table : List ℕ) (k : ℕ) (B : Begun f m₀ table k) where
     flowing-inside = whole-inside f p (next-is .0)
 
     -- a head: the next procedure begins
-    pub flowing-head : byteAt f p ≡ 240 → (e′ : ℕ) → e′ ≡ endIn table k (c + 1) (length f) → Flowing f m table k (after f p) (c + 1) p e′
+    pub flowing-head : byteAt f p ≡ headKind → (e′ : ℕ) → e′ ≡ endIn table k (c + 1) (length f) → Flowing f m table k (after f p) (c + 1) p e′
     unfolding isHead headOf procs endOf
     flowing-head z e′ ee =
         let heads-are : drop c (heads f) ≡ p ∷ select (isHead f) (next-is .1 .0) =
-        F .to-come ∙ ap (select (isHead f)) (next-is .1 .2) ∙ rw (eq-eqb (byteAt f p) 240 z) in
+        F .to-come ∙ ap (select (isHead f)) (next-is .1 .2) ∙ rw (eq-eqb (byteAt f p) headKind z) in
         let a : length (heads f) - c ≡ suc (length (select (isHead f) (next-is .1 .0))) = sym (length-drop c (heads f)) ∙ ap length heads-are in
         let at : getD (heads f) c 0 ≡ p = head-first c (heads f) p (select (isHead f) (next-is .1 .0)) heads-are in
         let skip : ins f (F .rest) ≡ ins f (next-is .1 .0) =
-        ap (ins f) (next-is .1 .2) ∙ rw (eq-eqb (byteAt f p) 240 z) in
+        ap (ins f) (next-is .1 .2) ∙ rw (eq-eqb (byteAt f p) headKind z) in
         let up = after-above f p in
         record {
           rest = next-is .1 .0;
@@ -184,21 +184,21 @@ module _ (f m₀ table : List ℕ) (k : ℕ) (B : Begun f m₀ table k) where
             rw (lt-ltb n k l, lt-ltb n (length (heads f)) (omega arith)) (B .placed .heads n (omega arith))
         ends n q (no l) = rw (le-ltb n k (omega arith), le-ltb n (length (heads f)) (omega arith))
 
-    module _ (other : byteAt f p ≡ 240 → ⊥) where
+    module _ (other : byteAt f p ≡ headKind → ⊥) where
       ins-are : ins f (F .rest) ≡ p ∷ ins f (next-is .1 .0)
       unfolding isHead
-      ins-are = ap (ins f) (next-is .1 .2) ∙ rw (ne-eqb (byteAt f p) 240 other)
+      ins-are = ap (ins f) (next-is .1 .2) ∙ rw (ne-eqb (byteAt f p) headKind other)
 
       heads-are : select (isHead f) (F .rest) ≡ select (isHead f) (next-is .1 .0)
       unfolding isHead
-      heads-are = ap (select (isHead f)) (next-is .1 .2) ∙ rw (ne-eqb (byteAt f p) 240 other)
+      heads-are = ap (select (isHead f)) (next-is .1 .2) ∙ rw (ne-eqb (byteAt f p) headKind other)
 
       pub flowing-ins : Mem p (instructions f)
       unfolding isHead
       flowing-ins =
           rw (instructions-others f)
           (in-select (λ q. not (isHead f q)) (startsIn (recordsOf f)) p (F .part p (rw (next-is .1 .2) (inl refl)))
-          (rw (ne-eqb (byteAt f p) 240 other)))
+          (rw (ne-eqb (byteAt f p) headKind other)))
 
       -- the procedure that p lies in
       record InProc : Type 0 where
@@ -231,7 +231,7 @@ module _ (f m₀ table : List ℕ) (k : ℕ) (B : Begun f m₀ table k) where
               first-in (x ∷ l) z = inl refl
 
               far : p ≤ headOf f c → isHead f (headOf f c) ≡ true → Dec (p ≡ headOf f c) → p < headOf f c
-              far a t (yes z) = absurd (other (rw z (eqb-true (byteAt f (headOf f c)) 240 (unfold isHead in t))))
+              far a t (yes z) = absurd (other (rw z (eqb-true (byteAt f (headOf f c)) headKind (unfold isHead in t))))
               far a t (no z) = omega arith
 
           go : (p ≡ 0) ⊎ ((1 ≤ c) × (h ≡ headOf f (c - 1)) × (e ≡ endOf f c) × (h < p)) → InProc
@@ -260,7 +260,7 @@ module _ (f m₀ table : List ℕ) (k : ℕ) (B : Begun f m₀ table k) where
           in? : member p (instructions f) ≡ true
           in? = in-member p (instructions f) flowing-ins
 
-          place : (q : ℕ) → isSet (stateAt (F .known) q) ≡ true → (3 * q + 2 < length m) × (q < 4096)
+          place : (q : ℕ) → isSet (stateAt (F .known) q) ≡ true → (3 * q + 2 < length m) × (q < fileMost)
           place q h =
               let a = instruction-below f (B .places) (B .records) q (member-in q (instructions f) (G .shows .only q h)) in
               let l = G .shows .long in
@@ -302,11 +302,11 @@ module _ (f m₀ table : List ℕ) (k : ℕ) (B : Begun f m₀ table k) where
               let w = rest-inv f (after f p) (next-is .1 .0) (omega arith) (next-is .1 .1) in
               (w .1 .0, w .1 .2)
 
-          no-head : after f p < e → byteAt f (after f p) ≡ 240 → ⊥
+          no-head : after f p < e → byteAt f (after f p) ≡ headKind → ⊥
           no-head l z =
               let q = after f p in
               let hs : drop c (heads f) ≡ q ∷ select (isHead f) (first l .0) =
-              F .to-come ∙ heads-are ∙ ap (select (isHead f)) (first l .1) ∙ rw (eq-eqb (byteAt f q) 240 z) in
+              F .to-come ∙ heads-are ∙ ap (select (isHead f)) (first l .1) ∙ rw (eq-eqb (byteAt f q) headKind z) in
               let a : length (heads f) - c ≡ suc (length (select (isHead f) (first l .0))) = sym (length-drop c (heads f)) ∙ ap length hs in
               let at : getD (heads f) c 0 ≡ q = head-first c (heads f) q (select (isHead f) (first l .0)) hs in
               let ends : e ≡ q = I .end ∙ rw (lt-ltb c (length (heads f)) (omega arith)) at in
@@ -314,7 +314,7 @@ module _ (f m₀ table : List ℕ) (k : ℕ) (B : Begun f m₀ table k) where
 
           there : after f p < e → Mem (after f p) (instructions f)
           there l =
-              let n = ne-eqb (byteAt f (after f p)) 240 (no-head l) in
+              let n = ne-eqb (byteAt f (after f p)) headKind (no-head l) in
               rw (instructions-others f)
               (in-select (λ q. not (isHead f q)) (startsIn (recordsOf f)) (after f p) (part-next (after f p) (rw (first l .1) (inl refl)))
               (rw n))

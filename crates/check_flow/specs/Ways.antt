@@ -10,7 +10,7 @@ use lib.Dec.{ltb, leb, eqb}
 use lib.ListN.{length}
 use borrow.Author.Tests.{ltb-true}
 use Rattle.model.specs.Choice.{if_then_else_}
-use Rattle.model.specs.File.{Ins, basic, jump, branch, branchKeep, call, return, enter, exit, raise, bodyOf, byteAt, insOf, insAt, after, headOf, procAt, resultsMain, resultsPtr, greatestMain, greatestPtr}
+use Rattle.model.specs.File.{Ins, basic, jump, branch, branchKeep, call, return, enter, exit, raise, bodyOf, byteAt, insOf, insAt, after, headOf, procAt, resultsMain, resultsPtr, greatestMain, greatestPtr, fileMost}
 use Rattle.model.specs.Checker.{none, State, state, effect, moved, innermost, own, Taking, bad, good, need}
 use Rattle.laws_file.specs.Kinds.{NoneOf}
 use Rattle.check_rows.specs.declared.State.{State as Numbers}
@@ -362,21 +362,21 @@ module _ (f m : List ℕ) (h p : ℕ) (l : Limits) (H : Here f m h (l .end) p) (
 
 -- the places that are read and written lie in the part
 module _ {f m : List ℕ} {h e p : ℕ} (H : Here f m h e p) where
-  pub own-place : (q : ℕ) → ownIn m h e q ≡ true → (3 * q + 2 < length m) × (q < 4096)
+  pub own-place : (q : ℕ) → ownIn m h e q ≡ true → (3 * q + 2 < length m) × (q < fileMost)
   own-place q w =
       let a = H .own-low q (sym (H .owns q) ∙ w) in
       let b = H .long in
       let c = H .site .small in
       (omega arith, omega arith)
 
-  pub next-place : (q : ℕ) → q < e → (3 * q + 2 < length m) × (q < 4096)
+  pub next-place : (q : ℕ) → q < e → (3 * q + 2 < length m) × (q < fileMost)
   next-place q w =
       let a = H .end-low in
       let b = H .long in
       let c = H .site .small in
       (omega arith, omega arith)
 
-  pub here-place : (3 * p + 2 < length m) × (p < 4096)
+  pub here-place : (3 * p + 2 < length m) × (p < fileMost)
   here-place =
       let a = site.low (H .site) in
       let d = H .site .inside in
@@ -384,7 +384,7 @@ module _ {f m : List ℕ} {h e p : ℕ} (H : Here f m h e p) where
       let u = after-above f p in
       (omega arith, a)
 
-  pub ends-low : (3 * e ≤ length m) × (e ≤ 4096)
+  pub ends-low : (3 * e ≤ length m) × (e ≤ fileMost)
   ends-low =
       let a = H .end-low in
       let b = H .long in

@@ -17,15 +17,16 @@ ghost use Rattle.check_flow.specs.Flowing.{Begun, Flowed};
 use check_rows::Limits;
 use check_rows::State;
 use check_rows::UNREACHED;
-
-// No instruction, no handler.
-const NONE: usize = 65535;
-
-const HEAD: u8 = 240;
+use model::HEAD_KIND;
+use model::HEAD_SIZE;
+use model::NONE;
+use model::NONE_OPEN;
+use model::PROCS_MOST;
+ghost use Rattle.model.specs.File.{fileMost, headKind, procsMost};
 
 // The three numbers at q.
 fn state_in(m: &[u16], q: usize) -> State
-    requires { ⌜ (3 * q + 2 < length (now m)) × (q < 4096) ⌝ }
+    requires { ⌜ (3 * q + 2 < length (now m)) × (q < fileMost) ⌝ }
     ensures { λ r. ⌜ StateIs (now (m .entry)) q r ⌝ }
 {
     let i = 3 * q;
@@ -38,7 +39,7 @@ fn state_in(m: &[u16], q: usize) -> State
 
 // An instruction starts at q, between a procedure's head and its end.
 fn own(m: &[u16], head: usize, end: usize, q: usize) -> bool
-    requires { ⌜ (3 * end ≤ length (now m)) × (end ≤ 4096) ⌝ }
+    requires { ⌜ (3 * end ≤ length (now m)) × (end ≤ fileMost) ⌝ }
     ensures { λ r. ⌜ r ≡ ownIn (now (m .entry)) head end q ⌝ }
 {
     if q <= head {
@@ -47,7 +48,7 @@ fn own(m: &[u16], head: usize, end: usize, q: usize) -> bool
     if end <= q {
         return false;
     }
-    m[3 * q] != 65535
+    m[3 * q] != NONE
 }
 
 // The state at the innermost open handler.
@@ -56,11 +57,11 @@ fn outer_of(m: &[u16], s: State) -> State
     ensures { λ r. ⌜ OuterIs (now (m .entry)) (asState s) r ⌝ }
 {
     let inner = s.inner;
-    if inner == NONE {
+    if inner == NONE_OPEN {
         return State {
             main: 0,
             ptr: 0,
-            inner: NONE,
+            inner: NONE_OPEN,
         };
     }
     state_in(m, inner)
@@ -68,7 +69,7 @@ fn outer_of(m: &[u16], s: State) -> State
 
 // A state passed to q: it is the first there, or the same as the one there.
 fn pass_one(m: &mut [u16], q: usize, s: State) -> bool
-    requires { ⌜ (3 * q + 2 < length (now m)) × (q < 4096) × (s .main < 65536) × (s .ptr < 65536) × (s .inner < 65536) ⌝ }
+    requires { ⌜ (3 * q + 2 < length (now m)) × (q < fileMost) × (s .main < 65536) × (s .ptr < 65536) × (s .inner < 65536) ⌝ }
     ensures { λ r. ⌜ passAns r (now (m .exit)) ≡ passOneIn (now (m .entry)) q (asState s) ⌝ }
 {
     let t = state_in(m, q);
@@ -206,7 +207,7 @@ fn close(file: &[u8], m: &mut [u16], head: usize, limits: Limits, p: usize) -> u
     if limits.end <= next {
         return 6;
     }
-    if s.inner == NONE {
+    if s.inner == NONE_OPEN {
         return 8;
     }
     let o = outer_of(m, s);
@@ -237,7 +238,7 @@ fn leave(file: &[u8], m: &[u16], head: usize, limits: Limits, p: usize) -> u32
     if s.ptr != h.s {
         return 8;
     }
-    if s.inner != NONE {
+    if s.inner != NONE_OPEN {
         return 8;
     }
     0
@@ -251,8 +252,24 @@ fn jumps(file: &[u8], m: &mut [u16], head: usize, limits: Limits, p: usize, kind
     match kind {
         1 => jump(file, m, head, limits, p, code_file::forwards(file, p)),
         3 => jump(file, m, head, limits, p, code_file::backwards(file, p)),
-        2 => branch(file, m, head, limits, p, code_file::forwards(file, p), false),
-        4 => branch(file, m, head, limits, p, code_file::backwards(file, p), false),
+        2 => branch(
+            file,
+            m,
+            head,
+            limits,
+            p,
+            code_file::forwards(file, p),
+            false,
+        ),
+        4 => branch(
+            file,
+            m,
+            head,
+            limits,
+            p,
+            code_file::backwards(file, p),
+            false,
+        ),
         _ => branch(file, m, head, limits, p, code_file::forwards(file, p), true),
     }
 }
@@ -272,7 +289,7 @@ fn done(fault: u32, next: usize) -> Taken
 // An instruction that leads to the next one alone, or nowhere.
 fn plain(
     file: &[u8],
-    table: &[usize; 64],
+    table: &[usize; PROCS_MOST],
     m: &mut [u16],
     k: usize,
     head: usize,
@@ -304,7 +321,7 @@ fn plain(
 // The instruction of this kind at p, of the procedure with this head and these limits, of k procedures.
 fn take(
     file: &[u8],
-    table: &[usize; 64],
+    table: &[usize; PROCS_MOST],
     m: &mut [u16],
     k: usize,
     head: usize,
@@ -312,7 +329,7 @@ fn take(
     p: usize,
     kind: u8,
 ) -> Taken
-    requires { ⌜ Table (now file) (now table) k × Among (now file) (now m) head p limits kind × (kind ≡ 240 → ⊥) ⌝ }
+    requires { ⌜ Table (now file) (now table) k × Among (now file) (now m) head p limits kind × (kind ≡ headKind → ⊥) ⌝ }
     ensures { λ r. ⌜ Took (now (file .entry)) p (now (m .entry)) (now (m .exit)) r ⌝ }
 {
     match kind {
@@ -328,8 +345,8 @@ fn take(
 }
 
 // Where the procedure behind c heads ends, of k procedures in a file of n bytes.
-fn end_of(table: &[usize; 64], k: usize, c: usize, n: usize) -> usize
-    requires { ⌜ k ≤ 64 ⌝ }
+fn end_of(table: &[usize; PROCS_MOST], k: usize, c: usize, n: usize) -> usize
+    requires { ⌜ k ≤ procsMost ⌝ }
     ensures { λ r. ⌜ r ≡ endIn (now (table .entry)) k c n ⌝ }
 {
     if c < k { table[c] } else { n }
@@ -354,7 +371,7 @@ fn limits_of(file: &[u8], head: usize, end: usize) -> Limits
 }
 
 // The instructions in file order.
-pub fn flow(file: &[u8], m: &mut [u16], table: &[usize; 64], k: usize) -> Verdict
+pub fn flow(file: &[u8], m: &mut [u16], table: &[usize; PROCS_MOST], k: usize) -> Verdict
     requires { ⌜ Begun (now file) (now m) (now table) k ⌝ }
     ensures { λ r. ⌜ Flowed (now (file .entry)) (now (m .exit)) k r ⌝ }
 {
@@ -365,11 +382,11 @@ pub fn flow(file: &[u8], m: &mut [u16], table: &[usize; 64], k: usize) -> Verdic
     let mut limits = limits_of(file, 0, 0);
     while p < n {
         let kind = file[p];
-        if kind == HEAD {
+        if kind == HEAD_KIND {
             head = p;
             c += 1;
             limits = limits_of(file, p, end_of(table, k, c, n));
-            p += 7;
+            p += HEAD_SIZE;
         } else {
             let to = take(file, table, m, k, head, limits, p, kind);
             if to.fault != 0 {

@@ -9,8 +9,9 @@ use mathlib.Core.Path.{_≡_, refl, subst}
 use lib.Dec.{eqb}
 use borrow.Author.Tests.{ne-eqb}
 use Rattle.model.specs.Choice.{if_then_else_}
-use Rattle.model.specs.File.{codes, bodies, unknown, bodyOf, Ins, basic, jump, branch, branchKeep, call, return, enter, exit, raise, insOf}
+use Rattle.model.specs.File.{codes, bodies, unknown, bodyOf, Ins, basic, jump, branch, branchKeep, call, return, enter, exit, raise, insOf, headKind}
 use Rattle.laws_file.specs.Kinds.{OneOf, NoneOf, at-each, ins-other, body-other}
+use Rattle.model.specs.Checker.{none}
 
 -- what holds at each of n numbers from a on
 abbrev pub EachFrom : (ℕ → Type 0) → ℕ → ℕ → Type 0
@@ -42,7 +43,7 @@ abbrev pub NoJump : ℕ → Type 0
 NoJump k = (k < 1) ⊎ (6 < k)
 
 abbrev pub elsewhere : List (List ℕ)
-elsewhere = (161 ∷ []) ∷ (160 ∷ []) ∷ (73 ∷ []) ∷ (240 ∷ []) ∷ []
+elsewhere = (161 ∷ []) ∷ (160 ∷ []) ∷ (73 ∷ []) ∷ (headKind ∷ []) ∷ []
 
 -- the arms of `plain_at`, the last one first; 20 to 23 are told by a range
 abbrev pub rowArms : List (List ℕ)

@@ -11,6 +11,8 @@ ghost use Rattle.check_rows.specs.Site.{Table, Site};
 ghost use Rattle.check_rows.specs.Kinds.{NoJump, elsewhere};
 ghost use Rattle.check_rows.specs.Tests.{asState, stackOk, stacksOk};
 ghost use Rattle.check_rows.specs.Rows.{row, rowShape, refusal, plainly, Bounded, PushesFew};
+use model::PROCS_MOST;
+ghost use Rattle.model.specs.File.{fileMost};
 
 // No state has reached an instruction whose main depth is this; depths are at most 255.
 pub const UNREACHED: usize = 65534;
@@ -155,7 +157,7 @@ fn step(
     pushm: usize,
     pushp: usize,
 ) -> Onward
-    requires { ⌜ Bounded (asState s) (asState o) limits × (p < 4096) × (size < 256) × (pushm < 256) × (pushp < 256) ⌝ }
+    requires { ⌜ Bounded (asState s) (asState o) limits × (p < fileMost) × (size < 256) × (pushm < 256) × (pushp < 256) ⌝ }
     ensures { λ r. ⌜ r ≡ plainly (asState s) (asState o) limits (p + size) (rowShape Next (row popm popp pushm pushp 0 0)) ⌝ }
 {
     let next = p + size;
@@ -164,7 +166,7 @@ fn step(
 
 // 162: the state passes nowhere.
 fn raises(s: State, o: State, limits: Limits, p: usize) -> Onward
-    requires { ⌜ Bounded (asState s) (asState o) limits × (p < 4096) ⌝ }
+    requires { ⌜ Bounded (asState s) (asState o) limits × (p < fileMost) ⌝ }
     ensures { λ r. ⌜ r ≡ plainly (asState s) (asState o) limits (p + 1) (rowShape Raise (row 1 0 0 0 0 0)) ⌝ }
 {
     let next = p + 1;
@@ -201,7 +203,7 @@ fn locals(file: &[u8], p: usize, kind: u8, s: State, o: State, limits: Limits) -
 
 // 36, 60, 62, 64
 fn blocks(file: &[u8], p: usize, kind: u8, s: State, o: State, limits: Limits) -> Onward
-    requires { ⌜ (p + 4 < length (now file)) × (p < 4096) × ((kind ≡ 36) ⊎ ((kind ≡ 60) ⊎ ((kind ≡ 62) ⊎ (kind ≡ 64)))) × Bounded (asState s) (asState o) limits ⌝ }
+    requires { ⌜ (p + 4 < length (now file)) × (p < fileMost) × ((kind ≡ 36) ⊎ ((kind ≡ 60) ⊎ ((kind ≡ 62) ⊎ (kind ≡ 64)))) × Bounded (asState s) (asState o) limits ⌝ }
     ensures { λ r. ⌜ r ≡ plainly (asState s) (asState o) limits (p + 5) (shapeOf (now (file .entry)) p (model.insOf (now (file .entry)) p kind)) ⌝ }
 {
     let k = code_file::operand(file, p);
@@ -217,14 +219,14 @@ fn blocks(file: &[u8], p: usize, kind: u8, s: State, o: State, limits: Limits) -
 // 72, of k procedures
 fn calls(
     file: &[u8],
-    table: &[usize; 64],
+    table: &[usize; PROCS_MOST],
     k: usize,
     p: usize,
     s: State,
     o: State,
     limits: Limits,
 ) -> Onward
-    requires { ⌜ Table (now file) (now table) k × (p + 2 < length (now file)) × (p < 4096) × Bounded (asState s) (asState o) limits ⌝ }
+    requires { ⌜ Table (now file) (now table) k × (p + 2 < length (now file)) × (p < fileMost) × Bounded (asState s) (asState o) limits ⌝ }
     ensures { λ r. ⌜ r ≡ plainly (asState s) (asState o) limits (p + 3) (shapeOf (now (file .entry)) p (model.call (model.operand (now (file .entry)) p))) ⌝ }
 {
     let n = code_file::operand(file, p);
@@ -239,7 +241,7 @@ fn calls(
 // The instruction of this kind at p, of k procedures; one that has no row here is 162.
 pub fn plain_at(
     file: &[u8],
-    table: &[usize; 64],
+    table: &[usize; PROCS_MOST],
     k: usize,
     p: usize,
     kind: u8,

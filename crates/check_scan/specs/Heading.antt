@@ -10,7 +10,7 @@ use lib.Dec.{ltb, eqb}
 use lib.ListN.{length, getD}
 use borrow.Author.Tests.{eq-eqb, ne-eqb, lt-ltb, le-ltb, le-leb, lt-leb}
 use Rattle.model.specs.Choice.{if_then_else_, Test, same, atMost, yes?, all, All, all-true, member}
-use Rattle.model.specs.File.{byteAt, starts, recordsOf, instructions, heads, procs, headOf, entry, headTests, wrong, right, headsFrom, headsOf, paramsMain, paramsPtr}
+use Rattle.model.specs.File.{byteAt, starts, recordsOf, instructions, heads, procs, headOf, entry, headTests, wrong, right, headsFrom, headsOf, paramsMain, paramsPtr, fileMost, headSize}
 use Rattle.model.specs.Checker.{none, state, firsts}
 use Rattle.laws_file.specs.Walk.{file-walk, walk-above, head-in, after-head, instruction-below}
 use Rattle.laws.specs.Members.{getD-in, member-in}
@@ -57,12 +57,12 @@ unfoldable pub headOk : Head → ℕ → Bool
 headOk h k = all (headList h k true)
 
 unfoldable pub startsAt : List ℕ → ℕ → ℕ → Bool
-startsAt m n q = if ltb q n then not (eqb (getD m (3 * q) 0) 65535) else false
+startsAt m n q = if ltb q n then not (eqb (getD m (3 * q) 0) none) else false
 
 -- the map and the table as the scan left them: n heads, the 65th at last
 pub record ScanMarked (f m table : List ℕ) (n last : ℕ) : Type 0 where
   pub some : 1 ≤ length f
-  pub few : length f ≤ 4096
+  pub few : length f ≤ fileMost
   pub bytes : (i : ℕ) → byteAt f i < 256
   pub places : List ℕ
   pub whole : recordsOf f ≡ starts places
@@ -140,7 +140,7 @@ module _ {f m₀ table : List ℕ} {n last : ℕ} (M : ScanMarked f m₀ table n
         head-is : headOf f k ≡ p
         head-is = sym (M .listed k low) ∙ sym p-is
 
-        entry-is : entry f k ≡ p + 7
+        entry-is : entry f k ≡ p + headSize
         unfolding entry
         entry-is = rw head-is
 
@@ -154,38 +154,38 @@ module _ {f m₀ table : List ℕ} {n last : ℕ} (M : ScanMarked f m₀ table n
             let c = head-is in
             omega arith
 
-        starts-are : startsAt m (length f) (p + 7) ≡ member (p + 7) (instructions f)
+        starts-are : startsAt m (length f) (p + headSize) ≡ member (p + headSize) (instructions f)
         unfolding startsAt
-        starts-are = go (decLt (p + 7) (length f))
+        starts-are = go (decLt (p + headSize) (length f))
           where
-            far : (t : Bool) → member (p + 7) (instructions f) ≡ t → length f ≤ p + 7 → false ≡ t
-            far true w l = let b = instruction-below f (M .places) (M .whole) (p + 7) (member-in (p + 7) (instructions f) w) in absurd (omega arith)
+            far : (t : Bool) → member (p + headSize) (instructions f) ≡ t → length f ≤ p + headSize → false ≡ t
+            far true w l = let b = instruction-below f (M .places) (M .whole) (p + headSize) (member-in (p + headSize) (instructions f) w) in absurd (omega arith)
             far false w l = refl
 
             flip : (t : Bool) → not (not t) ≡ t
             flip true = refl
             flip false = refl
 
-            go : Dec (p + 7 < length f) →
-                (if ltb (p + 7) (length f) then not (eqb (getD m (3 * (p + 7)) 0) 65535) else false) ≡ member (p + 7) (instructions f)
-            go (yes l) = rw (lt-ltb (p + 7) (length f) l, starts-here f (firsts f k) m (H .shows) (p + 7) l) (flip (member (p + 7) (instructions f)))
-            go (no l) = rw (le-ltb (p + 7) (length f) (omega arith)) (far (member (p + 7) (instructions f)) refl (omega arith))
+            go : Dec (p + headSize < length f) →
+                (if ltb (p + headSize) (length f) then not (eqb (getD m (3 * (p + headSize)) 0) none) else false) ≡ member (p + headSize) (instructions f)
+            go (yes l) = rw (lt-ltb (p + headSize) (length f) l, starts-here f (firsts f k) m (H .shows) (p + headSize) l) (flip (member (p + headSize) (instructions f)))
+            go (no l) = rw (le-ltb (p + headSize) (length f) (omega arith)) (far (member (p + headSize) (instructions f)) refl (omega arith))
 
         -- no instruction starts behind it
-        pub heading-alone : {t : Bool} → t ≡ startsAt m (length f) (p + 7) → t ≡ false → Headed f m table (Wrong p)
+        pub heading-alone : {t : Bool} → t ≡ startsAt m (length f) (p + headSize) → t ≡ false → Headed f m table (Wrong p)
         unfolding headTests
         heading-alone t-is e =
-            let n : member (p + 7) (instructions f) ≡ false = sym starts-are ∙ sym t-is ∙ e in
+            let n : member (p + headSize) (instructions f) ≡ false = sym starts-are ∙ sym t-is ∙ e in
             at-fault p head-is (λ A. let y = A .1 .1 .1 .1 .0 in true≢false (sym (rw entry-is at y) ∙ n))
 
         -- one does
-        module _ {t : Bool} (t-is : t ≡ startsAt m (length f) (p + 7)) (there : t ≡ true) where
-          in-file : member (p + 7) (instructions f) ≡ true
+        module _ {t : Bool} (t-is : t ≡ startsAt m (length f) (p + headSize)) (there : t ≡ true) where
+          in-file : member (p + headSize) (instructions f) ≡ true
           in-file = sym starts-are ∙ sym t-is ∙ there
 
-          pub heading-fits : (p + 7 < length f) × (3 * (p + 7) + 2 < length m)
+          pub heading-fits : (p + headSize < length f) × (3 * (p + headSize) + 2 < length m)
           heading-fits =
-              let a = instruction-below f (M .places) (M .whole) (p + 7) (member-in (p + 7) (instructions f) in-file) in
+              let a = instruction-below f (M .places) (M .whole) (p + headSize) (member-in (p + headSize) (instructions f) in-file) in
               let l = H .shows .long in
               (a, omega arith)
 
@@ -203,7 +203,7 @@ module _ {f m₀ table : List ℕ} {n last : ℕ} (M : ScanMarked f m₀ table n
             pub heading-wrong : ok ≡ false → Headed f m table (Wrong p)
             heading-wrong e = (come ∙ rw (sym ok-all ∙ e, head-is), H .shows .long)
 
-            pub heading-right : {m′ : List ℕ} → ok ≡ true → m′ ≡ putIn m (p + 7) (state (head .a) (head .b) 65535) → Heading f m′ (k + 1)
+            pub heading-right : {m′ : List ℕ} → ok ≡ true → m′ ≡ putIn m (p + headSize) (state (head .a) (head .b) none) → Heading f m′ (k + 1)
             unfolding firsts procHead
             heading-right e me =
                 let s : k + 1 ≡ suc k = omega arith in
@@ -216,6 +216,6 @@ module _ {f m₀ table : List ℕ} {n last : ℕ} (M : ScanMarked f m₀ table n
                   most-k = omega arith;
                   so-far = come ∙ rw (sym ok-all ∙ e);
                   shows = rw (me, entry-is, ← same-state)
-                      (put-shows f (firsts f k) m (H .shows) (p + 7) (state (head .a) (head .b) none)
+                      (put-shows f (firsts f k) m (H .shows) (p + headSize) (state (head .a) (head .b) none)
                       (rw (ne-eqb (head .a) none (let a = h-is .a-small in omega arith))) in-file (heading-fits .0));
                 })

@@ -12,11 +12,11 @@ use lib.ListN.{length, getD, set, replicate, drop, length-set, length-replicate,
 use lib.Seq.{getD-set-same, getD-set-other, getD-drop, drop-drop}
 use borrow.Author.Tests.{eq-eqb, ne-eqb, lt-ltb, le-ltb}
 use Rattle.model.specs.Choice.{if_then_else_}
-use Rattle.model.specs.File.{byteAt, bodyOf, bodies, after, whole?, broken, starts, more, recordsOf, isHead, select}
+use Rattle.model.specs.File.{byteAt, bodyOf, bodies, after, whole?, broken, starts, more, recordsOf, isHead, select, headKind, procsMost}
 use Rattle.laws_file.specs.Rest.{restOf, rest-end, rest-more, rest-broken, whole-yes, whole-unknown, whole-cut, records-first, records-other}
 use Rattle.check_scan.specs.Marks.{unreached, marked}
-use Rattle.check_scan.specs.declared.Found.{Found}
-use Rattle.check_scan.specs.declared.Found.the-variants.{Broken, Whole}
+use Rattle.check_scan.specs.declared.RecordsFound.{RecordsFound}
+use Rattle.check_scan.specs.declared.RecordsFound.the-variants.{Broken, Whole}
 
 -- head k at p: the table has room for 64, and the place of the one behind them is kept by itself
 unfoldable pub listIn : List ℕ → ℕ → ℕ → List ℕ
@@ -45,7 +45,7 @@ empty-at zero n = refl
 empty-at (suc k) zero = refl
 empty-at (suc k) (suc n) = empty-at k n
 
-listed-first : (table hs : List ℕ) (last : ℕ) → table ≡ replicate 64 0 → Listed table 0 last hs hs
+listed-first : (table hs : List ℕ) (last : ℕ) → table ≡ replicate procsMost 0 → Listed table 0 last hs hs
 listed-first table hs last e =
     record {
       rest = refl;
@@ -119,12 +119,12 @@ module _ (table hs : List ℕ) (k last : ℕ) (L : Listed table k last hs []) wh
       at (no b) = let c = listed-count in rw (le-ltb n k (omega arith)) (sym (beyond hs n (omega arith)))
 
 -- what a scan comes to
-abbrev pub Comes : List ℕ → List ℕ → List ℕ → List ℕ → Found → Type 0
+abbrev pub Comes : List ℕ → List ℕ → List ℕ → List ℕ → RecordsFound → Type 0
 Comes f m m′ table (Broken p) = recordsOf f ≡ broken p
 Comes f m m′ table (Whole k last) =
     (ps : List ℕ) × (recordsOf f ≡ starts ps) × (m′ ≡ marked f m ps) × Listed table k last (select (isHead f) ps) []
 
-pub record Scanned (f m m′ table : List ℕ) (r : Found) : Type 0 where
+pub record Scanned (f m m′ table : List ℕ) (r : RecordsFound) : Type 0 where
   pub long : length m′ ≡ length m
   pub comes : Comes f m m′ table r
 
@@ -139,7 +139,7 @@ pub record ScanAt (f m₀ m table : List ℕ) (p k last : ℕ) : Type 0 where
       (qs : List ℕ) × (restOf f 0 ≡ starts qs) × (marked f m₀ qs ≡ marked f m ps)
       × Listed table k last (select (isHead f) qs) (select (isHead f) ps)
 
-going-first : (f m table : List ℕ) → byteAt f 0 ≡ 240 → table ≡ replicate 64 0 → ScanAt f m m table 0 0 0
+going-first : (f m table : List ℕ) → byteAt f 0 ≡ headKind → table ≡ replicate procsMost 0 → ScanAt f m m table 0 0 0
 going-first f m table h t =
     record {
       first = records-first f h;
@@ -150,7 +150,7 @@ going-first f m table h t =
       went = λ ps e. (ps, e, refl, listed-first table (select (isHead f) ps) 0 t);
     }
 
-pub scanned-other : (f m table : List ℕ) → (byteAt f 0 ≡ 240 → ⊥) → Scanned f m m table (Broken 0)
+pub scanned-other : (f m table : List ℕ) → (byteAt f 0 ≡ headKind → ⊥) → Scanned f m m table (Broken 0)
 scanned-other f m table h = record { long = refl; comes = records-other f h }
 
 pub scan-end : {f m₀ m table : List ℕ} {p k last : ℕ} → ScanAt f m₀ m table p k last → length f ≤ p → Scanned f m₀ m table (Whole k last)
@@ -164,7 +164,7 @@ pub record Behind (f m₀ m table : List ℕ) (p k last q : ℕ) : Type 0 where
   pub here : p ≤ length f → ScanAt f m₀ m table p k last
   pub cut : length f < p → Scanned f m₀ m table (Broken q)
 
-pub behind-first : (f m table : List ℕ) → byteAt f 0 ≡ 240 → table ≡ replicate 64 0 → Behind f m m table 0 0 0 0
+pub behind-first : (f m table : List ℕ) → byteAt f 0 ≡ headKind → table ≡ replicate procsMost 0 → Behind f m m table 0 0 0 0
 behind-first f m table h t = record { long = refl; here = λ l. going-first f m table h t; cut = λ l. absurd (omega arith) }
 
 -- the record at p as the code yields it: b is the body's length
@@ -175,7 +175,7 @@ module _ {f m₀ m table : List ℕ} {p k last b : ℕ} (G : ScanAt f m₀ m tab
   pub scan-unknown : b ≡ 255 → Scanned f m₀ m table (Broken p)
   scan-unknown e = going-broken m table (G .long) (whole-unknown f p (sym is ∙ e))
 
-  pub head-body : getD f p 0 ≡ 240 → b ≡ 6
+  pub head-body : getD f p 0 ≡ headKind → b ≡ 6
   unfolding bodyOf bodies
   head-body z = is ∙ ap bodyOf z
 
@@ -190,7 +190,7 @@ module _ {f m₀ m table : List ℕ} {p k last b : ℕ} (G : ScanAt f m₀ m tab
     goes-on : q ≤ length f → restOf f p ≡ more p (restOf f q)
     goes-on l = rest-more f p h (whole-yes f p (λ z. u (is ∙ z)) (rw here l)) ∙ ap (λ (r : ℕ). more p (restOf f r)) here
 
-    pub scan-mark : {m′ : List ℕ} → (getD f p 0 ≡ 240 → ⊥) → m′ ≡ set m (3 * p) unreached → Behind f m₀ m′ table q k last p
+    pub scan-mark : {m′ : List ℕ} → (getD f p 0 ≡ headKind → ⊥) → m′ ≡ set m (3 * p) unreached → Behind f m₀ m′ table q k last p
     unfolding marked isHead
     scan-mark {m′} other e = record { long = long; here = on; cut = cut-here m′ table long }
       where
@@ -198,10 +198,10 @@ module _ {f m₀ m table : List ℕ} {p k last b : ℕ} (G : ScanAt f m₀ m tab
         long = rw e (length-set m (3 * p) unreached) ∙ G .long
 
         marks : (ps : List ℕ) → marked f m (p ∷ ps) ≡ marked f m′ ps
-        marks ps = rw (ne-eqb (byteAt f p) 240 other, e)
+        marks ps = rw (ne-eqb (byteAt f p) headKind other, e)
 
         passed : (ps hs : List ℕ) → Listed table k last hs (select (isHead f) (p ∷ ps)) → Listed table k last hs (select (isHead f) ps)
-        passed ps hs L = rw (ne-eqb (byteAt f p) 240 other) at L
+        passed ps hs L = rw (ne-eqb (byteAt f p) headKind other) at L
 
         on : q ≤ length f → ScanAt f m₀ m′ table q k last
         on l =
@@ -217,18 +217,18 @@ module _ {f m₀ m table : List ℕ} {p k last b : ℕ} (G : ScanAt f m₀ m tab
                   (g .0, g .1, g .2 ∙ marks ps, passed ps (select (isHead f) (g .0)) (g .3));
             }
 
-    pub scan-head : {table′ : List ℕ} {last′ : ℕ} → getD f p 0 ≡ 240 → table′ ≡ listIn table k p → last′ ≡ lastIn last k p →
+    pub scan-head : {table′ : List ℕ} {last′ : ℕ} → getD f p 0 ≡ headKind → table′ ≡ listIn table k p → last′ ≡ lastIn last k p →
         Behind f m₀ m table′ q (k + 1) last′ p
     unfolding marked isHead
     scan-head {table′} {last′} is-head te le = record { long = G .long; here = on; cut = cut-here m table′ (G .long) }
       where
         marks : (ps : List ℕ) → marked f m (p ∷ ps) ≡ marked f m ps
-        marks ps = rw (eq-eqb (byteAt f p) 240 is-head)
+        marks ps = rw (eq-eqb (byteAt f p) headKind is-head)
 
         noted : (ps hs : List ℕ) → Listed table k last hs (select (isHead f) (p ∷ ps)) → Listed table′ (k + 1) last′ hs (select (isHead f) ps)
         noted ps hs L =
             let s : k + 1 ≡ suc k = omega arith in
-            let M : Listed table k last hs (p ∷ select (isHead f) ps) = rw (eq-eqb (byteAt f p) 240 is-head) at L in
+            let M : Listed table k last hs (p ∷ select (isHead f) ps) = rw (eq-eqb (byteAt f p) headKind is-head) at L in
             rw (te, le, s) (listed-more table hs (select (isHead f) ps) k last p M (G .table-long))
 
         on : q ≤ length f → ScanAt f m₀ m table′ q (k + 1) last′

@@ -3,30 +3,31 @@ ghost use mathlib.Core.Path.{_≡_};
 ghost use Prim.Native.Nat.{_+_, _*_, _<_, _≤_};
 ghost use lib.ListN.{length, replicate, set};
 ghost use Rattle.model.specs.File as model;
-ghost use Rattle.model.specs.Checker.{state};
+ghost use Rattle.model.specs.Checker.{state, none};
 ghost use Rattle.check_scan.specs.Marks.{putIn};
 ghost use Rattle.check_scan.specs.Scanning.{Scanned, listIn, lastIn};
 ghost use Rattle.check_scan.specs.Heading.{headOk, numberOk, startsAt, ScanMarked, Headed};
 use code_file::Head;
+use model::HEAD_KIND;
+use model::HEAD_SIZE;
+use model::NONE;
+use model::PROCS_MOST;
+ghost use Rattle.model.specs.File.{fileMost, headSize, procsMost};
 
-// No instruction, no handler.
-const NONE: u16 = 65535;
 // An instruction starts here that no state has reached yet; depths are at most 255.
 const UNREACHED: u16 = 65534;
-
-const HEAD: u8 = 240;
 
 const UNKNOWN: usize = 255;
 
 // What the records of a file come to.
-pub enum Found {
+pub enum RecordsFound {
     Broken(usize), // the place of the first that is at fault
     Whole(usize, usize), // the number of heads, and the place of the 65th
 }
 
 // Every number is 65,535.
 pub fn fill(m: &mut [u16])
-    ensures { λ _. ⌜ now (m .exit) ≡ replicate (length (now (m .entry))) 65535 ⌝ }
+    ensures { λ _. ⌜ now (m .exit) ≡ replicate (length (now (m .entry))) none ⌝ }
 {
     let mut i = 0;
     while i < m.len() {
@@ -37,7 +38,7 @@ pub fn fill(m: &mut [u16])
 
 // An instruction with b bytes behind its kind starts at p: it is marked. The place behind it.
 fn mark(m: &mut [u16], p: usize, b: usize) -> usize
-    requires { ⌜ (3 * p < length (now m)) × (p < 4096) × (b < 256) ⌝ }
+    requires { ⌜ (3 * p < length (now m)) × (p < fileMost) × (b < 256) ⌝ }
     ensures map { λ _. ⌜ now (m .exit) ≡ set (now (m .entry)) (3 * p) 65534 ⌝ }
     ensures place { λ r. ⌜ r ≡ p + 1 + b ⌝ }
 {
@@ -46,27 +47,27 @@ fn mark(m: &mut [u16], p: usize, b: usize) -> usize
 }
 
 // Head k stands at p: the table has room for 64, and the place of the 65th is kept by itself.
-fn list(table: &mut [usize; 64], k: usize, last: usize, p: usize) -> usize
+fn list(table: &mut [usize; PROCS_MOST], k: usize, last: usize, p: usize) -> usize
     ensures heads { λ _. ⌜ now (table .exit) ≡ listIn (now (table .entry)) k p ⌝ }
     ensures later { λ r. ⌜ r ≡ lastIn last k p ⌝ }
 {
-    if k < 64 {
+    if k < PROCS_MOST {
         table[k] = p;
         return last;
     }
-    if k == 64 { p } else { last }
+    if k == PROCS_MOST { p } else { last }
 }
 
 // Refusal 3: the records in file order, the instructions among them marked, the heads listed. Each common length has a branch of its own:
 // the processor foresees where the next record starts, and does not wait for the length. The tests are mostly `<`: of equal tests the
 // compiler would make one jump by a table. Only the last record can be cut short, so that is asked once, behind the loop.
-pub fn scan(file: &[u8], m: &mut [u16], table: &mut [usize; 64]) -> Found
-    requires { ⌜ (1 ≤ length (now file)) × (length (now file) ≤ 4096) × (length (now m) ≡ 3 * length (now file)) × (now table ≡ replicate 64 0) ⌝ }
+pub fn scan(file: &[u8], m: &mut [u16], table: &mut [usize; PROCS_MOST]) -> RecordsFound
+    requires { ⌜ (1 ≤ length (now file)) × (length (now file) ≤ fileMost) × (length (now m) ≡ 3 * length (now file)) × (now table ≡ replicate procsMost 0) ⌝ }
     ensures { λ r. ⌜ Scanned (now (file .entry)) (now (m .entry)) (now (m .exit)) (now (table .exit)) r ⌝ }
 {
     let n = file.len();
-    if file[0] != HEAD {
-        return Found::Broken(0);
+    if file[0] != HEAD_KIND {
+        return RecordsFound::Broken(0);
     }
     let bodies = code_file::bodies();
     let mut p = 0;
@@ -85,20 +86,20 @@ pub fn scan(file: &[u8], m: &mut [u16], table: &mut [usize; 64]) -> Found
             p = mark(m, p, 2);
         } else if b == 4 {
             p = mark(m, p, 4);
-        } else if kind == HEAD {
+        } else if kind == HEAD_KIND {
             last = list(table, k, last, p);
             k += 1;
-            p += 7;
+            p += HEAD_SIZE;
         } else if b == UNKNOWN {
-            return Found::Broken(p);
+            return RecordsFound::Broken(p);
         } else {
             p = mark(m, p, b);
         }
     }
     if n < p {
-        Found::Broken(from)
+        RecordsFound::Broken(from)
     } else {
-        Found::Whole(k, last)
+        RecordsFound::Whole(k, last)
     }
 }
 
@@ -106,7 +107,7 @@ pub fn scan(file: &[u8], m: &mut [u16], table: &mut [usize; 64]) -> Found
 fn number_right(head: Head, k: usize) -> bool
     ensures { λ r. ⌜ r ≡ numberOk head k ⌝ }
 {
-    if 64 <= k {
+    if PROCS_MOST <= k {
         return false;
     }
     if k != 0 {
@@ -139,7 +140,7 @@ fn head_right(head: Head, k: usize) -> bool
 
 // An instruction starts at q, in a file of n bytes.
 fn follows(m: &[u16], n: usize, q: usize) -> bool
-    requires { ⌜ (length (now m) ≡ 3 * n) × (n ≤ 4096) ⌝ }
+    requires { ⌜ (length (now m) ≡ 3 * n) × (n ≤ fileMost) ⌝ }
     ensures { λ r. ⌜ r ≡ startsAt (now (m .entry)) n q ⌝ }
 {
     if n <= q {
@@ -150,7 +151,7 @@ fn follows(m: &[u16], n: usize, q: usize) -> bool
 
 // The three numbers at q.
 pub fn put(m: &mut [u16], q: usize, main: u16, ptr: u16, inner: u16)
-    requires { ⌜ (3 * q + 2 < length (now m)) × (q < 4096) ⌝ }
+    requires { ⌜ (3 * q + 2 < length (now m)) × (q < fileMost) ⌝ }
     ensures { λ _. ⌜ now (m .exit) ≡ putIn (now (m .entry)) q (state main ptr inner) ⌝ }
 {
     let i = 3 * q;
@@ -167,27 +168,33 @@ pub enum Heads {
 
 // A head at p is right: its first instruction gets its state.
 fn place_head(m: &mut [u16], head: Head, p: usize)
-    requires { ⌜ (3 * (p + 7) + 2 < length (now m)) × (p + 7 < 4096) × (head .a < 256) × (head .b < 256) ⌝ }
-    ensures { λ _. ⌜ now (m .exit) ≡ putIn (now (m .entry)) (p + 7) (state (head .a) (head .b) 65535) ⌝ }
+    requires { ⌜ (3 * (p + headSize) + 2 < length (now m)) × (p + headSize < fileMost) × (head .a < 256) × (head .b < 256) ⌝ }
+    ensures { λ _. ⌜ now (m .exit) ≡ putIn (now (m .entry)) (p + headSize) (state (head .a) (head .b) none) ⌝ }
 {
     let a = head.a as u16;
     let b = head.b as u16;
-    put(m, p + 7, a, b, NONE);
+    put(m, p + HEAD_SIZE, a, b, NONE);
 }
 
 // Refusal 4: the n heads in file order, as the scan listed them; the 65th stands at last.
-pub fn heads_of(file: &[u8], m: &mut [u16], table: &[usize; 64], n: usize, last: usize) -> Heads
+pub fn heads_of(
+    file: &[u8],
+    m: &mut [u16],
+    table: &[usize; PROCS_MOST],
+    n: usize,
+    last: usize,
+) -> Heads
     requires { ⌜ ScanMarked (now file) (now m) (now table) n last ⌝ }
     ensures { λ r. ⌜ Headed (now (file .entry)) (now (m .exit)) (now (table .entry)) r ⌝ }
 {
     let size = file.len();
     let mut k = 0;
     while k < n {
-        if k == 64 {
+        if k == PROCS_MOST {
             return Heads::Wrong(last);
         }
         let p = table[k];
-        let there = follows(m, size, p + 7);
+        let there = follows(m, size, p + HEAD_SIZE);
         if there {
             let head = code_file::head_at(file, p);
             let right = head_right(head, k);

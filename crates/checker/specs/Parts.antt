@@ -9,7 +9,7 @@ use lib.Dec.{eqb}
 use lib.ListN.{length, getD, drop, replicate}
 use borrow.Author.Tests.{eq-eqb, eqb-true, le-leb, lt-leb}
 use Rattle.model.specs.Choice.{if_then_else_}
-use Rattle.model.specs.File.{byteAt, Records, recordsOf, startsIn, isHead, select, heads, wrong, right, headsOf, headOf, entry, procs, paramsMain, paramsPtr, headTests}
+use Rattle.model.specs.File.{byteAt, Records, recordsOf, startsIn, isHead, select, heads, wrong, right, headsOf, headOf, entry, procs, paramsMain, paramsPtr, headTests, fileMost, procsMost}
 use Rattle.model.specs.Checker.{none, Known, stateAt, isSet, firsts, first, mapFrom}
 use Rattle.model.specs.Calls.{overMap, wiped, pass, refuse, scanned, verdictOf, checked, answered, checkOf}
 use Rattle.theory_checker.specs.Flow.{DepthsWithin}
@@ -19,8 +19,8 @@ use Rattle.check_scan.specs.Scanning.{Comes, Scanned, listed-count, listed-all}
 use Rattle.check_scan.specs.Heading.{ScanMarked, Placed}
 use Rattle.check_flow.specs.Takes.{Fit}
 use Rattle.check_flow.specs.Flowing.{Begun, Flowed}
-use Rattle.check_scan.specs.declared.Found.{Found}
-use Rattle.check_scan.specs.declared.Found.the-variants.{Broken, Whole}
+use Rattle.check_scan.specs.declared.RecordsFound.{RecordsFound}
+use Rattle.check_scan.specs.declared.RecordsFound.the-variants.{Broken, Whole}
 use Rattle.check_flow.specs.declared.Verdict.{Verdict}
 use Rattle.check_flow.specs.declared.Verdict.the-variants.{Pass, Refuse}
 use Rattle.model.specs.declared.Answer.{Answer}
@@ -29,10 +29,10 @@ use Rattle.model.specs.declared.Answer.the-variants.{Passed, Refused}
 -- a file, its part of the map and an empty table
 pub record Lengths (f m table : List ℕ) : Type 0 where
   pub some : 1 ≤ length f
-  pub few : length f ≤ 4096
+  pub few : length f ≤ fileMost
   pub bytes : (i : ℕ) → byteAt f i < 256
   pub part : length m ≡ 3 * length f
-  pub empty : table ≡ replicate 64 0
+  pub empty : table ≡ replicate procsMost 0
 
 -- what refusals 3 to 9 come to, whatever the map was
 abbrev pub Looked : List ℕ → List ℕ → List ℕ → Verdict → Type 0
@@ -56,7 +56,7 @@ pub record Checks (f map map′ table : List ℕ) (v : Verdict) : Type 0 where
   pub placed : (n : ℕ) → v ≡ Pass n → Placed f table n
 
 -- refusal 3, and what the marked part shows
-module _ (f m m₁ m₂ table table₂ : List ℕ) (L : Lengths f m table) (one : m₁ ≡ replicate (length m) 65535) (r : Found) (S : Scanned f m₁ m₂ table₂ r) where
+module _ (f m m₁ m₂ table table₂ : List ℕ) (L : Lengths f m table) (one : m₁ ≡ replicate (length m) none) (r : RecordsFound) (S : Scanned f m₁ m₂ table₂ r) where
   pub look-broken : (p : ℕ) → r ≡ Broken p → Looked f m₂ table₂ (Refuse 3 p)
   look-broken p e map = let w : Comes f m₁ m₂ table₂ (Broken p) = rw e at (S .comes) in rw w
 
@@ -149,7 +149,7 @@ fill-kept f m table (Refuse n p) h L = absurd (h n p refl)
 refuse-pass : {A : Type 0} (n p k : ℕ) → Refuse n p ≡ Pass k → A
 refuse-pass n p k z = let v : _≡_ {A = ℕ} 0 1 = cc in absurd (omega arith)
 
-pub fill-refused : (f m m′ table : List ℕ) (v : Verdict) (n p : ℕ) → v ≡ Refuse n p → Looked f m table v → m′ ≡ replicate (length m) 65535 →
+pub fill-refused : (f m m′ table : List ℕ) (v : Verdict) (n p : ℕ) → v ≡ Refuse n p → Looked f m table v → m′ ≡ replicate (length m) none →
     length m ≡ 3 * length f → Filled f m′ table (Refuse n p)
 fill-refused f m m′ table v n p e L w l =
     let R : Looked f m table (Refuse n p) = rw e at L in
@@ -161,22 +161,22 @@ module _ (f map table : List ℕ) where
   unfolding checkOf verdictOf
   check-none l = record { is = rw (lt-leb 1 (length f) l); placed = λ k z. refuse-pass 1 0 k z }
 
-  pub check-long : 1 ≤ length f → 4096 < length f → Checks f map map table (Refuse 1 0)
+  pub check-long : 1 ≤ length f → fileMost < length f → Checks f map map table (Refuse 1 0)
   unfolding checkOf verdictOf
-  check-long a l = record { is = rw (le-leb 1 (length f) a, lt-leb (length f) 4096 l); placed = λ k z. refuse-pass 1 0 k z }
+  check-long a l = record { is = rw (le-leb 1 (length f) a, lt-leb (length f) fileMost l); placed = λ k z. refuse-pass 1 0 k z }
 
-  module _ (a : 1 ≤ length f) (b : length f ≤ 4096) where
+  module _ (a : 1 ≤ length f) (b : length f ≤ fileMost) where
     pub check-map : length map < 3 * length f → Checks f map map table (Refuse 2 0)
     unfolding checkOf verdictOf
     check-map l =
-        record { is = rw (le-leb 1 (length f) a, le-leb (length f) 4096 b, lt-leb (3 * length f) (length map) l); placed = λ k z. refuse-pass 2 0 k z }
+        record { is = rw (le-leb 1 (length f) a, le-leb (length f) fileMost b, lt-leb (3 * length f) (length map) l); placed = λ k z. refuse-pass 2 0 k z }
 
     pub check-rest : (m map′ : List ℕ) (r : Verdict) → 3 * length f ≤ length map → Filled f m table r → map′ ≡ m ++ drop (3 * length f) map → Checks f map map′ table r
     unfolding checkOf verdictOf
     check-rest m map′ r l F e =
         record {
           is =
-              rw (le-leb 1 (length f) a, le-leb (length f) 4096 b, le-leb (3 * length f) (length map) l, e)
+              rw (le-leb 1 (length f) a, le-leb (length f) fileMost b, le-leb (3 * length f) (length map) l, e)
               (sym (F .is map ∙ (unfold overMap in refl)));
           placed = F .placed;
         }

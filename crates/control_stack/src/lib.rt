@@ -3,7 +3,7 @@ ghost use mathlib.Core.Path.{_≡_};
 ghost use Prim.Native.Nat.{ℕ, _+_, _*_, _/_, _<_, _≤_};
 ghost use lib.ListN.{length};
 ghost use Rattle.model.specs.Words.{wordAt, cut};
-ghost use Rattle.model.specs.Control.{frameRec, handlerRec, asHandler, recAt, putRec, frameOf, handlerOf};
+ghost use Rattle.model.specs.Control.{frameRec, handlerRec, asHandler, recAt, putRec, frameOf, handlerOf, recordWords};
 ghost use Rattle.control_stack.specs.Layout.{theFrame, theHandler, FrameIs, FrameWords, HandlerWords, Numbered, Onto};
 use model::RECORD;
 
@@ -49,15 +49,15 @@ pub struct Handler {
 
 // Word `i` of the record on top of `left` others.
 fn word(ctl: &[u32], left: usize, i: usize) -> usize
-    requires { ⌜ 5 * left + i < length (now ctl) ⌝ }
-    ensures { λ r. ⌜ (r ≡ wordAt (now (ctl .entry)) (5 * left + i)) × (r < 4294967296) ⌝ }
+    requires { ⌜ recordWords * left + i < length (now ctl) ⌝ }
+    ensures { λ r. ⌜ (r ≡ wordAt (now (ctl .entry)) (recordWords * left + i)) × (r < 4294967296) ⌝ }
 {
     ctl[RECORD * left + i] as usize
 }
 
 // The record on top of `left` others, a frame's.
 pub fn frame_at(ctl: &[u32], left: usize) -> Frame
-    requires { ⌜ 5 * left + 4 < length (now ctl) ⌝ }
+    requires { ⌜ recordWords * left + 4 < length (now ctl) ⌝ }
     ensures { λ r. ⌜ FrameIs (now (ctl .entry)) left r ⌝ }
 {
     Frame {
@@ -71,7 +71,7 @@ pub fn frame_at(ctl: &[u32], left: usize) -> Frame
 
 // The record on top of `left` others, a handler's.
 pub fn handler_at(ctl: &[u32], left: usize) -> Handler
-    requires { ⌜ 5 * left + 4 < length (now ctl) ⌝ }
+    requires { ⌜ recordWords * left + 4 < length (now ctl) ⌝ }
     ensures { λ r. ⌜ theHandler r ≡ asHandler (recAt (now (ctl .entry)) left) ⌝ }
 {
     Handler {
@@ -130,7 +130,7 @@ pub fn outer_of(ctl: &[u32], n: usize) -> usize
 // A frame's record on top of those under `top`.
 pub fn put_frame(ctl: &mut [u32], top: usize, frame: Frame)
     requires { ⌜ Onto (now ctl) top × FrameWords frame ⌝ }
-    ensures { λ _. ⌜ now (ctl .exit) ≡ putRec (now (ctl .entry)) (top / 5) (frameRec (theFrame frame)) ⌝ }
+    ensures { λ _. ⌜ now (ctl .exit) ≡ putRec (now (ctl .entry)) (top / recordWords) (frameRec (theFrame frame)) ⌝ }
 {
     ctl[top + MAIN_BASE] = frame.main_base as u32;
     ctl[top + PTR_BASE] = frame.ptr_base as u32;
@@ -142,7 +142,7 @@ pub fn put_frame(ctl: &mut [u32], top: usize, frame: Frame)
 // A handler's record on top of those under `top`.
 pub fn put_handler(ctl: &mut [u32], top: usize, handler: Handler)
     requires { ⌜ Onto (now ctl) top × HandlerWords handler ⌝ }
-    ensures { λ _. ⌜ now (ctl .exit) ≡ putRec (now (ctl .entry)) (top / 5) (handlerRec (theHandler handler)) ⌝ }
+    ensures { λ _. ⌜ now (ctl .exit) ≡ putRec (now (ctl .entry)) (top / recordWords) (handlerRec (theHandler handler)) ⌝ }
 {
     ctl[top + OPENED] = handler.opened as u32;
     ctl[top + MAIN_TOP] = handler.main_top as u32;
@@ -153,7 +153,7 @@ pub fn put_handler(ctl: &mut [u32], top: usize, handler: Handler)
 
 // The topmost record, which starts at `at`, goes: "what is popped is zeroed".
 pub fn clear_record(ctl: &mut [u32], at: usize)
-    requires { ⌜ (at + 5 ≤ length (now ctl)) × ((i : ℕ) → at + 5 ≤ i → wordAt (now ctl) i ≡ 0) ⌝ }
+    requires { ⌜ (at + recordWords ≤ length (now ctl)) × ((i : ℕ) → at + recordWords ≤ i → wordAt (now ctl) i ≡ 0) ⌝ }
     ensures { λ _. ⌜ now (ctl .exit) ≡ cut at (now (ctl .entry)) ⌝ }
 {
     ctl[at] = 0;

@@ -8,7 +8,7 @@ use native.Mathlib.Omega.{arith}
 use lib.Dec.{leb, eqb}
 use lib.ListN.{length}
 use borrow.Author.Tests.{lt-ltb, le-ltb, lt-leb, eq-eqb, ne-eqb, le-leb, leb-true}
-use Rattle.model.specs.File.{byteAt, bodyOf, unknown, after, whole?, Records, broken, starts, more, recordsFrom, recordsOf}
+use Rattle.model.specs.File.{byteAt, bodyOf, unknown, after, whole?, Records, broken, starts, more, recordsFrom, recordsOf, headKind}
 use Rattle.laws_file.specs.Walk.{after-above}
 use Rattle.model.specs.Choice.{if_then_else_}
 
@@ -59,13 +59,13 @@ pub whole-cut : (f : List ℕ) (p : ℕ) → length f < after f p → whole? f p
 unfolding whole?
 whole-cut f p a = rw (lt-leb (after f p) (length f) a) (and-right (not (eqb (bodyOf (byteAt f p)) unknown)))
 
-pub records-first : (f : List ℕ) → byteAt f 0 ≡ 240 → recordsOf f ≡ restOf f 0
+pub records-first : (f : List ℕ) → byteAt f 0 ≡ headKind → recordsOf f ≡ restOf f 0
 unfolding recordsOf restOf
-records-first f h = rw (eq-eqb (byteAt f 0) 240 h)
+records-first f h = rw (eq-eqb (byteAt f 0) headKind h)
 
-pub records-other : (f : List ℕ) → (byteAt f 0 ≡ 240 → ⊥) → recordsOf f ≡ broken 0
+pub records-other : (f : List ℕ) → (byteAt f 0 ≡ headKind → ⊥) → recordsOf f ≡ broken 0
 unfolding recordsOf
-records-other f h = rw (ne-eqb (byteAt f 0) 240 h)
+records-other f h = rw (ne-eqb (byteAt f 0) headKind h)
 
 -- a record of a file whose records are whole
 more-inv : (p : ℕ) (r : Records) (ps : List ℕ) → more p r ≡ starts ps → (qs : List ℕ) × (r ≡ starts qs) × (ps ≡ p ∷ qs)

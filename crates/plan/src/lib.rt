@@ -2,9 +2,9 @@
 // here. Codes of one family share a function and an arm. Inside its arm the code is chosen again, so that the family's function gets
 // it as a constant; the compiler makes one jump table of all the matches. 20 and 22 have arms of their own: their plans differ in `Into`, and
 // in one arm the compiler joins the two and asks for it again, with a second jump table.
+use model::Regs;
 use plan_meaning::Into;
 use plan_meaning::Plan;
-use model::Regs;
 ghost use mathlib.Core.Path.{_≡_};
 ghost use mathlib.Core.List.{List};
 ghost use mathlib.Core.Logic.{_⊎_};

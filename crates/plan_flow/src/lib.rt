@@ -1,11 +1,11 @@
 // Document 01, the table of codes with their effects: what the instructions are about to do that go elsewhere, compute or open a record.
 // Nothing is written here. Codes of one family share a function.
-use plan_meaning::Into;
-use plan_meaning::Plan;
-use plan_meaning::Put;
 use model::RECORD;
 use model::Regs;
 use model::Value;
+use plan_meaning::Into;
+use plan_meaning::Plan;
+use plan_meaning::Put;
 ghost use mathlib.Core.Path.{_≡_};
 ghost use mathlib.Core.List.{List};
 ghost use mathlib.Core.Logic.{_⊎_};
@@ -260,7 +260,21 @@ pub fn unaries(main: &[u32], regs: Regs, kind: u8) -> Plan
         if !arithmetic::negates(a) {
             return Plan::OutOfRange;
         }
-        return writes(Into::Main, place, regs.mtop, regs.ptop, at, arithmetic::neg(a));
+        return writes(
+            Into::Main,
+            place,
+            regs.mtop,
+            regs.ptop,
+            at,
+            arithmetic::neg(a),
+        );
     }
-    writes(Into::Main, place, regs.mtop, regs.ptop, at, arithmetic::not(a))
+    writes(
+        Into::Main,
+        place,
+        regs.mtop,
+        regs.ptop,
+        at,
+        arithmetic::not(a),
+    )
 }

@@ -3,10 +3,11 @@ ghost use mathlib.Core.Path.{_≡_};
 ghost use Rattle.model.specs.Step.{ran, runOn};
 ghost use Rattle.run_steps.specs.Going.{Runs};
 ghost use Rattle.run.specs.Endings.{endedWith};
-use plan_meaning::Plan;
 use apply::Outcome;
 use model::Answer;
+use model::PROCS_MOST;
 use model::Regs;
+use plan_meaning::Plan;
 use run_steps::Pause;
 
 // An answer, with the registers then.
@@ -24,7 +25,7 @@ fn answered(answer: Answer, regs: Regs) -> Ended
 // The table has the heads of the file's procedures.
 pub fn run_on(
     file: &[u8],
-    table: &[usize; 64],
+    table: &[usize; PROCS_MOST],
     main: &mut [u32],
     ptr: &mut [u32],
     ctl: &mut [u32],

@@ -1,10 +1,11 @@
 // The steps of a run that need no loop and no raise, one after another.
 ghost use mathlib.Core.Path.{_≡_};
 ghost use Rattle.run_steps.specs.Going.{Runs, Paused, pausedAt};
+use apply::Tried;
+use model::PROCS_MOST;
+use model::Regs;
 use plan_meaning::Plan;
 use plan_meaning::Put;
-use apply::Tried;
-use model::Regs;
 
 // Where the steps pause: before an instruction whose plan is settled apart, or with no step left of the budget.
 pub struct Pause {
@@ -23,7 +24,7 @@ fn stop(plan: Plan, regs: Regs, left: u32) -> Pause
 // for the compiler: its registers are those of the steps alone. Soundness is what the loop keeps, so that no step tests what it gives.
 pub fn go_on(
     file: &[u8],
-    table: &[usize; 64],
+    table: &[usize; PROCS_MOST],
     main: &mut [u32],
     ptr: &mut [u32],
     ctl: &mut [u32],

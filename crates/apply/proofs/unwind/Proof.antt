@@ -16,7 +16,8 @@ clear-record-requires c κs =
 
 cut-to-requires : tie.Need-cut-to-requires
 cut-to-requires c κs =
-    let S = c .before .before .before .before .before .before in
+    let back6 = c .before .before .before .before .before .before in
+    let S = back6 in
     rw (c .before .before .before .clear-record .ensures) (cut-topped _ _ (omega (arith, S .pre .0 .fits)))
 
 same-length : tie.Need-same-length
@@ -24,7 +25,8 @@ same-length c = search needs
 
 returns : tie.Need-returns
 returns c =
-    c .before .before .cut-to .ensures ∙ rw (c .before .before .before .before .before .before .clear-record .ensures) (cut-cut _ _ _ (omega arith))
+    let at-clear-record = c .before .before .before .before .before .before in
+    c .before .before .cut-to .ensures ∙ rw (at-clear-record .clear-record .ensures) (cut-cut _ _ _ (omega arith))
 
 pub unwind-spec : {M : Type 1} → statement M
 unwind-spec = tie.close (tie.spec sub-rest clear-record-requires cut-to-requires same-length returns)

@@ -39,7 +39,8 @@ enum-known-a c = search needs
 
 same-length : tie.Need-same-length Inv-loop μ-loop
 same-length c =
-    let turn = c .before .before .before .before .before in
+    let back5 = c .before .before .before .before .before in
+    let turn = back5 in
     turn .loop .inv .0 ∙ length-set (turn .before .before .before .before .before .args .marks .now) 0 true
 
 returns : tie.Need-returns Inv-loop μ-loop
@@ -65,7 +66,9 @@ ptrs-at-requires : tie.Need-ptrs-at-requires Inv-loop μ-loop
 ptrs-at-requires c κs = omega (arith, object c)
 
 add-links : tie.Need-add-links Inv-loop μ-loop
-add-links c = omega (arith, c .ptrs-at .ensures .small, c .before .before .before .before .before .loop .inv .1 .few)
+add-links c =
+    let at-loop = c .before .before .before .before .before in
+    omega (arith, c .ptrs-at .ensures .small, at-loop .loop .inv .1 .few)
 
 size-at-requires : tie.Need-size-at-requires Inv-loop μ-loop
 size-at-requires c κs = omega (arith, object (c .before))
@@ -87,7 +90,9 @@ loop-again c =
     )
 
 same-length-2 : tie.Need-same-length-2 Inv-loop μ-loop
-same-length-2 c = c .before .loop .inv .0 ∙ length-set (c .before .before .before .before .before .before .args .marks .now) 0 true
+same-length-2 c =
+    let entry = c .before .before .before .before .before .before in
+    c .before .loop .inv .0 ∙ length-set (entry .args .marks .now) 0 true
 
 returns-2 : tie.Need-returns-2 Inv-loop μ-loop
 returns-2 c = marking-end _ _ _ _ _ _ (c .before .loop .inv .1) (c .before .before .word .ensures) (c .loop-test .left)

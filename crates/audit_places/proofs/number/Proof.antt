@@ -6,6 +6,7 @@ use Rattle.laws.specs.Members.{getD-any}
 use Rattle.audit_places.specs.Places.{beyond}
 use Rattle.audit_places.proofs.number.Statement.{statement}
 use Rattle.audit_places.proofs.number.Tie as tie
+use Rattle.model.specs.Checker.{none}
 
 mul-result : tie.Need-mul-result
 mul-result c = search needs
@@ -20,12 +21,12 @@ returns : tie.Need-returns
 returns c =
     let a = c .before .before .args in
     record {
-      is = getD-any (a .map .now) (a .i) 0 65535 (omega arith);
+      is = getD-any (a .map .now) (a .i) 0 none (omega arith);
       small = omega (arith, c .shared-slice-known .given (a .i));
     }
 
 returns-2 : tie.Need-returns-2
-returns-2 c = record { is = sym (beyond (c .before .args .map .now) (c .before .args .i) 65535 (omega arith)); small = omega arith }
+returns-2 c = record { is = sym (beyond (c .before .args .map .now) (c .before .args .i) none (omega arith)); small = omega arith }
 
 pub number-spec : {M : Type 1} → statement M
 number-spec =

@@ -4,12 +4,15 @@ use borrow.Author.Needs.{needs}
 use Rattle.call_tests.specs.Admit.{tables-fresh}
 use Rattle.call_tests.proofs.admit.Statement.{statement}
 use Rattle.call_tests.proofs.admit.Tie as tie
+use Rattle.model.specs.Calls.{heapMost}
 
 slice-aggregate-admit-with : tie.Need-slice-aggregate-admit-with
 slice-aggregate-admit-with c = search needs
 
 admit-with-requires : tie.Need-admit-with-requires
-admit-with-requires c κs = tables-fresh 2048 _ _ _ (c .before .before .before .before .before .before .before .before .before .before .before .pre) refl (λ n. c .before .before .before .if1 .taken)
+admit-with-requires c κs =
+    let entry = c .before .before .before .before .before .before .before .before .before .before .before in
+    tables-fresh 2048 _ _ _ (entry .pre) refl (λ n. c .before .before .before .if1 .taken)
 
 same-length : tie.Need-same-length
 same-length c = search needs
@@ -21,7 +24,9 @@ slice-aggregate-admit-with-2 : tie.Need-slice-aggregate-admit-with-2
 slice-aggregate-admit-with-2 c = search needs
 
 admit-with-requires-2 : tie.Need-admit-with-requires-2
-admit-with-requires-2 c κs = tables-fresh 16384 _ _ _ (c .before .before .before .before .before .before .before .before .before .before .before .pre) refl (λ n. n)
+admit-with-requires-2 c κs =
+    let entry = c .before .before .before .before .before .before .before .before .before .before .before in
+    tables-fresh heapMost _ _ _ (entry .pre) refl (λ n. n)
 
 same-length-2 : tie.Need-same-length-2
 same-length-2 c = search needs

@@ -38,7 +38,8 @@ returns c =
 
 head-at-requires : tie.Need-head-at-requires
 head-at-requires c κs =
-    let at-check-with = c .before .before .before .before .before in
+    let back5 = c .before .before .before .before .before in
+    let at-check-with = back5 in
     let entry = at-check-with .before .before .before .before .before .before .before .before .before .before .before in
     (first-whole _ _ _ (admit-passes (record {
       file = entry .args .file .now;
@@ -57,7 +58,9 @@ lengths-right-requires c κs = search needs
 
 audit-heap-requires : tie.Need-audit-heap-requires
 audit-heap-requires c κs =
-    let entry = c .before .before .before .before .before .before .before .before .before .before .before .before .before .before .before .before .before .before .before .before in
+    let far18 = c .before .before .before .before .before .before .before .before .before .before .before .before .before .before .before .before .before .before in
+    let back20 = far18 .before .before in
+    let entry = back20 in
     let T = all-true (lengthList (c .before .before .before .head-at .result) (length (entry .args .main .now)) (length (entry .args .ptr .now))
     (length (entry .args .ctl .now)) (length (entry .args .heap .now))) (sym (c .before .before .lengths-right .ensures) ∙ c .before .if1 .taken) in
     let few = T .1 .1 .1 .1 .1 .1 .1 .0 in
@@ -77,7 +80,8 @@ same-length-3 c = search needs
 
 returns-2 : tie.Need-returns-2
 returns-2 c =
-    let at-audit-heap = c .before .before .before .before .before in
+    let back5 = c .before .before .before .before .before in
+    let at-audit-heap = back5 in
     let at-if1 = at-audit-heap .before .before in
     let at-lengths-right = at-if1 .before in
     let at-head-at = at-lengths-right .before in
@@ -106,7 +110,8 @@ same-length-5 c = search needs
 
 returns-3 : tie.Need-returns-3
 returns-3 c =
-    let at-audit-heap = c .before .before .before .before .before in
+    let back5 = c .before .before .before .before .before in
+    let at-audit-heap = back5 in
     let at-if1 = at-audit-heap .before .before in
     let at-lengths-right = at-if1 .before in
     let at-head-at = at-lengths-right .before in
@@ -135,7 +140,8 @@ same-length-7 c = search needs
 
 returns-4 : tie.Need-returns-4
 returns-4 c =
-    let at-audit-heap = c .before .before .before .before .before in
+    let back5 = c .before .before .before .before .before in
+    let at-audit-heap = back5 in
     let at-if1 = at-audit-heap .before .before in
     let at-lengths-right = at-if1 .before in
     let at-head-at = at-lengths-right .before in
@@ -161,7 +167,8 @@ same-length-8 c = search needs
 
 returns-5 : tie.Need-returns-5
 returns-5 c =
-    let at-check-with = c .before .before .before .before .before .before .before .before in
+    let back8 = c .before .before .before .before .before .before .before .before in
+    let at-check-with = back8 in
     let entry = at-check-with .before .before .before .before .before .before .before .before .before .before .before in
     admit-lengths (record {
       file = entry .args .file .now;

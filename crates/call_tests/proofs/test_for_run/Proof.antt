@@ -4,12 +4,15 @@ use borrow.Author.Needs.{needs}
 use Rattle.call_tests.specs.Admit.{tables-fresh}
 use Rattle.call_tests.proofs.test_for_run.Statement.{statement}
 use Rattle.call_tests.proofs.test_for_run.Tie as tie
+use Rattle.model.specs.Calls.{heapMost}
 
 slice-aggregate-test-with : tie.Need-slice-aggregate-test-with
 slice-aggregate-test-with c = search needs
 
 test-with-requires : tie.Need-test-with-requires
-test-with-requires c κs = tables-fresh 2048 _ _ _ (c .before .before .before .before .before .before .before .before .before .before .before .pre) refl (λ n. c .before .before .before .if1 .taken)
+test-with-requires c κs =
+    let entry = c .before .before .before .before .before .before .before .before .before .before .before in
+    tables-fresh 2048 _ _ _ (entry .pre) refl (λ n. c .before .before .before .if1 .taken)
 
 same-length : tie.Need-same-length
 same-length c = search needs
@@ -21,7 +24,9 @@ slice-aggregate-test-with-2 : tie.Need-slice-aggregate-test-with-2
 slice-aggregate-test-with-2 c = search needs
 
 test-with-requires-2 : tie.Need-test-with-requires-2
-test-with-requires-2 c κs = tables-fresh 16384 _ _ _ (c .before .before .before .before .before .before .before .before .before .before .before .pre) refl (λ n. n)
+test-with-requires-2 c κs =
+    let entry = c .before .before .before .before .before .before .before .before .before .before .before in
+    tables-fresh heapMost _ _ _ (entry .pre) refl (λ n. n)
 
 same-length-2 : tie.Need-same-length-2
 same-length-2 c = search needs

@@ -9,9 +9,10 @@ use borrow.Author.Fill.{fill-more}
 use borrow.Author.Needs.{needs}
 use Rattle.check_scan.proofs.fill.Statement.{statement}
 use Rattle.check_scan.proofs.fill.Tie as tie
+use Rattle.model.specs.Checker.{none}
 
 abbrev Inv-loop : tie.InvT-loop
-Inv-loop m₀ i₀ m i = (i ≤ length m₀) × (m ≡ replicate i 65535 ++ drop i m₀) × (length m ≡ length m₀)
+Inv-loop m₀ i₀ m i = (i ≤ length m₀) × (m ≡ replicate i none ++ drop i m₀) × (length m ≡ length m₀)
 
 abbrev μ-loop : tie.MeasureT-loop
 μ-loop m₀ i₀ m i = length m₀ - i
@@ -35,8 +36,8 @@ loop-again : tie.Need-loop-again Inv-loop μ-loop
 loop-again c =
     let L = c .before .loop in (
       omega arith,
-      ap (λ (l : List ℕ). set l (L .i) 65535) (L .inv .1) ∙ fill-more (L .i) 65535 (c .before .before .args .m .now) (omega arith),
-      length-set (L .m) (L .i) 65535 ∙ L .inv .2,
+      ap (λ (l : List ℕ). set l (L .i) none) (L .inv .1) ∙ fill-more (L .i) none (c .before .before .args .m .now) (omega arith),
+      length-set (L .m) (L .i) none ∙ L .inv .2,
     )
 
 same-length : tie.Need-same-length Inv-loop μ-loop
@@ -46,7 +47,7 @@ returns : tie.Need-returns Inv-loop μ-loop
 returns c =
     let m₀ = c .before .before .args .m .now in
     let e : c .before .loop .i ≡ length m₀ = omega arith in
-    c .before .loop .inv .1 ∙ rw (e, drop-length m₀) (append-nil (replicate (length m₀) 65535))
+    c .before .loop .inv .1 ∙ rw (e, drop-length m₀) (append-nil (replicate (length m₀) none))
 
 pub fill-spec : {M : Type 1} → statement M
 fill-spec =

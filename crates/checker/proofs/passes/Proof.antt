@@ -18,7 +18,8 @@ enum-known-found-2 c = search needs
 
 look-requires : tie.Need-look-requires
 look-requires c κs =
-    let at-scan = c .before .before .before .before .before .before .before in
+    let back7 = c .before .before .before .before .before .before .before in
+    let at-scan = back7 in
     let at-fill = at-scan .before .before .before .before .before in
     let entry = at-fill .before .before .before .before in
     look-whole (entry .args .file .now) (entry .args .m .now) (at-fill .fill .last .0) (at-scan .scan .last .1 .0) (entry .args .table .now)
@@ -30,7 +31,8 @@ same-length c = search needs
 
 returns : tie.Need-returns
 returns c =
-    let at-scan = c .before .before .before .before .before in
+    let back5 = c .before .before .before .before .before in
+    let at-scan = back5 in
     let at-fill = at-scan .before .before .before .before .before in
     let entry = at-fill .before .before .before .before in
     look-broken (entry .args .file .now) (entry .args .m .now) (at-fill .fill .last .0) (at-scan .scan .last .1 .0) (entry .args .table .now)

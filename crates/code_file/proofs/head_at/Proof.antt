@@ -60,22 +60,26 @@ byte-requires-6 c κs = search needs
 
 returns : tie.Need-returns
 unfolding headBytes
-returns c = record {
-  is = rw (
-    c .before .before .before .before .before .before .before .before .before .before .byte .ensures .is,
-    c .before .before .before .before .before .before .before .before .byte2 .ensures .is,
-    c .before .before .before .before .before .before .byte3 .ensures .is,
-    c .before .before .before .before .byte4 .ensures .is,
-    c .before .before .byte5 .ensures .is,
-    c .byte6 .ensures .is,
-  );
-  a-small = search needs;
-  b-small = search needs;
-  r-small = search needs;
-  s-small = search needs;
-  x-small = search needs;
-  y-small = search needs;
-}
+returns c =
+    let at-byte3 = c .before .before .before .before .before .before in
+    let at-byte2 = at-byte3 .before .before in
+    let at-byte = at-byte2 .before .before in
+    record {
+      is = rw (
+        at-byte .byte .ensures .is,
+        at-byte2 .byte2 .ensures .is,
+        at-byte3 .byte3 .ensures .is,
+        c .before .before .before .before .byte4 .ensures .is,
+        c .before .before .byte5 .ensures .is,
+        c .byte6 .ensures .is,
+      );
+      a-small = search needs;
+      b-small = search needs;
+      r-small = search needs;
+      s-small = search needs;
+      x-small = search needs;
+      y-small = search needs;
+    }
 
 pub head-at-spec : {M : Type 1} → statement M
 head-at-spec =

@@ -71,7 +71,8 @@ same-length c = search needs
 
 returns : tie.Need-returns
 returns c =
-    let S = c .before .before .before .before .before in
+    let back5 = c .before .before .before .before .before in
+    let S = back5 in
     handler-put (S .args .ctl .now) (S .args .top) (S .pre .0 .whole) (theHandler (S .args .handler))
 
 pub put-handler-spec : {M : Type 1} → statement M

@@ -5,6 +5,7 @@ use native.Mathlib.Omega.{arith}
 use borrow.Author.Needs.{needs}
 use Rattle.control_stack.proofs.word.Statement.{statement}
 use Rattle.control_stack.proofs.word.Tie as tie
+use Rattle.model.specs.Control.{recordWords}
 
 mul-result : tie.Need-mul-result
 mul-result c = search needs
@@ -19,10 +20,10 @@ shared-slice-read-result : tie.Need-shared-slice-read-result
 shared-slice-read-result c = search needs
 
 cast-result : tie.Need-cast-result
-cast-result c = let a = c .before .args in omega (arith, c .shared-slice-known .given (5 * a .left + a .i))
+cast-result c = let a = c .before .args in omega (arith, c .shared-slice-known .given (recordWords * a .left + a .i))
 
 returns : tie.Need-returns
-returns c = let a = c .before .args in (refl, omega (arith, c .shared-slice-known .given (5 * a .left + a .i)))
+returns c = let a = c .before .args in (refl, omega (arith, c .shared-slice-known .given (recordWords * a .left + a .i)))
 
 pub word-spec : {M : Type 1} → statement M
 word-spec =

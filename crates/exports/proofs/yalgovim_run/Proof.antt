@@ -31,7 +31,8 @@ same-length-6 c = search needs
 
 returns : tie.Need-returns
 returns c =
-    let at-run = c .before .before .before .before .before .before .before .before .before .before .before .before .before in
+    let back13 = c .before .before .before .before .before .before .before .before .before .before .before .before .before in
+    let at-run = back13 in
     let entry = at-run .before .before .before .before .before .before .before .before .before .before .before .before .before .before in
     call-replies (c .told .result) (at-run .run .result) (record {
       file = entry .args .file .now;

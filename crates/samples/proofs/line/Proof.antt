@@ -53,7 +53,9 @@ numbers-requires-2 : tie.Need-numbers-requires-2
 numbers-requires-2 c κs = search needs
 
 slice-aggregate-play : tie.Need-slice-aggregate-play
-slice-aggregate-play c = sym (length-take-le _ _ (c .before .before .before .before .before .before .before .before .before .before .before .before .find .ensures .1))
+slice-aggregate-play c =
+    let at-find = c .before .before .before .before .before .before .before .before .before .before .before .before in
+    sym (length-take-le _ _ (at-find .find .ensures .1))
 
 array-share-prefix-budgets : tie.Need-array-share-prefix-budgets
 array-share-prefix-budgets c = search needs
