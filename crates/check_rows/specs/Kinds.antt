@@ -11,7 +11,6 @@ use borrow.Author.Tests.{ne-eqb}
 use Rattle.model.specs.Choice.{if_then_else_}
 use Rattle.model.specs.File.{codes, bodies, unknown, bodyOf, Ins, basic, jump, branch, branchKeep, call, return, enter, exit, raise, insOf, headKind}
 use Rattle.laws_file.specs.Kinds.{OneOf, NoneOf, at-each, ins-other, body-other}
-use Rattle.model.specs.Checker.{none}
 
 -- what holds at each of n numbers from a on
 abbrev pub EachFrom : (ℕ → Type 0) → ℕ → ℕ → Type 0
@@ -81,15 +80,15 @@ module _ (k : ℕ) (a : NoJump k) (e : NoneOf elsewhere k) (b : (k < 20) ⊎ (23
   abbrev others : List (List ℕ)
   others = rowArms ++ elsewhere ++ ranged
 
-  none : NoneOf others k
-  none = none-on rowArms (elsewhere ++ ranged) k h (none-on elsewhere ranged k e (ranged-none k a b))
+  in-none : NoneOf others k
+  in-none = none-on rowArms (elsewhere ++ ranged) k h (none-on elsewhere ranged k e (ranged-none k a b))
 
   pub ins-raise : (f : List ℕ) (p : ℕ) → insOf f p k ≡ raise
-  ins-raise f p = ins-other others tt f p k none
+  ins-raise f p = ins-other others tt f p k in-none
 
   pub body-raise : (bodyOf k ≡ unknown → ⊥) → bodyOf k ≡ 0
   unfolding bodies codes
-  body-raise some = body-other others tt k none some
+  body-raise some = body-other others tt k in-none some
 
 -- every other code leads to the next instruction alone, or nowhere
 abbrev pub straight? : Ins → Bool

@@ -14,7 +14,6 @@ enum-told c = search needs
 call-requires : tie.Need-call-requires
 call-requires c κs =
     let back8 = c .before .before .before .before .before .before .before .before in
-    let back8 = back8 in
     let S = back8 in to-call (S .args .file .now) (S .args .put) (record {
       regs = S .args .regs;
       main = S .args .main .now;
@@ -36,7 +35,6 @@ undone-requires c κs = search needs
 returns : tie.Need-returns
 returns c =
     let back10 = c .before .before .before .before .before .before .before .before .before .before in
-    let back10 = back10 in
     let S = back10 in
     told-undone (S .args .file .now) (S .args .put) (record { regs = S .args .regs; main = S .args .main .now; ptr = S .args .ptr .now; ctl = S .args .ctl .now; heap = S .args .heap .now })
     _ _ _ _ _ (c .undone .ensures) refl (inr (inr (c .before .before .before .enum-told2 .given .1, c .before .if1 .taken)))
@@ -53,7 +51,6 @@ enum-told-3 c = search needs
 open-requires : tie.Need-open-requires
 open-requires c κs =
     let back8 = c .before .before .before .before .before .before .before .before in
-    let back8 = back8 in
     let S = back8 in to-open (S .args .file .now) (S .args .put) (record {
       regs = S .args .regs;
       main = S .args .main .now;
@@ -72,7 +69,6 @@ enum-told-4 c = search needs
 close-requires : tie.Need-close-requires
 close-requires c κs =
     let back8 = c .before .before .before .before .before .before .before .before in
-    let back8 = back8 in
     let S = back8 in to-close (S .args .file .now) (S .args .put) (record {
       regs = S .args .regs;
       main = S .args .main .now;
@@ -94,7 +90,6 @@ undone-requires-2 c κs = search needs
 plain-requires : tie.Need-plain-requires
 plain-requires c κs =
     let back9 = c .before .before .before .before .before .before .before .before .before in
-    let back9 = back9 in
     let S = back9 in
     to-plain (S .args .file .now) (S .args .put) (record { regs = S .args .regs; main = S .args .main .now; ptr = S .args .ptr .now; ctl = S .args .ctl .now; heap = S .args .heap .now })
     (S .pre) (plain-write (S .args .file .now) (S .args .put .into) (S .args .put) (record {
@@ -124,8 +119,7 @@ same-length-3 c = search needs
 returns-2 : tie.Need-returns-2
 unfolding applied
 returns-2 c =
-    let back9 = c .before .before .before .before .before .before .before .before .before in
-    let at-plain = back9 in
+    let at-plain = c .before .before .before .before .before .before .before .before .before in
     let at-match = at-plain .before .before .before .before in
     let back19 = at-match .before .before .before .before .before .before in
     let S = back19 in
@@ -157,8 +151,7 @@ same-length-4 c = search needs
 
 returns-3 : tie.Need-returns-3
 returns-3 c =
-    let back5 = c .before .before .before .before .before in
-    let at-enum-told = back5 in
+    let at-enum-told = c .before .before .before .before .before in
     let back12 = at-enum-told .before .before .before .before .before .before .before in
     let S = back12 in
     told-done (S .args .file .now) (S .args .put) (record { regs = S .args .regs; main = S .args .main .now; ptr = S .args .ptr .now; ctl = S .args .ctl .now; heap = S .args .heap .now }) _
@@ -176,8 +169,7 @@ same-length-5 c = search needs
 
 returns-4 : tie.Need-returns-4
 returns-4 c =
-    let back5 = c .before .before .before .before .before in
-    let at-if1 = back5 in
+    let at-if1 = c .before .before .before .before .before in
     let at-enum-told2 = at-if1 .before .before in
     let back14 = at-enum-told2 .before .before .before .before .before .before .before in
     let S = back14 in
@@ -196,8 +188,7 @@ same-length-6 c = search needs
 
 returns-5 : tie.Need-returns-5
 returns-5 c =
-    let back5 = c .before .before .before .before .before in
-    let at-enum-told3 = back5 in
+    let at-enum-told3 = c .before .before .before .before .before in
     let back12 = at-enum-told3 .before .before .before .before .before .before .before in
     let S = back12 in
     told-done (S .args .file .now) (S .args .put) (record { regs = S .args .regs; main = S .args .main .now; ptr = S .args .ptr .now; ctl = S .args .ctl .now; heap = S .args .heap .now }) _
@@ -215,8 +206,7 @@ same-length-7 c = search needs
 
 returns-6 : tie.Need-returns-6
 returns-6 c =
-    let back5 = c .before .before .before .before .before in
-    let at-enum-told4 = back5 in
+    let at-enum-told4 = c .before .before .before .before .before in
     let back12 = at-enum-told4 .before .before .before .before .before .before .before in
     let S = back12 in
     told-done (S .args .file .now) (S .args .put) (record { regs = S .args .regs; main = S .args .main .now; ptr = S .args .ptr .now; ctl = S .args .ctl .now; heap = S .args .heap .now }) _
@@ -232,7 +222,6 @@ returns-6 c =
 returns-7 : tie.Need-returns-7
 returns-7 c =
     let back8 = c .before .before .before .before .before .before .before .before in
-    let back8 = back8 in
     let S = back8 in
     told-undone (S .args .file .now) (S .args .put) (record { regs = S .args .regs; main = S .args .main .now; ptr = S .args .ptr .now; ctl = S .args .ctl .now; heap = S .args .heap .now })
     _ _ _ _ _ (c .undone2 .ensures) refl (inr (inl (c .before .enum-told5 .given .1)))
@@ -248,8 +237,7 @@ same-length-10 c = search needs
 
 returns-8 : tie.Need-returns-8
 returns-8 c =
-    let back8 = c .before .before .before .before .before .before .before .before in
-    let at-plain = back8 in
+    let at-plain = c .before .before .before .before .before .before .before .before in
     let back18 = at-plain .before .before .before .before .before .before .before .before .before .before in
     let S = back18 in
     told-undone (S .args .file .now) (S .args .put) (record { regs = S .args .regs; main = S .args .main .now; ptr = S .args .ptr .now; ctl = S .args .ctl .now; heap = S .args .heap .now })

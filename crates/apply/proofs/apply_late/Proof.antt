@@ -16,8 +16,7 @@ enum-told c = search needs
 
 form-requires : tie.Need-form-requires
 form-requires c κs =
-    let back10 = c .before .before .before .before .before .before .before .before .before .before in
-    let entry = back10 in
+    let entry = c .before .before .before .before .before .before .before .before .before .before in
     entry .pre .form (c .before .before .before .enum-told .given .1)
 
 cut-to-requires : tie.Need-cut-to-requires
@@ -28,15 +27,13 @@ cut-to-requires-2 c κs = search needs
 
 mul-ptr : tie.Need-mul-ptr
 mul-ptr c =
-    let back14 = c .before .before .before .before .before .before .before .before .before .before .before .before .before .before in
-    let at-enum-told = back14 in
+    let at-enum-told = c .before .before .before .before .before .before .before .before .before .before .before .before .before .before in
     let entry = at-enum-told .before .before .before .before .before .before .before in
     omega (arith, entry .pre .below (at-enum-told .enum-told .given .1))
 
 slice-write-ptr : tie.Need-slice-write-ptr
 slice-write-ptr c =
-    let back14 = c .before .before .before .before .before .before .before .before .before .before .before .before .before .before in
-    let at-enum-told = back14 in
+    let at-enum-told = c .before .before .before .before .before .before .before .before .before .before .before .before .before .before in
     let entry = at-enum-told .before .before .before .before .before .before .before in
     rw (c .before .before .cut-to2 .ensures, length-cut) (entry .pre .below (at-enum-told .enum-told .given .1))
 
@@ -49,7 +46,6 @@ finish-requires c κs = search needs
 drop-all-requires : tie.Need-drop-all-requires
 drop-all-requires c κs =
     let back8 = c .before .before .before .before .before .before .before .before in
-    let back8 = back8 in
     let S = back8 in S .pre .retract (late-retract (S .args .put .into) (S .args .regs) (S .pre .late) (c .before .before .match .keys3))
 
 same-length : tie.Need-same-length

@@ -44,8 +44,7 @@ unwind-requires c κs = search needs
 
 mul-main : tie.Need-mul-main
 mul-main c =
-    let back14 = c .before .before .before .before .before .before .before .before .before .before .before .before .before .before in
-    let H = back14 in
+    let H = c .before .before .before .before .before .before .before .before .before .before .before .before .before .before in
     let S = H .before .before .before .before .before .before .before in
     let A = S .args in
     let top =
@@ -56,21 +55,18 @@ mul-main c =
 
 slice-write-main : tie.Need-slice-write-main
 slice-write-main c =
-    let at-cut-to = c .before .before .before .before .before .before .before .before .before .before in
-    let back14 = at-cut-to .before .before .before .before in
-    let H = back14 in
+    let H = c .before .before .before .before .before .before .before .before .before .before .before .before .before .before in
     let S = H .before .before .before .before .before .before .before in
     let A = S .args in
     let top =
     guard-top (A .file .now) (A .table .now) (A .regs) (A .main .now) (A .ptr .now) (A .ctl .now) (H .handler-at .result) (S .pre)
     (H .before .before .if1 .left)
     (H .handler-at .ensures) in
-    rw (at-cut-to .cut-to .ensures, length-cut) top
+    rw (c .before .before .before .before .before .before .before .before .before .before .cut-to .ensures, length-cut) top
 
 resume-requires : tie.Need-resume-requires
 resume-requires c κs =
-    let back14 = c .before .before .before .before .before .before .before .before .before .before .before .before .before .before in
-    let H = back14 in
+    let H = c .before .before .before .before .before .before .before .before .before .before .before .before .before .before in
     let S = H .before .before .before .before .before .before .before in
     let A = S .args in
     let top =

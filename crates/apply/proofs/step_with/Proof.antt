@@ -14,14 +14,12 @@ enum-known-plan c = search needs
 code-of-requires : tie.Need-code-of-requires
 code-of-requires c κs =
     let back7 = c .before .before .before .before .before .before .before in
-    let back7 = back7 in
     let S = back7 in
     (S .pre .0 .raises (no-write (S .args .plan) (c .before .match .keys2)) .main-top .fits, S .pre .0 .thrown)
 
 raise-requires : tie.Need-raise-requires
 raise-requires c κs =
-    let back5 = c .before .before .before .before .before in
-    let at-match = back5 in
+    let at-match = c .before .before .before .before .before in
     let back11 = at-match .before .before .before .before .before .before in
     let S = back11 in
     S .pre .0 .raises (no-write (S .args .plan) (at-match .match .keys2))
@@ -37,8 +35,7 @@ same-length-3 c = search needs
 
 returns : tie.Need-returns
 returns c =
-    let back6 = c .before .before .before .before .before .before in
-    let at-raise = back6 in
+    let at-raise = c .before .before .before .before .before .before in
     let at-code-of = at-raise .before .before .before .before in
     let at-match = at-code-of .before .before in
     let back18 = at-match .before .before .before .before .before .before in
@@ -52,8 +49,7 @@ returns c =
 
 apply-late-requires : tie.Need-apply-late-requires
 apply-late-requires c κs =
-    let back5 = c .before .before .before .before .before in
-    let at-plan = back5 in
+    let at-plan = c .before .before .before .before .before in
     let back12 = at-plan .before .before .before .before .before .before .before in
     let S = back12 in
     let e = at-plan .plan .given .1 in
@@ -75,8 +71,7 @@ same-length-7 c = search needs
 returns-2 : tie.Need-returns-2
 unfolding endedOf settle
 returns-2 c =
-    let back8 = c .before .before .before .before .before .before .before .before in
-    let at-apply-late = back8 in
+    let at-apply-late = c .before .before .before .before .before .before .before .before in
     let at-plan = at-apply-late .before .before .before .before .before .before in
     let back21 = at-plan .before .before .before .before .before .before .before in
     let S = back21 in

@@ -18,16 +18,14 @@ operand-requires c κs = search needs
 
 add-result : tie.Need-add-result
 add-result c =
-    let entry = c .before .before .before .before .before in
     let P = c .before .before .proc-of in
-    let pre = entry .pre in
+    let pre = c .before .before .before .before .before .pre in
     omega (arith, pre .heads (P .result) (rw (P .ensures) (pre .proc)), pre .head-most (P .result), c .operand .ensures .small)
 
 returns : tie.Need-returns
 returns c =
-    let entry = c .before .before .before .before .before in
     let P = c .before .before .proc-of in
-    let pre = entry .pre in
+    let pre = c .before .before .before .before .before .pre in
     rw (c .operand .ensures .is, pre .heads (P .result) (rw (P .ensures) (pre .proc)), P .ensures)
 
 pub target-spec : {M : Type 1} → statement M

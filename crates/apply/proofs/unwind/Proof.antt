@@ -16,8 +16,7 @@ clear-record-requires c κs =
 
 cut-to-requires : tie.Need-cut-to-requires
 cut-to-requires c κs =
-    let back6 = c .before .before .before .before .before .before in
-    let S = back6 in
+    let S = c .before .before .before .before .before .before in
     rw (c .before .before .before .clear-record .ensures) (cut-topped _ _ (omega (arith, S .pre .0 .fits)))
 
 same-length : tie.Need-same-length

@@ -73,20 +73,17 @@ cast-heap-2 c = search needs
 
 slice-write-heap-3 : tie.Need-slice-write-heap-3
 slice-write-heap-3 c =
-    let back6 = c .before .before .before .before .before .before in
-    let at-copy = back6 in
+    let at-copy = c .before .before .before .before .before .before in
     omega (arith, c .before .before .copy2 .kept .0, simp length-set at (at-copy .copy .kept .0))
 
 same-length : tie.Need-same-length
 same-length c =
-    let back6 = c .before .before .before .before .before .before in
-    let at-copy = back6 in
+    let at-copy = c .before .before .before .before .before .before in
     simp length-set (omega (arith, c .before .before .copy2 .kept .0, simp length-set at (at-copy .copy .kept .0)))
 
 returns : tie.Need-returns
 returns c =
-    let back6 = c .before .before .before .before .before .before in
-    let at-copy = back6 in
+    let at-copy = c .before .before .before .before .before .before in
     let back14 = at-copy .before .before .before .before .before .before .before .before in
     let S = back14 in
     form-writes (S .args .main .now) (S .args .ptr .now) (S .args .heap .now) _ _ (S .args .regs) (S .args .put) (at-copy .copy .ensures) (c .before .before .copy2 .ensures) (S .pre)

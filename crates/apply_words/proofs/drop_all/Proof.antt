@@ -13,8 +13,7 @@ cut-to-requires-2 c κs = search needs
 
 put-back-requires : tie.Need-put-back-requires
 put-back-requires c κs =
-    let back8 = c .before .before .before .before .before .before .before .before in
-    let at-cut-to = back8 in
+    let at-cut-to = c .before .before .before .before .before .before .before .before in
     let back12 = at-cut-to .before .before .before .before in
     let S = back12 in (
       S .pre .retract,

@@ -25,8 +25,7 @@ pop-four-requires-2 c κs = search needs
 
 put-back-requires : tie.Need-put-back-requires
 put-back-requires c κs =
-    let back8 = c .before .before .before .before .before .before .before .before in
-    let at-pop-four = back8 in
+    let at-pop-four = c .before .before .before .before .before .before .before .before in
     let back18 = at-pop-four .before .before .before .before .before .before .before .before .before .before in
     let S = back18 in (
       S .pre .retract,

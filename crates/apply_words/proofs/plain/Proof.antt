@@ -16,8 +16,7 @@ enum-told-2 c = search needs
 
 pop-last-requires : tie.Need-pop-last-requires
 pop-last-requires c κs =
-    let back6 = c .before .before .before .before .before .before in
-    let S = back6 in
+    let S = c .before .before .before .before .before .before in
     let F = fits-at _ (S .args .main .now) (S .args .ptr .now) (S .args .regs) (S .args .put) (S .pre) (c .before .enum-told2 .given .1) in
     (S .pre .main-top, omega (arith, F .0, F .1 .main))
 
@@ -26,14 +25,12 @@ enum-told-3 c = search needs
 
 mul-main : tie.Need-mul-main
 mul-main c =
-    let back5 = c .before .before .before .before .before in
-    let S = back5 in
+    let S = c .before .before .before .before .before in
     omega (arith, fits-at _ (S .args .main .now) (S .args .ptr .now) (S .args .regs) (S .args .put) (S .pre) (c .enum-told3 .given .1) .0)
 
 slice-write-main : tie.Need-slice-write-main
 slice-write-main c =
-    let back5 = c .before .before .before .before .before in
-    let S = back5 in
+    let S = c .before .before .before .before .before in
     fits-at _ (S .args .main .now) (S .args .ptr .now) (S .args .regs) (S .args .put) (S .pre) (c .enum-told3 .given .1) .0
 
 enum-told-4 : tie.Need-enum-told-4
@@ -42,19 +39,16 @@ enum-told-4 c = search needs
 pop-one-requires : tie.Need-pop-one-requires
 pop-one-requires c κs =
     let back6 = c .before .before .before .before .before .before in
-    let back6 = back6 in
     let S = back6 in (S .pre .main-top, fits-at _ (S .args .main .now) (S .args .ptr .now) (S .args .regs) (S .args .put) (S .pre) (c .before .enum-told4 .given .1) .1 .main)
 
 mul-main-2 : tie.Need-mul-main-2
 mul-main-2 c =
     let back9 = c .before .before .before .before .before .before .before .before .before in
-    let back9 = back9 in
     let S = back9 in omega (arith, fits-at _ (S .args .main .now) (S .args .ptr .now) (S .args .regs) (S .args .put) (S .pre) (c .before .before .before .before .enum-told4 .given .1) .0)
 
 slice-write-main-2 : tie.Need-slice-write-main-2
 slice-write-main-2 c =
     let back9 = c .before .before .before .before .before .before .before .before .before in
-    let back9 = back9 in
     let S = back9 in rw (c .before .before .pop-one .ensures, length-cut) (fits-at _ (S .args .main .now) (S .args .ptr .now) (S .args .regs) (S .args .put)
     (S .pre) (c .before .before .before .before .enum-told4 .given .1) .0)
 
@@ -64,19 +58,16 @@ enum-told-5 c = search needs
 pop-one-requires-2 : tie.Need-pop-one-requires-2
 pop-one-requires-2 c κs =
     let back6 = c .before .before .before .before .before .before in
-    let back6 = back6 in
     let S = back6 in (S .pre .ptr-top, fits-at _ (S .args .main .now) (S .args .ptr .now) (S .args .regs) (S .args .put) (S .pre) (c .before .enum-told5 .given .1) .1 .ptr)
 
 mul-ptr : tie.Need-mul-ptr
 mul-ptr c =
     let back9 = c .before .before .before .before .before .before .before .before .before in
-    let back9 = back9 in
     let S = back9 in omega (arith, fits-at _ (S .args .main .now) (S .args .ptr .now) (S .args .regs) (S .args .put) (S .pre) (c .before .before .before .before .enum-told5 .given .1) .0)
 
 slice-write-ptr : tie.Need-slice-write-ptr
 slice-write-ptr c =
     let back9 = c .before .before .before .before .before .before .before .before .before in
-    let back9 = back9 in
     let S = back9 in rw (c .before .before .pop-one2 .ensures, length-cut) (fits-at _ (S .args .main .now) (S .args .ptr .now) (S .args .regs) (S .args .put)
     (S .pre) (c .before .before .before .before .enum-told5 .given .1) .0)
 
@@ -86,27 +77,23 @@ enum-told-6 c = search needs
 pop-one-requires-3 : tie.Need-pop-one-requires-3
 pop-one-requires-3 c κs =
     let back6 = c .before .before .before .before .before .before in
-    let back6 = back6 in
     let S = back6 in (S .pre .main-top, fits-at _ (S .args .main .now) (S .args .ptr .now) (S .args .regs) (S .args .put) (S .pre) (c .before .enum-told6 .given .1) .1 .main)
 
 pop-two-requires : tie.Need-pop-two-requires
 pop-two-requires c κs =
-    let back5 = c .before .before .before .before .before in
-    let at-enum-told6 = back5 in
+    let at-enum-told6 = c .before .before .before .before .before in
     let back10 = at-enum-told6 .before .before .before .before .before in
     let S = back10 in (S .pre .ptr-top, fits-at _ (S .args .main .now) (S .args .ptr .now) (S .args .regs) (S .args .put) (S .pre) (at-enum-told6 .enum-told6 .given .1) .1 .ptr)
 
 mul-heap : tie.Need-mul-heap
 mul-heap c =
-    let back8 = c .before .before .before .before .before .before .before .before in
-    let at-enum-told6 = back8 in
+    let at-enum-told6 = c .before .before .before .before .before .before .before .before in
     let back13 = at-enum-told6 .before .before .before .before .before in
     let S = back13 in omega (arith, fits-at _ (S .args .main .now) (S .args .ptr .now) (S .args .regs) (S .args .put) (S .pre) (at-enum-told6 .enum-told6 .given .1) .0)
 
 slice-write-heap : tie.Need-slice-write-heap
 slice-write-heap c =
-    let back8 = c .before .before .before .before .before .before .before .before in
-    let at-enum-told6 = back8 in
+    let at-enum-told6 = c .before .before .before .before .before .before .before .before in
     let back13 = at-enum-told6 .before .before .before .before .before in
     let S = back13 in fits-at _ (S .args .main .now) (S .args .ptr .now) (S .args .regs) (S .args .put) (S .pre) (at-enum-told6 .enum-told6 .given .1) .0
 
@@ -116,31 +103,26 @@ enum-told-7 c = search needs
 pop-two-requires-2 : tie.Need-pop-two-requires-2
 pop-two-requires-2 c κs =
     let back6 = c .before .before .before .before .before .before in
-    let back6 = back6 in
     let S = back6 in (S .pre .ptr-top, fits-at _ (S .args .main .now) (S .args .ptr .now) (S .args .regs) (S .args .put) (S .pre) (c .before .enum-told7 .given .1) .1 .ptr)
 
 mul-main-3 : tie.Need-mul-main-3
 mul-main-3 c =
     let back9 = c .before .before .before .before .before .before .before .before .before in
-    let back9 = back9 in
     let S = back9 in omega (arith, fits-at _ (S .args .main .now) (S .args .ptr .now) (S .args .regs) (S .args .put) (S .pre) (c .before .before .before .before .enum-told7 .given .1) .0)
 
 slice-write-main-3 : tie.Need-slice-write-main-3
 slice-write-main-3 c =
     let back9 = c .before .before .before .before .before .before .before .before .before in
-    let back9 = back9 in
     let S = back9 in fits-at _ (S .args .main .now) (S .args .ptr .now) (S .args .regs) (S .args .put) (S .pre) (c .before .before .before .before .enum-told7 .given .1) .0
 
 drop-few-requires : tie.Need-drop-few-requires
 drop-few-requires c κs =
     let back6 = c .before .before .before .before .before .before in
-    let back6 = back6 in
     let S = back6 in dropping _ (S .args .main .now) (S .args .ptr .now) (S .args .regs) (S .args .put) (S .pre) (c .before .before .match .keys8)
 
 returns : tie.Need-returns
 returns c =
-    let back5 = c .before .before .before .before .before in
-    let S = back5 in
+    let S = c .before .before .before .before .before in
     let F = fits-at _ (S .args .main .now) (S .args .ptr .now) (S .args .regs) (S .args .put) (S .pre) (c .enum-told .given .1) in (
       λ ctl. nothing-plainly (S .args .put) (record { regs = S .args .regs; main = S .args .main .now; ptr = S .args .ptr .now; ctl = ctl; heap = S .args .heap .now }) _ _
           (cut-above _ _ _ (omega (arith, F .main)) (S .pre .main-top)) (cut-above _ _ _ (omega (arith, F .ptr)) (S .pre .ptr-top)) (c .enum-told .given .1),
@@ -166,8 +148,7 @@ same-length-2 c = search needs
 
 returns-3 : tie.Need-returns-3
 returns-3 c =
-    let back5 = c .before .before .before .before .before in
-    let S = back5 in
+    let S = c .before .before .before .before .before in
     let F = fits-at _ (S .args .main .now) (S .args .ptr .now) (S .args .regs) (S .args .put) (S .pre) (c .enum-told3 .given .1) in (
       λ ctl. push-plainly (S .args .put) (record { regs = S .args .regs; main = S .args .main .now; ptr = S .args .ptr .now; ctl = ctl; heap = S .args .heap .now }) _ _
           (cut-above _ _ _ (omega (arith, F .1 .main)) (S .pre .main-top)) (cut-above _ _ _ (omega (arith, F .1 .ptr)) (S .pre .ptr-top)) (c .enum-told3 .given .1),
@@ -213,8 +194,7 @@ same-length-7 c = search needs
 
 returns-6 : tie.Need-returns-6
 returns-6 c =
-    let back6 = c .before .before .before .before .before .before in
-    let at-pop-one3 = back6 in
+    let at-pop-one3 = c .before .before .before .before .before .before in
     let at-enum-told6 = at-pop-one3 .before .before in
     let back13 = at-enum-told6 .before .before .before .before .before in
     let S = back13 in (
@@ -248,8 +228,7 @@ same-length-11 c = search needs
 
 returns-8 : tie.Need-returns-8
 returns-8 c =
-    let back7 = c .before .before .before .before .before .before .before in
-    let at-match = back7 in
+    let at-match = c .before .before .before .before .before .before .before in
     let back11 = at-match .before .before .before .before in
     let S = back11 in (
       λ ctl. c .before .before .before .before .drop-few .ensures ctl (S .args .heap .now),

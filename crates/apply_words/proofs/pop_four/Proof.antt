@@ -26,8 +26,7 @@ pop-two-requires-2 c κs = search needs
 
 pop-two-requires-3 : tie.Need-pop-two-requires-3
 pop-two-requires-3 c κs =
-    let back7 = c .before .before .before .before .before .before .before in
-    let S = back7 in
+    let S = c .before .before .before .before .before .before .before in
     (rw (c .before .before .before .pop-two2 .ensures) (cut-topped _ _ (omega (arith, S .pre .0 .fits))), omega arith)
 
 same-length-2 : tie.Need-same-length-2
@@ -35,8 +34,7 @@ same-length-2 c = search needs
 
 returns-2 : tie.Need-returns-2
 returns-2 c =
-    let back6 = c .before .before .before .before .before .before in
-    let at-pop-two2 = back6 in
+    let at-pop-two2 = c .before .before .before .before .before .before in
     c .before .before .pop-two3 .ensures ∙ rw (at-pop-two2 .pop-two2 .ensures) (cut-cut _ _ _ (omega arith))
 
 pub pop-four-spec : {M : Type 1} → statement M

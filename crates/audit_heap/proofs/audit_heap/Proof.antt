@@ -33,8 +33,7 @@ same-length c = search needs
 
 returns-3 : tie.Need-returns-3
 returns-3 c =
-    let back5 = c .before .before .before .before .before in
-    let walk = back5 in
+    let walk = c .before .before .before .before .before in
     audited-walk _ _ _ _ _ _ (in-range (walk .before .before)) (walk .mark-objects .ensures) (c .before .w .given .1)
 
 enum-told : tie.Need-enum-told
@@ -58,8 +57,7 @@ returns-4 c =
 
 pointers-right-requires : tie.Need-pointers-right-requires
 pointers-right-requires c κs =
-    let back5 = c .before .before .before .before .before in
-    let walk = back5 in
+    let walk = c .before .before .before .before .before in
     let at = walk .before .before .before .before in
     let R = in-range (at .before .before) in
     let clean = walk .enum-told .given .1 in
@@ -73,8 +71,7 @@ same-length-3 c = search needs
 
 returns-5 : tie.Need-returns-5
 returns-5 c =
-    let back5 = c .before .before .before .before .before in
-    let root = back5 in
+    let root = c .before .before .before .before .before in
     let walk = root .before .before .before .before in
     let at = walk .before .before .before .before in
     audited-pointer _ _ _ _ (in-range (at .before .before)) (at .mark-objects .ensures) (walk .enum-told .given .1) _ _ _
@@ -91,8 +88,7 @@ same-length-4 c = search needs
 
 returns-6 : tie.Need-returns-6
 returns-6 c =
-    let back5 = c .before .before .before .before .before in
-    let root = back5 in
+    let root = c .before .before .before .before .before in
     let walk = root .before .before .before .before in
     let at = walk .before .before .before .before in
     audited-free _ _ _ _ (in-range (at .before .before)) (at .mark-objects .ensures) (walk .enum-told .given .1) _ _ _

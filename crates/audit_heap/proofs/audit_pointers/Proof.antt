@@ -15,10 +15,8 @@ all-zero-requires : tie.Need-all-zero-requires
 all-zero-requires c κs = search needs
 
 returns : tie.Need-returns
-returns c =
-    let entry = c .before .before .before .before .before in
-    λ os M z.
-    let l = entry .args .ptr .now in
+returns c = λ os M z.
+    let l = c .before .before .before .before .before .args .ptr .now in
     let n = c .before .before .least in
     let A = subst (Every (zeroAt l) 0 (n .result)) (c .if1 .taken) (c .before .all-zero .ensures) in
     stack-told l _ os M _ (n .result) true (n .ensures .0) (n .ensures .1) (nil-marked l _ os M (n .result) A) z

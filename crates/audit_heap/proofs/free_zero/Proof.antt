@@ -29,8 +29,7 @@ all-zero-requires c κs = search needs
 
 returns : tie.Need-returns Inv-loop μ-loop
 returns c =
-    let entry = c .before .before .before .before .before in
-    let h = entry .args .heap .now in
+    let h = c .before .before .before .before .before .args .heap .now in
     let S = c .before .before .word .ensures in
     rw (← S .is)
     (every-clean (zeroAt h) _ (length h) (omega arith) (subst (Every (zeroAt h) _ (length h)) (c .if1 .taken) (c .before .all-zero .ensures)))

@@ -34,15 +34,13 @@ add-if4 c = search needs
 
 returns-4 : tie.Need-returns-4
 returns-4 c =
-    let back5 = c .before .before .before .before .before in
-    let view = back5 in
+    let view = c .before .before .before .before .before in
     judged-long _ _ _ _ (view .before .is-view .ensures) (view .if1 .left) (c .before .before .before .before .if2 .left) _ _ (c .before .before .before .size-at .ensures)
     (omega (arith, c .if4 .taken))
 
 returns-5 : tie.Need-returns-5
 returns-5 c =
-    let back5 = c .before .before .before .before .before in
-    let view = back5 in
+    let view = c .before .before .before .before .before in
     judged-right _ _ _ _ (view .before .is-view .ensures) (view .if1 .left) (c .before .before .before .before .if2 .left) _ _ _ _ (c .before .before .before .size-at .ensures)
     (c .before .before .ptrs-at .ensures) (c .before .if3 .left) (omega (arith, c .if4 .left))
 

@@ -39,8 +39,7 @@ enum-known-a c = search needs
 
 same-length : tie.Need-same-length Inv-loop μ-loop
 same-length c =
-    let back5 = c .before .before .before .before .before in
-    let turn = back5 in
+    let turn = c .before .before .before .before .before in
     turn .loop .inv .0 ∙ length-set (turn .before .before .before .before .before .args .marks .now) 0 true
 
 returns : tie.Need-returns Inv-loop μ-loop
@@ -66,9 +65,7 @@ ptrs-at-requires : tie.Need-ptrs-at-requires Inv-loop μ-loop
 ptrs-at-requires c κs = omega (arith, object c)
 
 add-links : tie.Need-add-links Inv-loop μ-loop
-add-links c =
-    let at-loop = c .before .before .before .before .before in
-    omega (arith, c .ptrs-at .ensures .small, at-loop .loop .inv .1 .few)
+add-links c = omega (arith, c .ptrs-at .ensures .small, c .before .before .before .before .before .loop .inv .1 .few)
 
 size-at-requires : tie.Need-size-at-requires Inv-loop μ-loop
 size-at-requires c κs = omega (arith, object (c .before))

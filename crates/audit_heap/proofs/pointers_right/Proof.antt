@@ -24,9 +24,7 @@ word-requires : tie.Need-word-requires Inv-loop μ-loop
 word-requires c κs = search needs
 
 loop-holds : tie.Need-loop-holds Inv-loop μ-loop
-loop-holds c =
-    let entry = c .before .before .before .before .before in
-    pointing-none _ _ (entry .pre .0) (entry .pre .1)
+loop-holds c = pointing-none _ _ (c .before .before .before .before .before .pre .0) (c .before .before .before .before .before .pre .1)
 
 add-from : tie.Need-add-from Inv-loop μ-loop
 add-from c = omega arith
@@ -49,8 +47,7 @@ enum-known-a c = search needs
 
 returns-2 : tie.Need-returns-2 Inv-loop μ-loop
 returns-2 c =
-    let back5 = c .before .before .before .before .before in
-    let turn = back5 in
+    let turn = c .before .before .before .before .before in
     pointing-bad _ _ _ _ _ (turn .before .loop .inv) (turn .before .before .word .ensures) _ _ _ _ (turn .loop-test .taken)
     (c .before .before .before .before .ptrs-at .ensures) (c .before .before .before .bad-pointer .ensures) (c .before .a .given .1)
 
@@ -64,14 +61,11 @@ add-q : tie.Need-add-q Inv-loop μ-loop
 add-q c = omega (arith, c .size-at .ensures .small)
 
 loop-less : tie.Need-loop-less Inv-loop μ-loop
-loop-less c =
-    let back5 = c .before .before .before .before .before in
-    omega (arith, object (back5), c .size-at .ensures .is)
+loop-less c = omega (arith, object (c .before .before .before .before .before), c .size-at .ensures .is)
 
 loop-again : tie.Need-loop-again Inv-loop μ-loop
 loop-again c =
-    let back5 = c .before .before .before .before .before in
-    let turn = back5 in
+    let turn = c .before .before .before .before .before in
     pointing-more _ _ _ _ _ (turn .before .loop .inv) (turn .before .before .word .ensures) _ _ _ _ _ (turn .loop-test .taken)
     (c .before .before .before .before .ptrs-at .ensures) (c .before .before .before .bad-pointer .ensures) (c .before .enum-told .given .1) (c .size-at .ensures)
 

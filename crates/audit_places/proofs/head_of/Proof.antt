@@ -15,9 +15,7 @@ head-at-requires : tie.Need-head-at-requires
 head-at-requires c κs = head-inside _ _ _ (c .before .before .pre .0) _ (c .before .before .pre .1)
 
 returns : tie.Need-returns
-returns c =
-    let entry = c .before .before .before in
-    head-for _ _ _ (entry .pre .0) _ _ (entry .pre .1) (c .head-at .ensures)
+returns c = head-for _ _ _ (c .before .before .before .pre .0) _ _ (c .before .before .before .pre .1) (c .head-at .ensures)
 
 pub head-of-spec : {M : Type 1} → statement M
 head-of-spec = tie.close (tie.spec mul-head-at element-copy-out-head-at head-at-requires returns)

@@ -15,19 +15,13 @@ element-copy-out-if2 : tie.Need-element-copy-out-if2
 element-copy-out-if2 c = let l = c .before .before .before .pre .0 .heads .placed .few in omega arith
 
 returns-2 : tie.Need-returns-2
-returns-2 c =
-    let entry = c .before .before .before .before .before in
-    within-low _ _ _ _ (entry .pre .0) _ _ (c .before .before .if1 .left) (c .if2 .taken)
+returns-2 c = within-low _ _ _ _ (c .before .before .before .before .before .pre .0) _ _ (c .before .before .if1 .left) (c .if2 .taken)
 
 end-of-requires : tie.Need-end-of-requires
-end-of-requires c κs =
-    let entry = c .before .before .before .before .before in
-    (entry .pre .0 .heads .placed, c .before .before .if1 .left)
+end-of-requires c κs = (c .before .before .before .before .before .pre .0 .heads .placed, c .before .before .if1 .left)
 
 returns-3 : tie.Need-returns-3
-returns-3 c =
-    let entry = c .before .before .before .before .before .before .before in
-    let e = c .before .end-of .ensures in within-high _ _ _ _ (entry .pre .0) _ _ (omega arith)
+returns-3 c = let e = c .before .end-of .ensures in within-high _ _ _ _ (c .before .before .before .before .before .before .before .pre .0) _ _ (omega arith)
 
 main-at-requires : tie.Need-main-at-requires
 main-at-requires c κs = search needs

@@ -29,16 +29,13 @@ less-requires-2 c κs = search needs
 
 returns : tie.Need-returns
 returns c =
-    let at-main-at = c .before .before .before .before .before in
-    let at-inner-at = at-main-at .before .before .before in
-    let entry = at-inner-at .before .before in
-    let inner = at-inner-at .inner-at .ensures in
-    let m = at-main-at .main-at .ensures .is in
+    let inner = c .before .before .before .before .before .before .before .before .inner-at .ensures in
+    let m = c .before .before .before .before .before .main-at .ensures .is in
     let p = c .before .ptr-at .ensures .is in
     let main = c .before .before .before .before .less .ensures in
     let ptr = c .less2 .ensures in
-    let a = entry .args in
-    let pre = entry .pre in
+    let a = c .before .before .before .before .before .before .before .before .before .before .args in
+    let pre = c .before .before .before .before .before .before .before .before .before .before .pre in
     let fits = pre .0 in (
       λ f lm lp e pops i. record {
         inner = inner .is i;

@@ -30,8 +30,7 @@ operand-requires c κs = search needs
 
 returns-2 : tie.Need-returns-2
 returns-2 c =
-    let entry = c .before .before .before .before .before .before .before in
-    let a = entry .args in
+    let a = c .before .before .before .before .before .before .before .args in
     let d = c .before .before .operand .ensures in
     let t = c .if2 .taken in
     λ lm lp. fails-all 4 (callerTests (a .file .now) (a .map .now) lm lp (theFrame (a .w)) (a .c) (effectOf (a .file .now) (insAt (a .file .now) (a .c)))) (omega arith)
@@ -41,19 +40,16 @@ add-if3 c = search needs
 
 returns-3 : tie.Need-returns-3
 returns-3 c =
-    let back5 = c .before .before .before .before .before in
-    let entry = back5 .before .before .before .before in
-    let a = entry .args in
-    let c₁ = back5 in
+    let a = c .before .before .before .before .before .before .before .before .before .args in
+    let c₁ = c .before .before .before .before .before in
     let n = call-after (a .file .now) (a .c) (sym (c₁ .before .byte-at .ensures .is) ∙ c₁ .if1 .left) in
     let t = c .if3 .taken in
     λ lm lp. fails-all 0 (callerTests (a .file .now) (a .map .now) lm lp (theFrame (a .w)) (a .c) (effectOf (a .file .now) (insAt (a .file .now) (a .c)))) (omega arith)
 
 add-if4 : tie.Need-add-if4
 add-if4 c =
-    let entry = c .before .before .before .before .before .before .before .before .before .before .before in
-    let n = entry .pre .2 .main in
-    let h = entry .pre .0 .a-small in
+    let n = c .before .before .before .before .before .before .before .before .before .before .before .pre .2 .main in
+    let h = c .before .before .before .before .before .before .before .before .before .before .before .pre .0 .a-small in
     omega arith
 
 main-at-requires : tie.Need-main-at-requires
@@ -61,8 +57,7 @@ main-at-requires c κs = search needs
 
 returns-4 : tie.Need-returns-4
 returns-4 c =
-    let back6 = c .before .before .before .before .before .before in
-    let c₂ = back6 in
+    let c₂ = c .before .before .before .before .before .before in
     let c₁ = c₂ .before .before .before in
     let a = c₁ .before .before .before .before .args in
     let h = c₁ .before .before .before .before .pre .0 .a-is in
@@ -77,9 +72,8 @@ ptr-at-requires c κs = search needs
 
 add-result : tie.Need-add-result
 add-result c =
-    let entry = c .before .before .before .before .before .before .before .before .before .before .before .before .before .before .before .before in
-    let n = entry .pre .2 .ptr in
-    let h = entry .pre .0 .b-small in
+    let n = c .before .before .before .before .before .before .before .before .before .before .before .before .before .before .before .before .pre .2 .ptr in
+    let h = c .before .before .before .before .before .before .before .before .before .before .before .before .before .before .before .before .pre .0 .b-small in
     omega arith
 
 returns-5 : tie.Need-returns-5

@@ -20,20 +20,17 @@ returns-2 c =
 
 returns-3 : tie.Need-returns-3
 returns-3 c =
-    let entry = c .before .before .before .before .before .before in
-    let a = entry .args in
+    let a = c .before .before .before .before .before .before .args in
     λ f map lm lp. fails-all 2 (firstTests f map lm lp (theFrame (a .w)) (theLook (a .s))) (c .if3 .taken)
 
 returns-4 : tie.Need-returns-4
 returns-4 c =
-    let entry = c .before .before .before .before .before .before .before .before in
-    let a = entry .args in
+    let a = c .before .before .before .before .before .before .before .before .args in
     λ f map lm lp. fails-all 3 (firstTests f map lm lp (theFrame (a .w)) (theLook (a .s))) (c .if4 .taken)
 
 returns-5 : tie.Need-returns-5
 returns-5 c =
-    let entry = c .before .before .before .before .before .before .before .before .before .before in
-    let a = entry .args in
+    let a = c .before .before .before .before .before .before .before .before .before .before .args in
     λ f map lm lp. fails-all 4 (firstTests f map lm lp (theFrame (a .w)) (theLook (a .s))) (c .if5 .taken)
 
 returns-6 : tie.Need-returns-6

@@ -27,51 +27,43 @@ add-if2 c = search needs
 
 returns-2 : tie.Need-returns-2
 returns-2 c =
-    let entry = c .before .before .before .before .before .before in
-    let a = entry .args in
+    let a = c .before .before .before .before .before .before .args in
     let t = c .if2 .taken in
     λ rs e. fails-all 1 (frameTests (a .file .now) (a .map .now) (a .lm) (a .lp) (theFrame (a .w)) rs (theLook (a .s))) (omega arith)
 
 returns-3 : tie.Need-returns-3
 returns-3 c =
-    let entry = c .before .before .before .before .before .before .before .before .before in
-    let a = entry .args in
+    let a = c .before .before .before .before .before .before .before .before .before .args in
     λ rs e. fails-all 2 (frameTests (a .file .now) (a .map .now) (a .lm) (a .lp) (theFrame (a .w)) rs (theLook (a .s))) (c .if3 .taken)
 
 returns-4 : tie.Need-returns-4
 returns-4 c =
-    let entry = c .before .before .before .before .before .before .before .before .before .before .before .before in
-    let a = entry .args in
+    let a = c .before .before .before .before .before .before .before .before .before .before .before .before .args in
     λ rs e. fails-all 3 (frameTests (a .file .now) (a .map .now) (a .lm) (a .lp) (theFrame (a .w)) rs (theLook (a .s))) (c .if4 .taken)
 
 head-of-requires : tie.Need-head-of-requires
 head-of-requires c κs =
-    let back8 = c .before .before .before .before .before .before .before .before in
-    let s = back8 in
+    let s = c .before .before .before .before .before .before .before .before in
     let heads = s .before .before .before .before .pre .0 .heads in
     (heads, in-proc-below _ _ _ heads _ _ (sym (s .before .within .ensures) ∙ not-false _ (s .if1 .left)))
 
 add-if5 : tie.Need-add-if5
 add-if5 c =
-    let entry = c .before .before .before .before .before .before .before .before .before .before .before .before .before .before .before in
-    let n = entry .pre .1 .main in
+    let n = c .before .before .before .before .before .before .before .before .before .before .before .before .before .before .before .pre .1 .main in
     let h = c .before .before .head-of .ensures .x-small in
     omega arith
 
 returns-5 : tie.Need-returns-5
 returns-5 c =
-    let entry = c .before .before .before .before .before .before .before .before .before .before .before .before .before .before .before .before in
-    let a = entry .args in
+    let a = c .before .before .before .before .before .before .before .before .before .before .before .before .before .before .before .before .args in
     let x = c .before .before .before .head-of .ensures .x-is in
     let t = c .if5 .taken in
     λ rs e. fails-all 5 (frameTests (a .file .now) (a .map .now) (a .lm) (a .lp) (theFrame (a .w)) rs (theLook (a .s))) (omega arith)
 
 add-result : tie.Need-add-result
 add-result c =
-    let at-head-of = c .before .before .before .before .before in
-    let entry = at-head-of .before .before .before .before .before .before .before .before .before .before .before .before .before in
-    let n = entry .pre .1 .ptr in
-    let h = at-head-of .head-of .ensures .y-small in
+    let n = c .before .before .before .before .before .before .before .before .before .before .before .before .before .before .before .before .before .before .pre .1 .ptr in
+    let h = c .before .before .before .before .before .head-of .ensures .y-small in
     omega arith
 
 returns-6 : tie.Need-returns-6

@@ -21,8 +21,7 @@ returns c =
 
 returns-2 : tie.Need-returns-2
 returns-2 c =
-    let entry = c .before .before .before .before .before .before in
-    let a = entry .args in
+    let a = c .before .before .before .before .before .before .args in
     λ f lm lp rs e. fails-all 1 (handlerTests f (a .map .now) lm lp (theHandler (a .w)) rs (theLook (a .s))) (c .if2 .taken)
 
 main-at-requires : tie.Need-main-at-requires
@@ -33,8 +32,7 @@ add-if3 c = search needs
 
 returns-3 : tie.Need-returns-3
 returns-3 c =
-    let entry = c .before .before .before .before .before .before .before .before .before .before in
-    let a = entry .args in
+    let a = c .before .before .before .before .before .before .before .before .before .before .args in
     let d = c .before .before .before .main-at .ensures .is in
     let t = c .if3 .taken in
     λ f lm lp rs e. fails-all 2 (handlerTests f (a .map .now) lm lp (theHandler (a .w)) rs (theLook (a .s))) (omega arith)
@@ -47,8 +45,7 @@ add-if4 c = search needs
 
 returns-4 : tie.Need-returns-4
 returns-4 c =
-    let entry = c .before .before .before .before .before .before .before .before .before .before .before .before .before .before in
-    let a = entry .args in
+    let a = c .before .before .before .before .before .before .before .before .before .before .before .before .before .before .args in
     let d = c .before .before .before .ptr-at .ensures .is in
     let t = c .if4 .taken in
     λ f lm lp rs e. fails-all 3 (handlerTests f (a .map .now) lm lp (theHandler (a .w)) rs (theLook (a .s))) (omega arith)

@@ -32,7 +32,6 @@ first-right-requires c κs = search needs
 returns-2 : tie.Need-returns-2
 returns-2 c =
     let back5 = c .before .before .before .before .before in
-    let back5 = back5 in
     let c₀ = back5 in
     let a = c₀ .before .before .before .before .args in
     let pre = c₀ .before .before .before .before .pre in
@@ -58,7 +57,6 @@ call-before-requires c κs = search needs
 caller-right-requires : tie.Need-caller-right-requires
 caller-right-requires c κs =
     let back6 = c .before .before .before .before .before .before in
-    let back6 = back6 in
     let c₀ = back6 in
     let a = c₀ .before .before .before .before .args in
     let pre = c₀ .before .before .before .before .pre in
@@ -74,7 +72,6 @@ caller-right-requires c κs =
 returns-3 : tie.Need-returns-3
 returns-3 c =
     let back6 = c .before .before .before .before .before .before in
-    let back6 = back6 in
     let back8 = back6 .before .before in
     let c₀ = back8 in
     let a = c₀ .before .before .before .before .args in
@@ -88,7 +85,6 @@ returns-3 c =
 caller-of-requires : tie.Need-caller-of-requires
 caller-of-requires c κs =
     let back6 = c .before .before .before .before .before .before in
-    let back6 = back6 in
     let back8 = back6 .before .before in
     let c₀ = back8 in
     let a = c₀ .before .before .before .before .args in

@@ -15,9 +15,8 @@ handler-right-requires c κs = search needs
 
 returns : tie.Need-returns
 returns c =
-    let entry = c .before .before .before .before .before in
     let w = c .before .before .handler-at in
-    let a = entry .args in
+    let a = c .before .before .before .before .before .args in
     λ f lm lp h. told-handler _ _ _ _ _ _ _ (w .result) (w .ensures) h
     (sym (not-true _ (c .if1 .taken)) ∙ c .before .handler-right .ensures f lm lp (down (a .ctl .now) (a .left)) (down-length (a .ctl .now) (a .left)))
 
@@ -26,9 +25,8 @@ outside-of-requires c κs = search needs
 
 returns-2 : tie.Need-returns-2
 returns-2 c =
-    let entry = c .before .before .before .before .before .before in
     let w = c .before .before .before .handler-at in
-    let a = entry .args in
+    let a = c .before .before .before .before .before .before .args in
     let r = c .outside-of .ensures in
     λ f lm lp h. told-outside _ _ _ _ _ _ _ (w .result) (w .ensures) h _
     (sym (not-false _ (c .before .if1 .left)) ∙ c .before .before .handler-right .ensures f lm lp (down (a .ctl .now) (a .left)) (down-length (a .ctl .now) (a .left))) (r .0 f lm lp) (r .1)

@@ -3,14 +3,10 @@ use Rattle.audit_records.proofs.read_record.Statement.{statement}
 use Rattle.audit_records.proofs.read_record.Tie as tie
 
 read-frame-requires : tie.Need-read-frame-requires
-read-frame-requires c κs =
-    let entry = c .before .before .before .before .before in
-    let pre = entry .pre in (pre .0, pre .1, pre .2, c .if1 .taken)
+read-frame-requires c κs = let pre = c .before .before .before .before .before .pre in (pre .0, pre .1, pre .2, c .if1 .taken)
 
 read-handler-requires : tie.Need-read-handler-requires
-read-handler-requires c κs =
-    let entry = c .before .before .before .before .before in
-    let pre = entry .pre in (pre .1 .near, pre .1 .few, pre .2)
+read-handler-requires c κs = let pre = c .before .before .before .before .before .pre in (pre .1 .near, pre .1 .few, pre .2)
 
 returns : tie.Need-returns
 returns c = c .read-frame .ensures

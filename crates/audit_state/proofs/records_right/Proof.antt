@@ -23,8 +23,7 @@ sub-left c = omega arith
 
 read-record-requires : tie.Need-read-record-requires Inv-loop μ-loop
 read-record-requires c κs =
-    let entry = c .before .before .before .before .before in
-    let pre = entry .pre in
+    let pre = c .before .before .before .before .before .pre in
     let l = pre .2 in
     (pre .0, record { near = c .before .loop .inv .1; main = pre .4; ptr = pre .5; few = omega arith }, omega arith)
 
@@ -55,9 +54,7 @@ loop-again c =
 
 returns-2 : tie.Need-returns-2 Inv-loop μ-loop
 unfolding lowest
-returns-2 c =
-    let entry = c .before .before .before .before .before in
-    let a = entry .args in read-none _ _ _ _ _ (a .count) _ (a .top) _ (c .before .loop .inv .2) (c .loop-test .left)
+returns-2 c = let a = c .before .before .before .before .before .args in read-none _ _ _ _ _ (a .count) _ (a .top) _ (c .before .loop .inv .2) (c .loop-test .left)
 
 pub records-right-spec : {M : Type 1} → statement M
 records-right-spec =

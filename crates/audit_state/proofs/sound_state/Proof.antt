@@ -10,9 +10,7 @@ use Rattle.audit_state.proofs.sound_state.Statement.{statement}
 use Rattle.audit_state.proofs.sound_state.Tie as tie
 
 head-of-requires : tie.Need-head-of-requires
-head-of-requires c κs =
-    let entry = c .before .before .before .before .before .before .before .before in
-    let heads = entry .pre .0 .heads in (heads, some-proc _ _ _ heads)
+head-of-requires c κs = let heads = c .before .before .before .before .before .before .before .before .pre .0 .heads in (heads, some-proc _ _ _ heads)
 
 done-right-requires : tie.Need-done-right-requires
 done-right-requires c κs = search needs
@@ -41,39 +39,31 @@ top-frame-requires c κs = search needs
 
 records-right-requires : tie.Need-records-right-requires
 records-right-requires c κs =
-    let entry = c .before .before .before .before .before .before .before .before .before .before .before .before in
     let l = tops-room _ _ _ (sym (c .before .before .before .tops-right .ensures) ∙ not-false _ (c .before .before .if3 .left)) in
-    let pre = entry .pre in
+    let pre = c .before .before .before .before .before .before .before .before .before .before .before .before .pre in
     let w = pre .1 .ctop in
     (pre .0, c .top-frame .ensures .1, l, omega arith, pre .2, pre .3)
 
 returns-4 : tie.Need-returns-4
 returns-4 c =
-    let at-tops-right = c .before .before .before .before .before in
-    let at-if1 = at-tops-right .before in
-    let entry = at-if1 .before .before .before .before .before .before .before .before in
-    let tops = sym (at-tops-right .tops-right .ensures) ∙ not-false _ (c .before .before .before .before .if3 .left) in
+    let tops = sym (c .before .before .before .before .before .tops-right .ensures) ∙ not-false _ (c .before .before .before .before .if3 .left) in
     let top = c .before .before .top-frame in
-    let a = entry .args in
+    let a = c .before .before .before .before .before .before .before .before .before .before .before .before .before .before .args in
     λ heap K.
     let m : Machine = record { regs = a .regs; main = a .main .now; ptr = a .ptr .now; ctl = a .ctl .now; heap = heap } in
-    sound-records _ _ m (at-if1 .if1 .left) tops (top .result) (top .ensures .0 m) _ (c .before .records-right .ensures) (not-true _ (c .if4 .taken))
+    sound-records _ _ m (c .before .before .before .before .before .before .if1 .left) tops (top .result) (top .ensures .0 m) _ (c .before .records-right .ensures) (not-true _ (c .if4 .taken))
 
 words-right-requires-2 : tie.Need-words-right-requires-2
 words-right-requires-2 c κs = search needs
 
 returns-5 : tie.Need-returns-5
 returns-5 c =
-    let at-if3 = c .before .before .before .before .before in
-    let at-tops-right = at-if3 .before in
-    let at-if1 = at-tops-right .before in
-    let entry = at-if1 .before .before .before .before .before .before .before .before in
-    let tops = sym (at-tops-right .tops-right .ensures) ∙ not-false _ (at-if3 .if3 .left) in
+    let tops = sym (c .before .before .before .before .before .before .tops-right .ensures) ∙ not-false _ (c .before .before .before .before .before .if3 .left) in
     let top = c .before .before .before .top-frame in
-    let a = entry .args in
+    let a = c .before .before .before .before .before .before .before .before .before .before .before .before .before .before .before .args in
     λ heap K.
     let m : Machine = record { regs = a .regs; main = a .main .now; ptr = a .ptr .now; ctl = a .ctl .now; heap = heap } in
-    sound-rest _ _ m (at-if1 .if1 .left) tops (top .result) (top .ensures .0 m) _ (c .before .before .records-right .ensures) _
+    sound-rest _ _ m (c .before .before .before .before .before .before .before .if1 .left) tops (top .result) (top .ensures .0 m) _ (c .before .before .records-right .ensures) _
     (not-false _ (c .before .if4 .left)) (c .words-right2 .ensures heap K)
 
 pub sound-state-spec : {M : Type 1} → statement M

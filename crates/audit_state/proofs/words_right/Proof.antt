@@ -14,8 +14,7 @@ zeros-from-requires c κs = search needs
 
 returns : tie.Need-returns
 returns c =
-    let entry = c .before .before .before .before .before .before in
-    let a = entry .args in
+    let a = c .before .before .before .before .before .before .args in
     λ heap K.
     let m : Machine = record { regs = a .regs; main = a .main .now; ptr = a .ptr .now; ctl = a .ctl .now; heap = heap } in
     fails-all 0 (stackTests m) (sym (c .before .zeros-from .ensures) ∙ not-true _ (c .if1 .taken))
@@ -25,8 +24,7 @@ zeros-from-requires-2 c κs = search needs
 
 returns-2 : tie.Need-returns-2
 returns-2 c =
-    let entry = c .before .before .before .before .before .before .before .before in
-    let a = entry .args in
+    let a = c .before .before .before .before .before .before .before .before .args in
     λ heap K.
     let m : Machine = record { regs = a .regs; main = a .main .now; ptr = a .ptr .now; ctl = a .ctl .now; heap = heap } in
     fails-all 1 (stackTests m) (sym (c .before .zeros-from2 .ensures) ∙ not-true _ (c .if2 .taken))
@@ -36,8 +34,7 @@ zeros-from-requires-3 c κs = search needs
 
 returns-3 : tie.Need-returns-3
 returns-3 c =
-    let entry = c .before .before .before .before .before .before .before .before .before .before in
-    let a = entry .args in
+    let a = c .before .before .before .before .before .before .before .before .before .before .args in
     λ heap K.
     let m : Machine = record { regs = a .regs; main = a .main .now; ptr = a .ptr .now; ctl = a .ctl .now; heap = heap } in
     fails-all 2 (stackTests m) (sym (c .before .zeros-from3 .ensures) ∙ not-true _ (c .if3 .taken))

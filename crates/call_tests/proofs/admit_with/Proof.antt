@@ -38,8 +38,7 @@ returns c =
 
 head-at-requires : tie.Need-head-at-requires
 head-at-requires c κs =
-    let back5 = c .before .before .before .before .before in
-    let at-check-with = back5 in
+    let at-check-with = c .before .before .before .before .before in
     let entry = at-check-with .before .before .before .before .before .before .before .before .before .before .before in
     (first-whole _ _ _ (admit-passes (record {
       file = entry .args .file .now;
@@ -58,9 +57,7 @@ lengths-right-requires c κs = search needs
 
 audit-heap-requires : tie.Need-audit-heap-requires
 audit-heap-requires c κs =
-    let far18 = c .before .before .before .before .before .before .before .before .before .before .before .before .before .before .before .before .before .before in
-    let back20 = far18 .before .before in
-    let entry = back20 in
+    let entry = c .before .before .before .before .before .before .before .before .before .before .before .before .before .before .before .before .before .before .before .before in
     let T = all-true (lengthList (c .before .before .before .head-at .result) (length (entry .args .main .now)) (length (entry .args .ptr .now))
     (length (entry .args .ctl .now)) (length (entry .args .heap .now))) (sym (c .before .before .lengths-right .ensures) ∙ c .before .if1 .taken) in
     let few = T .1 .1 .1 .1 .1 .1 .1 .0 in
@@ -80,8 +77,7 @@ same-length-3 c = search needs
 
 returns-2 : tie.Need-returns-2
 returns-2 c =
-    let back5 = c .before .before .before .before .before in
-    let at-audit-heap = back5 in
+    let at-audit-heap = c .before .before .before .before .before in
     let at-if1 = at-audit-heap .before .before in
     let at-lengths-right = at-if1 .before in
     let at-head-at = at-lengths-right .before in
@@ -110,8 +106,7 @@ same-length-5 c = search needs
 
 returns-3 : tie.Need-returns-3
 returns-3 c =
-    let back5 = c .before .before .before .before .before in
-    let at-audit-heap = back5 in
+    let at-audit-heap = c .before .before .before .before .before in
     let at-if1 = at-audit-heap .before .before in
     let at-lengths-right = at-if1 .before in
     let at-head-at = at-lengths-right .before in
@@ -140,8 +135,7 @@ same-length-7 c = search needs
 
 returns-4 : tie.Need-returns-4
 returns-4 c =
-    let back5 = c .before .before .before .before .before in
-    let at-audit-heap = back5 in
+    let at-audit-heap = c .before .before .before .before .before in
     let at-if1 = at-audit-heap .before .before in
     let at-lengths-right = at-if1 .before in
     let at-head-at = at-lengths-right .before in
@@ -167,8 +161,7 @@ same-length-8 c = search needs
 
 returns-5 : tie.Need-returns-5
 returns-5 c =
-    let back8 = c .before .before .before .before .before .before .before .before in
-    let at-check-with = back8 in
+    let at-check-with = c .before .before .before .before .before .before .before .before in
     let entry = at-check-with .before .before .before .before .before .before .before .before .before .before .before in
     admit-lengths (record {
       file = entry .args .file .now;

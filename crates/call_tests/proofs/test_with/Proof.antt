@@ -16,14 +16,12 @@ enum-known-v-2 c = search needs
 
 regs-from-requires : tie.Need-regs-from-requires
 regs-from-requires c κs =
-    let back7 = c .before .before .before .before .before .before .before in
-    let at-admit = back7 in
+    let at-admit = c .before .before .before .before .before .before .before in
     at-admit .admit-with .ensures .found .shown _ (c .before .v2 .given .1) .registers
 
 sound-state-requires : tie.Need-sound-state-requires
 sound-state-requires c κs =
-    let back5 = c .before .before .before .before .before in
-    let at-v2 = back5 in
+    let at-v2 = c .before .before .before .before .before in
     let at-admit = at-v2 .before .before .before .before .before .before in
     let at-shared-slice-known = at-admit .before .before .before .before .before .before .before .before .before .before .before in
     let entry = at-shared-slice-known .before in
@@ -63,8 +61,7 @@ same-length-2 c = search needs
 
 returns : tie.Need-returns
 returns c =
-    let back5 = c .before .before .before .before .before in
-    let at-regs-from = back5 in
+    let at-regs-from = c .before .before .before .before .before in
     let at-v2 = at-regs-from .before .before in
     let at-admit = at-v2 .before .before .before .before .before .before in
     let entry = at-admit .before .before .before .before .before .before .before .before .before .before .before .before in
@@ -89,8 +86,7 @@ same-length-4 c = search needs
 
 returns-2 : tie.Need-returns-2
 returns-2 c =
-    let back7 = c .before .before .before .before .before .before .before in
-    let at-admit = back7 in
+    let at-admit = c .before .before .before .before .before .before .before in
     let entry = at-admit .before .before .before .before .before .before .before .before .before .before .before .before in
     test-refused (record {
       file = entry .args .file .now;
@@ -112,8 +108,7 @@ same-length-6 c = search needs
 
 returns-3 : tie.Need-returns-3
 returns-3 c =
-    let back5 = c .before .before .before .before .before in
-    let at-regs-from = back5 in
+    let at-regs-from = c .before .before .before .before .before in
     let at-v2 = at-regs-from .before .before in
     let at-admit = at-v2 .before .before .before .before .before .before in
     let entry = at-admit .before .before .before .before .before .before .before .before .before .before .before .before in

@@ -16,8 +16,7 @@ enum-known-t-2 c = search needs
 
 run-on-requires : tie.Need-run-on-requires
 run-on-requires c κs =
-    let back6 = c .before .before .before .before .before .before in
-    let at-t2 = back6 in
+    let at-t2 = c .before .before .before .before .before .before in
     let at-test-for-run = at-t2 .before .before .before .before in
     let at-shared-slice-known = at-test-for-run .before .before .before .before .before .before .before .before .before .before .before .before .before .before in
     let entry = at-shared-slice-known .before in
@@ -35,8 +34,7 @@ run-on-requires c κs =
 
 put-regs-requires : tie.Need-put-regs-requires
 put-regs-requires c κs =
-    let back17 = c .before .before .before .before .before .before .before .before .before .before .before .before .before .before .before .before .before in
-    let at-t2 = back17 in
+    let at-t2 = c .before .before .before .before .before .before .before .before .before .before .before .before .before .before .before .before .before in
     let at-test-for-run = at-t2 .before .before .before .before in
     at-test-for-run .test-for-run .ensures .through _ _ (at-t2 .t2 .given .1) .shown .registers
 
@@ -60,8 +58,7 @@ same-length-6 c = search needs
 
 returns : tie.Need-returns
 returns c =
-    let back5 = c .before .before .before .before .before in
-    let at-test-for-run = back5 in
+    let at-test-for-run = c .before .before .before .before .before in
     let entry = at-test-for-run .before .before .before .before .before .before .before .before .before .before .before .before .before .before .before in
     run-refused (record {
       file = entry .args .file .now;
@@ -96,8 +93,7 @@ same-length-12 c = search needs
 
 returns-2 : tie.Need-returns-2
 returns-2 c =
-    let back13 = c .before .before .before .before .before .before .before .before .before .before .before .before .before in
-    let at-run-on = back13 in
+    let at-run-on = c .before .before .before .before .before .before .before .before .before .before .before .before .before in
     let at-t2 = at-run-on .before .before .before .before .before .before .before in
     let at-test-for-run = at-t2 .before .before .before .before in
     let entry = at-test-for-run .before .before .before .before .before .before .before .before .before .before .before .before .before .before .before in

@@ -27,8 +27,7 @@ first-requires c κs = search needs
 
 put-regs-requires : tie.Need-put-regs-requires
 put-regs-requires c κs =
-    let back14 = c .before .before .before .before .before .before .before .before .before .before .before .before .before .before in
-    let at-enum-told = back14 in
+    let at-enum-told = c .before .before .before .before .before .before .before .before .before .before .before .before .before .before in
     let at-admit = at-enum-told .before .before .before .before in
     at-admit .admit .ensures .shown _ (at-enum-told .enum-told .given .1) .registers
 
@@ -49,8 +48,7 @@ same-length-5 c = search needs
 
 returns : tie.Need-returns
 returns c =
-    let back5 = c .before .before .before .before .before in
-    let at-admit = back5 in
+    let at-admit = c .before .before .before .before .before in
     let entry = at-admit .before .before .before .before .before .before .before .before .before .before .before .before .before .before in
     start-refused (record {
       file = entry .args .file .now;
@@ -81,8 +79,7 @@ same-length-10 c = search needs
 
 returns-2 : tie.Need-returns-2
 returns-2 c =
-    let back7 = c .before .before .before .before .before .before .before in
-    let at-clear3 = back7 in
+    let at-clear3 = c .before .before .before .before .before .before .before in
     let at-clear2 = at-clear3 .before .before .before .before in
     let at-clear = at-clear2 .before .before .before .before in
     let at-enum-told = at-clear .before .before in

@@ -16,8 +16,7 @@ own-requires c κs = ends-low (c .before .before .before .pre .here)
 
 state-in-requires : tie.Need-state-in-requires
 state-in-requires c κs =
-    let back6 = c .before .before .before .before .before .before in
-    let entry = back6 in
+    let entry = c .before .before .before .before .before .before in
     here-place (entry .pre .here)
 
 same-length : tie.Need-same-length
@@ -25,8 +24,7 @@ same-length c = search needs
 
 returns : tie.Need-returns
 returns c =
-    let back5 = c .before .before .before .before .before in
-    let at-own = back5 in
+    let at-own = c .before .before .before .before .before in
     let entry = at-own .before .before .before .before in
     let J = on-branch (entry .args .keep) _ (entry .pre) (c .before .before .state-in .ensures) in
     stops (test-passes J (sym (at-own .own .ensures) ∙ c .before .before .before .before .if1 .taken)) (le-ltb _ _ (c .if2 .taken))
@@ -36,8 +34,7 @@ same-length-2 c = search needs
 
 returns-2 : tie.Need-returns-2
 returns-2 c =
-    let back6 = c .before .before .before .before .before .before in
-    let at-if1 = back6 in
+    let at-if1 = c .before .before .before .before .before .before in
     let at-own = at-if1 .before in
     let entry = at-own .before .before .before .before in
     let J = test-passes (on-branch (entry .args .keep) _ (entry .pre) (c .before .before .before .before .state-in .ensures)) (sym (at-own .own .ensures) ∙ at-if1 .if1 .taken) in
@@ -45,8 +42,7 @@ returns-2 c =
 
 outer-of-requires : tie.Need-outer-of-requires
 outer-of-requires c κs =
-    let back5 = c .before .before .before .before .before in
-    let at-state-in = back5 in
+    let at-state-in = c .before .before .before .before .before in
     let entry = at-state-in .before .before .before .before .before .before .before in
     held-here (entry .pre .here) (entry .pre .bounds) (at-state-in .state-in .ensures)
 
@@ -55,8 +51,7 @@ effect-requires c κs = search needs
 
 depths-ok-requires : tie.Need-depths-ok-requires
 depths-ok-requires c κs =
-    let back5 = c .before .before .before .before .before in
-    let at-if2 = back5 in
+    let at-if2 = c .before .before .before .before .before in
     let at-state-in = at-if2 .before .before in
     let entry = at-state-in .before .before .before .before .before .before .before in
     rw (c .effect .ensures) (bounded-here (entry .pre .here) (entry .pre .bounds) (at-state-in .state-in .ensures) (c .before .outer-of .ensures), (omega arith, omega arith), at-if2 .if2 .left)
@@ -66,8 +61,7 @@ sub-rest c = let w = stacks-fit _ _ _ _ _ (sym (c .before .before .depths-ok .en
 
 pass-both-requires : tie.Need-pass-both-requires
 pass-both-requires c κs =
-    let back8 = c .before .before .before .before .before .before .before .before in
-    let at-if3 = back8 in
+    let at-if3 = c .before .before .before .before .before .before .before .before in
     let at-state-in = at-if3 .before .before .before .before in
     let at-if1 = at-state-in .before .before in
     let at-own = at-if1 .before in
@@ -85,8 +79,7 @@ same-length-3 c = search needs
 
 returns-3 : tie.Need-returns-3
 returns-3 c =
-    let back6 = c .before .before .before .before .before .before in
-    let at-if4 = back6 in
+    let at-if4 = c .before .before .before .before .before .before in
     let at-depths-ok = at-if4 .before in
     let at-effect = at-depths-ok .before in
     let at-outer-of = at-effect .before in
@@ -103,8 +96,7 @@ returns-3 c =
 
 pass-both-requires-2 : tie.Need-pass-both-requires-2
 pass-both-requires-2 c κs =
-    let back8 = c .before .before .before .before .before .before .before .before in
-    let at-if3 = back8 in
+    let at-if3 = c .before .before .before .before .before .before .before .before in
     let at-state-in = at-if3 .before .before .before .before in
     let at-if1 = at-state-in .before .before in
     let at-own = at-if1 .before in
@@ -122,8 +114,7 @@ same-length-4 c = search needs
 
 returns-4 : tie.Need-returns-4
 returns-4 c =
-    let back6 = c .before .before .before .before .before .before in
-    let at-if4 = back6 in
+    let at-if4 = c .before .before .before .before .before .before in
     let at-depths-ok = at-if4 .before in
     let at-effect = at-depths-ok .before in
     let at-outer-of = at-effect .before in
@@ -143,8 +134,7 @@ same-length-5 c = search needs
 
 returns-5 : tie.Need-returns-5
 returns-5 c =
-    let back5 = c .before .before .before .before .before in
-    let at-if3 = back5 in
+    let at-if3 = c .before .before .before .before .before in
     let at-if2 = at-if3 .before .before in
     let at-state-in = at-if2 .before .before in
     let at-if1 = at-state-in .before .before in
@@ -160,8 +150,7 @@ same-length-6 c = search needs
 
 returns-6 : tie.Need-returns-6
 returns-6 c =
-    let back5 = c .before .before .before .before .before in
-    let entry = back5 in
+    let entry = c .before .before .before .before .before in
     stops (takes-branch _ _ _ _ _ (entry .pre .here) (entry .pre .bounds) (entry .args .keep) _ (entry .pre .shape-is)) (sym (c .before .own .ensures) ∙ c .if1 .left)
 
 pub branch-spec : {M : Type 1} → statement M

@@ -19,8 +19,7 @@ same-length c = search needs
 
 returns : tie.Need-returns
 returns c =
-    let back6 = c .before .before .before .before .before .before in
-    let entry = back6 in
+    let entry = c .before .before .before .before .before .before in
     stops (on-close (entry .pre) (c .before .before .state-in .ensures)) (le-ltb _ _ (c .if1 .taken))
 
 same-length-2 : tie.Need-same-length-2
@@ -28,8 +27,7 @@ same-length-2 c = search needs
 
 returns-2 : tie.Need-returns-2
 returns-2 c =
-    let back8 = c .before .before .before .before .before .before .before .before in
-    let entry = back8 in
+    let entry = c .before .before .before .before .before .before .before .before in
     stops (test-passes (on-close (entry .pre) (c .before .before .before .before .state-in .ensures)) (lt-ltb _ _ (c .before .before .if1 .left))) (le-ltb _ _ (c .if2 .taken))
 
 same-length-3 : tie.Need-same-length-3
@@ -37,23 +35,20 @@ same-length-3 c = search needs
 
 returns-3 : tie.Need-returns-3
 returns-3 c =
-    let back6 = c .before .before .before .before .before .before in
-    let at-state-in = back6 in
+    let at-state-in = c .before .before .before .before .before .before in
     let entry = at-state-in .before .before .before .before in
     let J = test-passes (test-passes (on-close (entry .pre) (at-state-in .state-in .ensures)) (lt-ltb _ _ (c .before .before .before .before .if1 .left))) (lt-ltb _ _ (c .before .before .if2 .left)) in
     stops J (ap not (eq-eqb _ _ (c .if3 .taken)))
 
 outer-of-requires : tie.Need-outer-of-requires
 outer-of-requires c κs =
-    let back7 = c .before .before .before .before .before .before .before in
-    let at-state-in = back7 in
+    let at-state-in = c .before .before .before .before .before .before .before in
     let entry = at-state-in .before .before .before .before in
     held-here (entry .pre .here) (entry .pre .bounds) (at-state-in .state-in .ensures)
 
 pass-one-requires : tie.Need-pass-one-requires
 pass-one-requires c κs =
-    let back5 = c .before .before .before .before .before in
-    let at-if2 = back5 in
+    let at-if2 = c .before .before .before .before .before in
     let at-state-in = at-if2 .before .before .before .before in
     let entry = at-state-in .before .before .before .before in
     let S = at-state-in .state-in .ensures in
@@ -64,8 +59,7 @@ same-length-4 c = search needs
 
 returns-4 : tie.Need-returns-4
 returns-4 c =
-    let back5 = c .before .before .before .before .before in
-    let at-outer-of = back5 in
+    let at-outer-of = c .before .before .before .before .before in
     let at-if3 = at-outer-of .before .before in
     let at-if2 = at-if3 .before .before in
     let at-if1 = at-if2 .before .before in
@@ -80,8 +74,7 @@ same-length-5 c = search needs
 
 returns-5 : tie.Need-returns-5
 returns-5 c =
-    let back5 = c .before .before .before .before .before in
-    let at-outer-of = back5 in
+    let at-outer-of = c .before .before .before .before .before in
     let at-if3 = at-outer-of .before .before in
     let at-if2 = at-if3 .before .before in
     let at-if1 = at-if2 .before .before in

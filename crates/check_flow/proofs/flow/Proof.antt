@@ -30,20 +30,17 @@ shared-slice-read-kind c = omega arith
 
 add-c : tie.Need-add-c Inv-loop μ-loop
 add-c c =
-    let back7 = c .before .before .before .before .before .before .before in
-    let entry = back7 in
+    let entry = c .before .before .before .before .before .before .before in
     let w = c .before .before .before .loop .inv .1 .most-c in let v = entry .pre .placed .count in let u = entry .pre .placed .few in omega arith
 
 end-of-requires : tie.Need-end-of-requires Inv-loop μ-loop
 end-of-requires c κs =
-    let back7 = c .before .before .before .before .before .before .before in
-    let entry = back7 in
+    let entry = c .before .before .before .before .before .before .before in
     (entry .pre .placed .few)
 
 limits-of-requires-2 : tie.Need-limits-of-requires-2 Inv-loop μ-loop
 limits-of-requires-2 c κs =
-    let back8 = c .before .before .before .before .before .before .before .before in
-    let entry = back8 in
+    let entry = c .before .before .before .before .before .before .before .before in
     let a = entry .args in
     let o = c .before .before .before .before .loop in
     let w = flowing-inside (a .file .now) (a .m .now) (a .table .now) (a .k) (entry .pre) (o .m) (o .p) (o .c) (o .head) (o .limits .end) (o .inv .1) (omega arith) in
@@ -52,8 +49,7 @@ limits-of-requires-2 c κs =
 
 add-p : tie.Need-add-p Inv-loop μ-loop
 add-p c =
-    let back9 = c .before .before .before .before .before .before .before .before .before in
-    let entry = back9 in
+    let entry = c .before .before .before .before .before .before .before .before .before in
     let b = entry .pre .few in omega arith
 
 loop-less : tie.Need-loop-less Inv-loop μ-loop
@@ -61,8 +57,7 @@ loop-less c = omega arith
 
 loop-again : tie.Need-loop-again Inv-loop μ-loop
 loop-again c =
-    let back5 = c .before .before .before .before .before in
-    let at-loop = back5 in
+    let at-loop = c .before .before .before .before .before in
     let entry = at-loop .before .before .before .before in
     let a = entry .args in
     let o = at-loop .loop in (
@@ -75,8 +70,7 @@ loop-again c =
 
 take-requires : tie.Need-take-requires Inv-loop μ-loop
 take-requires c κs =
-    let back8 = c .before .before .before .before .before .before .before .before in
-    let entry = back8 in
+    let entry = c .before .before .before .before .before .before .before .before in
     let a = entry .args in
     let o = c .before .before .before .before .loop in (
       begun-table (a .file .now) (a .m .now) (a .table .now) (a .k) (entry .pre),
@@ -91,8 +85,7 @@ take-requires c κs =
 
 same-length : tie.Need-same-length Inv-loop μ-loop
 same-length c =
-    let back9 = c .before .before .before .before .before .before .before .before .before in
-    let at-loop = back9 in
+    let at-loop = c .before .before .before .before .before .before .before .before .before in
     let entry = at-loop .before .before .before .before in
     omega (arith, c .before .before .before .before .take .kept .1 .1 .0, at-loop .loop .inv .1 .good .shows .long, entry .pre .good .shows .long)
 
@@ -109,8 +102,7 @@ returns c =
 
 loop-less-2 : tie.Need-loop-less-2 Inv-loop μ-loop
 loop-less-2 c =
-    let back9 = c .before .before .before .before .before .before .before .before .before in
-    let at-loop = back9 in
+    let at-loop = c .before .before .before .before .before .before .before .before .before in
     let entry = at-loop .before .before .before .before in
     omega (arith, (c .before .before .before .before .take .ensures .on) (c .if2 .left), after-above (entry .args .file .now) (at-loop .loop .p))
 
@@ -131,14 +123,12 @@ loop-again-2 c =
 
 same-length-2 : tie.Need-same-length-2 Inv-loop μ-loop
 same-length-2 c =
-    let back5 = c .before .before .before .before .before in
-    let entry = back5 in
+    let entry = c .before .before .before .before .before in
     omega (arith, c .before .loop .inv .1 .good .shows .long, entry .pre .good .shows .long)
 
 returns-2 : tie.Need-returns-2 Inv-loop μ-loop
 returns-2 c =
-    let back5 = c .before .before .before .before .before in
-    let entry = back5 in
+    let entry = c .before .before .before .before .before in
     let a = entry .args in
     let o = c .before .loop in
     flowing-end (a .file .now) (a .m .now) (a .table .now) (a .k) (entry .pre) (o .m) (o .p) (o .c) (o .head) (o .limits .end) (o .inv .1) (omega arith)

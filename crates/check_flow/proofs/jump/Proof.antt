@@ -11,8 +11,7 @@ own-requires c κs = ends-low (c .before .before .before .pre .here)
 
 state-in-requires : tie.Need-state-in-requires
 state-in-requires c κs =
-    let back6 = c .before .before .before .before .before .before in
-    let entry = back6 in
+    let entry = c .before .before .before .before .before .before in
     here-place (entry .pre .here)
 
 same-length : tie.Need-same-length
@@ -20,15 +19,13 @@ same-length c = search needs
 
 returns : tie.Need-returns
 returns c =
-    let back5 = c .before .before .before .before .before in
-    let at-own = back5 in
+    let at-own = c .before .before .before .before .before in
     let entry = at-own .before .before .before .before in
     stops (test-passes (on-jump (entry .pre) (c .before .before .state-in .ensures)) (sym (at-own .own .ensures) ∙ c .before .before .before .before .if1 .taken)) (le-ltb _ _ (c .if2 .taken))
 
 pass-one-requires : tie.Need-pass-one-requires
 pass-one-requires c κs =
-    let back5 = c .before .before .before .before .before in
-    let at-if1 = back5 in
+    let at-if1 = c .before .before .before .before .before in
     let at-own = at-if1 .before in
     let entry = at-own .before .before .before .before in
     let S = c .before .before .before .state-in .ensures in
@@ -39,8 +36,7 @@ same-length-2 c = search needs
 
 returns-2 : tie.Need-returns-2
 returns-2 c =
-    let back5 = c .before .before .before .before .before in
-    let at-if2 = back5 in
+    let at-if2 = c .before .before .before .before .before in
     let at-state-in = at-if2 .before .before in
     let at-if1 = at-state-in .before .before in
     let at-own = at-if1 .before in
@@ -53,8 +49,7 @@ same-length-3 c = search needs
 
 returns-3 : tie.Need-returns-3
 returns-3 c =
-    let back5 = c .before .before .before .before .before in
-    let at-if2 = back5 in
+    let at-if2 = c .before .before .before .before .before in
     let at-state-in = at-if2 .before .before in
     let at-if1 = at-state-in .before .before in
     let at-own = at-if1 .before in
@@ -67,8 +62,7 @@ same-length-4 c = search needs
 
 returns-4 : tie.Need-returns-4
 returns-4 c =
-    let back5 = c .before .before .before .before .before in
-    let entry = back5 in
+    let entry = c .before .before .before .before .before in
     stops (takes-jump _ _ _ _ _ (entry .pre .here) (entry .pre .bounds) _ (entry .pre .shape-is)) (sym (c .before .own .ensures) ∙ c .if1 .left)
 
 pub jump-spec : {M : Type 1} → statement M

@@ -19,8 +19,7 @@ forwards-requires c κs =
 jump-requires : tie.Need-jump-requires
 unfolding insOf shapeOf bodyOf bodies codes
 jump-requires c κs =
-    let back5 = c .before .before .before .before .before in
-    let entry = back5 in
+    let entry = c .before .before .before .before .before in
     led (entry .pre .0) 1 3 (leadsTo Jump 0 _) (c .before .before .match .keys1) refl (ap (leadsTo Jump 0) (sym (c .forwards .ensures .is)))
 
 backwards-requires : tie.Need-backwards-requires
@@ -31,8 +30,7 @@ backwards-requires c κs =
 jump-requires-2 : tie.Need-jump-requires-2
 unfolding insOf shapeOf bodyOf bodies codes
 jump-requires-2 c κs =
-    let back5 = c .before .before .before .before .before in
-    let entry = back5 in
+    let entry = c .before .before .before .before .before in
     led (entry .pre .0) 3 3 (leadsTo Jump 0 _) (c .before .before .match .keys2) refl (ap (leadsTo Jump 0) (sym (c .backwards .ensures .is)))
 
 forwards-requires-2 : tie.Need-forwards-requires-2
@@ -43,8 +41,7 @@ forwards-requires-2 c κs =
 branch-requires : tie.Need-branch-requires
 unfolding insOf shapeOf bodyOf bodies codes
 branch-requires c κs =
-    let back5 = c .before .before .before .before .before in
-    let entry = back5 in
+    let entry = c .before .before .before .before .before in
     led (entry .pre .0) 2 3 (leadsTo Branch 1 _) (c .before .before .match .keys3) refl (ap (leadsTo Branch 1) (sym (c .forwards2 .ensures .is)))
 
 backwards-requires-2 : tie.Need-backwards-requires-2
@@ -55,8 +52,7 @@ backwards-requires-2 c κs =
 branch-requires-2 : tie.Need-branch-requires-2
 unfolding insOf shapeOf bodyOf bodies codes
 branch-requires-2 c κs =
-    let back5 = c .before .before .before .before .before in
-    let entry = back5 in
+    let entry = c .before .before .before .before .before in
     led (entry .pre .0) 4 3 (leadsTo Branch 1 _) (c .before .before .match .keys4) refl (ap (leadsTo Branch 1) (sym (c .backwards2 .ensures .is)))
 
 forwards-requires-3 : tie.Need-forwards-requires-3
@@ -67,8 +63,7 @@ forwards-requires-3 c κs =
 branch-requires-3 : tie.Need-branch-requires-3
 unfolding insOf shapeOf bodyOf bodies codes
 branch-requires-3 c κs =
-    let back5 = c .before .before .before .before .before in
-    let entry = back5 in
+    let entry = c .before .before .before .before .before in
     let f = entry .args .file .now in
     let p = entry .args .p in
     led (entry .pre .0) (entry .args .kind) 3 (leadsTo Keep 1 _) refl

@@ -15,15 +15,13 @@ state-in-requires c κs = here-place (c .before .before .before .pre .here)
 
 returns : tie.Need-returns
 returns c =
-    let back6 = c .before .before .before .before .before .before in
-    let entry = back6 in
+    let entry = c .before .before .before .before .before .before in
     stops (on-return (entry .pre) (c .before .before .state-in .ensures)) (le-ltb _ _ (c .if1 .taken))
 
 returns-2 : tie.Need-returns-2
 unfolding headBytes
 returns-2 c =
-    let back5 = c .before .before .before .before .before in
-    let at-state-in = back5 in
+    let at-state-in = c .before .before .before .before .before in
     let at-head-at = at-state-in .before in
     let entry = at-head-at .before .before .before in
     let J = test-passes (on-return (entry .pre) (at-state-in .state-in .ensures)) (lt-ltb _ _ (c .before .before .before .if1 .left)) in
@@ -32,8 +30,7 @@ returns-2 c =
 returns-3 : tie.Need-returns-3
 unfolding headBytes
 returns-3 c =
-    let back6 = c .before .before .before .before .before .before in
-    let at-if1 = back6 in
+    let at-if1 = c .before .before .before .before .before .before in
     let at-state-in = at-if1 .before .before in
     let at-head-at = at-state-in .before in
     let entry = at-head-at .before .before .before in
@@ -45,8 +42,7 @@ returns-3 c =
 returns-4 : tie.Need-returns-4
 unfolding headBytes
 returns-4 c =
-    let back5 = c .before .before .before .before .before in
-    let at-if2 = back5 in
+    let at-if2 = c .before .before .before .before .before in
     let at-if1 = at-if2 .before .before .before in
     let at-state-in = at-if1 .before .before in
     let at-head-at = at-state-in .before in
@@ -59,8 +55,7 @@ returns-4 c =
 returns-5 : tie.Need-returns-5
 unfolding headBytes
 returns-5 c =
-    let back5 = c .before .before .before .before .before in
-    let at-if2 = back5 in
+    let at-if2 = c .before .before .before .before .before in
     let at-if1 = at-if2 .before .before .before in
     let at-state-in = at-if1 .before .before in
     let at-head-at = at-state-in .before in

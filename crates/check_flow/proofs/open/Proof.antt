@@ -19,15 +19,13 @@ same-length c = search needs
 
 returns : tie.Need-returns
 returns c =
-    let back6 = c .before .before .before .before .before .before in
-    let entry = back6 in
+    let entry = c .before .before .before .before .before .before in
     let J = takes-open _ _ _ _ _ (entry .pre .here) (entry .pre .bounds) _ (entry .pre .shape-is) in
     stops (test-passes J (sym (c .before .before .own .ensures) ∙ c .before .if1 .taken)) (lt-leb (suc (entry .args .p)) (entry .args .target) (omega (arith, c .if2 .taken)))
 
 state-in-requires : tie.Need-state-in-requires
 state-in-requires c κs =
-    let back7 = c .before .before .before .before .before .before .before in
-    let entry = back7 in
+    let entry = c .before .before .before .before .before .before .before in
     here-place (entry .pre .here)
 
 same-length-2 : tie.Need-same-length-2
@@ -35,8 +33,7 @@ same-length-2 c = search needs
 
 returns-2 : tie.Need-returns-2
 returns-2 c =
-    let back5 = c .before .before .before .before .before in
-    let at-if1 = back5 in
+    let at-if1 = c .before .before .before .before .before in
     let at-own = at-if1 .before in
     let entry = at-own .before .before .before .before in
     let J = test-passes (on-open (entry .pre) (c .before .before .state-in .ensures)) (sym (at-own .own .ensures) ∙ at-if1 .if1 .taken) in
@@ -47,8 +44,7 @@ same-length-3 c = search needs
 
 returns-3 : tie.Need-returns-3
 returns-3 c =
-    let back6 = c .before .before .before .before .before .before in
-    let at-if2 = back6 in
+    let at-if2 = c .before .before .before .before .before .before in
     let at-if1 = at-if2 .before in
     let at-own = at-if1 .before in
     let entry = at-own .before .before .before .before in
@@ -60,8 +56,7 @@ same-length-4 c = search needs
 
 returns-4 : tie.Need-returns-4
 returns-4 c =
-    let back5 = c .before .before .before .before .before in
-    let at-if3 = back5 in
+    let at-if3 = c .before .before .before .before .before in
     let at-state-in = at-if3 .before .before in
     let at-if2 = at-state-in .before .before in
     let at-if1 = at-if2 .before in
@@ -77,8 +72,7 @@ add-raised c = search needs
 
 pass-both-requires : tie.Need-pass-both-requires
 pass-both-requires c κs =
-    let back5 = c .before .before .before .before .before in
-    let at-if4 = back5 in
+    let at-if4 = c .before .before .before .before .before in
     let at-state-in = at-if4 .before .before .before .before in
     let at-if1 = at-state-in .before .before .before in
     let at-own = at-if1 .before in
@@ -96,8 +90,7 @@ same-length-5 c = search needs
 
 returns-5 : tie.Need-returns-5
 returns-5 c =
-    let back5 = c .before .before .before .before .before in
-    let at-if5 = back5 in
+    let at-if5 = c .before .before .before .before .before in
     let at-if4 = at-if5 .before .before .before in
     let at-if3 = at-if4 .before .before in
     let at-state-in = at-if3 .before .before in
@@ -114,8 +107,7 @@ same-length-6 c = search needs
 
 returns-6 : tie.Need-returns-6
 returns-6 c =
-    let back5 = c .before .before .before .before .before in
-    let entry = back5 in
+    let entry = c .before .before .before .before .before in
     stops (takes-open _ _ _ _ _ (entry .pre .here) (entry .pre .bounds) _ (entry .pre .shape-is)) (sym (c .before .own .ensures) ∙ c .if1 .left)
 
 pub open-spec : {M : Type 1} → statement M

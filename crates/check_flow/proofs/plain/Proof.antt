@@ -10,14 +10,12 @@ state-in-requires c κs = here-place (c .before .before .before .pre .1 .here)
 
 outer-of-requires : tie.Need-outer-of-requires
 outer-of-requires c κs =
-    let back5 = c .before .before .before .before .before in
-    let entry = back5 in
+    let entry = c .before .before .before .before .before in
     held-here (entry .pre .1 .here) (entry .pre .1 .bounds) (c .before .state-in .ensures)
 
 plain-at-requires : tie.Need-plain-at-requires
 plain-at-requires c κs =
-    let back6 = c .before .before .before .before .before .before in
-    let entry = back6 in
+    let entry = c .before .before .before .before .before .before in
     let A = entry .pre .1 in
     (entry .pre .0, A .here .site, A .kind-is, entry .pre .2, entry .pre .3, bounded-here (A .here) (A .bounds) (c .before .before .state-in .ensures) (c .outer-of .ensures))
 
@@ -42,8 +40,7 @@ same-length c = search needs
 
 returns : tie.Need-returns
 returns c =
-    let back6 = c .before .before .before .before .before .before in
-    let at-if1 = back6 in
+    let at-if1 = c .before .before .before .before .before .before in
     let at-plain-at = at-if1 .before in
     let at-outer-of = at-plain-at .before in
     let at-state-in = at-outer-of .before .before in
@@ -59,8 +56,7 @@ same-length-2 c = search needs
 
 returns-2 : tie.Need-returns-2
 returns-2 c =
-    let back6 = c .before .before .before .before .before .before in
-    let at-if1 = back6 in
+    let at-if1 = c .before .before .before .before .before .before in
     let at-plain-at = at-if1 .before in
     let at-outer-of = at-plain-at .before in
     let at-state-in = at-outer-of .before .before in
@@ -76,8 +72,7 @@ same-length-3 c = search needs
 
 returns-3 : tie.Need-returns-3
 returns-3 c =
-    let back5 = c .before .before .before .before .before in
-    let at-state-in = back5 in
+    let at-state-in = c .before .before .before .before .before in
     let entry = at-state-in .before .before .before .before in
     let W = onwards-taken (entry .pre .1) (entry .pre .2) (entry .pre .3) (at-state-in .state-in .ensures) (c .before .before .before .outer-of .ensures) (c .before .before .plain-at .ensures) in
     rw (c .done3 .ensures) (plain-stopped W (c .before .if1 .left))

@@ -19,8 +19,7 @@ leave-requires c κs = led (c .before .before .before .before .pre .1) 73 1 (lea
 
 add-done : tie.Need-add-done
 add-done c =
-    let back5 = c .before .before .before .before .before in
-    let entry = back5 in
+    let entry = c .before .before .before .before .before in
     let a = here-place (entry .pre .1 .here) in omega arith
 
 done-requires : tie.Need-done-requires
@@ -38,14 +37,12 @@ add-open c = search needs
 open-requires : tie.Need-open-requires
 unfolding insOf shapeOf bodyOf bodies codes handlerAt
 open-requires c κs =
-    let back5 = c .before .before .before .before .before in
-    let entry = back5 in
+    let entry = c .before .before .before .before .before in
     led (entry .pre .1) 160 3 (leadsTo Open 0 _) (c .before .before .match .keys2) refl (rw (c .operand .ensures .is, entry .pre .1 .here .head))
 
 add-done-2 : tie.Need-add-done-2
 add-done-2 c =
-    let back8 = c .before .before .before .before .before .before .before .before in
-    let entry = back8 in
+    let entry = c .before .before .before .before .before .before .before .before in
     let a = here-place (entry .pre .1 .here) in omega arith
 
 done-requires-2 : tie.Need-done-requires-2
@@ -57,8 +54,7 @@ close-requires c κs = led (c .before .before .before .before .pre .1) 161 1 (le
 
 add-done-3 : tie.Need-add-done-3
 add-done-3 c =
-    let back7 = c .before .before .before .before .before .before .before in
-    let entry = back7 in
+    let entry = c .before .before .before .before .before .before .before in
     let a = here-place (entry .pre .1 .here) in omega arith
 
 done-requires-3 : tie.Need-done-requires-3
@@ -66,14 +62,12 @@ done-requires-3 c κs = search needs
 
 jumps-requires : tie.Need-jumps-requires
 jumps-requires c κs =
-    let back6 = c .before .before .before .before .before .before in
-    let entry = back6 in
+    let entry = c .before .before .before .before .before .before in
     (entry .pre .1, omega arith, omega arith)
 
 add-done-4 : tie.Need-add-done-4
 add-done-4 c =
-    let back9 = c .before .before .before .before .before .before .before .before .before in
-    let entry = back9 in
+    let entry = c .before .before .before .before .before .before .before .before .before in
     let a = here-place (entry .pre .1 .here) in omega arith
 
 done-requires-4 : tie.Need-done-requires-4
@@ -81,8 +75,7 @@ done-requires-4 c κs = search needs
 
 plain-requires : tie.Need-plain-requires
 plain-requires c κs =
-    let back5 = c .before .before .before .before .before in
-    let entry = back5 in
+    let entry = c .before .before .before .before .before in
     let aside : NoJump (entry .args .kind) = ⊎-elim (λ t. inl (omega arith)) (λ t. inr (omega arith)) (c .before .if1 .came) in
     let r = c .before .before .match .rest in
     (entry .pre .0, entry .pre .1, aside, ((((tt, entry .pre .2), r .0 .0 .1), r .0 .1), r .1))
@@ -93,8 +86,7 @@ same-length c = search needs
 returns : tie.Need-returns
 unfolding bodyOf bodies codes
 returns c =
-    let back6 = c .before .before .before .before .before .before in
-    let entry = back6 in
+    let entry = c .before .before .before .before .before .before in
     rw (c .done .ensures) (took (entry .pre .1) 73 1 (c .before .before .before .match .keys1) refl (c .before .leave .ensures))
 
 same-length-2 : tie.Need-same-length-2
@@ -103,8 +95,7 @@ same-length-2 c = search needs
 returns-2 : tie.Need-returns-2
 unfolding bodyOf bodies codes
 returns-2 c =
-    let back6 = c .before .before .before .before .before .before in
-    let at-match = back6 in
+    let at-match = c .before .before .before .before .before .before in
     let entry = at-match .before .before .before in
     rw (c .done2 .ensures) (took (entry .pre .1) 160 3 (at-match .match .keys2) refl (c .before .before .before .«open» .ensures))
 
@@ -114,8 +105,7 @@ same-length-3 c = search needs
 returns-3 : tie.Need-returns-3
 unfolding bodyOf bodies codes
 returns-3 c =
-    let back5 = c .before .before .before .before .before in
-    let at-match = back5 in
+    let at-match = c .before .before .before .before .before in
     let entry = at-match .before .before .before in
     rw (c .done3 .ensures) (took (entry .pre .1) 161 1 (at-match .match .keys3) refl (c .before .before .before .close .ensures))
 
@@ -124,8 +114,7 @@ same-length-4 c = search needs
 
 returns-4 : tie.Need-returns-4
 returns-4 c =
-    let back10 = c .before .before .before .before .before .before .before .before .before .before in
-    let entry = back10 in
+    let entry = c .before .before .before .before .before .before .before .before .before .before in
     rw (c .done4 .ensures) (took (entry .pre .1) _ 3 refl (ap suc (body-jumps _ (omega arith) (omega arith))) (c .before .before .before .jumps .ensures))
 
 same-length-5 : tie.Need-same-length-5

@@ -56,8 +56,7 @@ returns-3 c = rw (c .step3 .ensures, c .before .match .keys3, c .before .before 
 returns-4 : tie.Need-returns-4
 unfolding shapeOf insOf basicEffect
 returns-4 c =
-    let back5 = c .before .before .before .before .before in
-    let entry = back5 in
+    let entry = c .before .before .before .before .before in
     let e : (entry .args .kind) ≡ 64 =
     ⊎-elim (λ e. absurd ((c .before .match .rest .0 .0 .1) e)) (⊎-elim (λ e. absurd ((c .before .match .rest .0 .1) e)) (⊎-elim (λ e. absurd ((c .before .match .rest .1) e)) (λ e. e)))
     (entry .pre .2)

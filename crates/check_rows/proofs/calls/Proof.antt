@@ -35,8 +35,7 @@ head-at-requires c κs = let t = c .before .before .before .before .pre .0 in le
 
 step-requires : tie.Need-step-requires
 step-requires c κs =
-    let back5 = c .before .before .before .before .before in
-    let entry = back5 in
+    let entry = c .before .before .before .before .before in
     (entry .pre .3, entry .pre .2, omega arith, omega (arith, c .head-at .ensures), omega (arith, c .head-at .ensures))
 
 returns-2 : tie.Need-returns-2

@@ -57,8 +57,7 @@ returns-3 c = rw (c .moves3 .ensures, c .before .frame3 .ensures, c .before .bef
 returns-4 : tie.Need-returns-4
 unfolding shapeOf insOf basicEffect
 returns-4 c =
-    let back5 = c .before .before .before .before .before in
-    let entry = back5 in
+    let entry = c .before .before .before .before .before in
     let e : (entry .args .kind) ≡ 23 = omega arith in rw (c .moves4 .ensures, c .before .frame4 .ensures, e, c .before .before .before .operand .ensures .is, add-one)
 
 pub locals-spec : {M : Type 1} → statement M

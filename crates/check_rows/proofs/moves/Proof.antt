@@ -28,30 +28,26 @@ sub-under c = stacks-fit _ _ _ _ _ (sym (c .before .before .before .depths-ok .e
 
 sub-below : tie.Need-sub-below
 sub-below c =
-    let back5 = c .before .before .before .before .before in
-    let at-depths-ok = back5 in
+    let at-depths-ok = c .before .before .before .before .before in
     stacks-fit _ _ _ _ _ (sym (at-depths-ok .depths-ok .ensures) ∙ c .before .before .before .before .if3 .taken) .ptr
 
 add-main : tie.Need-add-main
 add-main c =
-    let back5 = c .before .before .before .before .before in
-    let at-if3 = back5 in
+    let at-if3 = c .before .before .before .before .before in
     let at-depths-ok = at-if3 .before in
     let entry = at-depths-ok .before .before .before .before .before in
     let w = stacks-fit _ _ _ _ _ (sym (at-depths-ok .depths-ok .ensures) ∙ at-if3 .if3 .taken) in let b = entry .pre .0 .x-byte in search needs
 
 add-ptr : tie.Need-add-ptr
 add-ptr c =
-    let back6 = c .before .before .before .before .before .before in
-    let at-if3 = back6 in
+    let at-if3 = c .before .before .before .before .before .before in
     let at-depths-ok = at-if3 .before in
     let entry = at-depths-ok .before .before .before .before .before in
     let w = stacks-fit _ _ _ _ _ (sym (at-depths-ok .depths-ok .ensures) ∙ at-if3 .if3 .taken) .ptr-within in let b = entry .pre .0 .y-byte in search needs
 
 returns-3 : tie.Need-returns-3
 returns-3 c =
-    let back6 = c .before .before .before .before .before .before in
-    let at-if3 = back6 in
+    let at-if3 = c .before .before .before .before .before .before in
     let at-depths-ok = at-if3 .before in
     let at-if2 = at-depths-ok .before in
     let at-if1 = at-if2 .before .before in
@@ -62,8 +58,7 @@ refuse-requires-3 c κs = search needs
 
 returns-4 : tie.Need-returns-4
 returns-4 c =
-    let back5 = c .before .before .before .before .before in
-    let at-if1 = back5 in
+    let at-if1 = c .before .before .before .before .before in
     c .refuse3 .ensures ∙ deep Next _ _ _ _ _ (at-if1 .if1 .left) (lt-ltb _ _ (c .before .before .before .if2 .left)) _ (c .before .before .depths-ok .ensures) (c .before .if3 .left)
 
 pub moves-spec : {M : Type 1} → statement M

@@ -168,8 +168,7 @@ returns-15 c =
 
 returns-16 : tie.Need-returns-16
 returns-16 c =
-    let back5 = c .before .before .before .before .before in
-    let entry = back5 in
+    let entry = c .before .before .before .before .before in
     at-row _ _ _ 3 _ _ _ _ _ (entry .pre .2) (ap suc (body-locals _ (omega arith) (omega arith))) refl (c .locals .ensures)
 
 returns-17 : tie.Need-returns-17

@@ -31,8 +31,7 @@ sub-main c = let w = stacks-fit _ _ _ _ _ (sym (c .before .before .depths-ok .en
 returns-2 : tie.Need-returns-2
 unfolding stacksOk
 returns-2 c =
-    let back6 = c .before .before .before .before .before .before in
-    let entry = back6 in
+    let entry = c .before .before .before .before .before .before in
     simp (sub-zero, add-zero) at (onward Raise (row 1 0 0 0 0 0) (asState (entry .args .s)) (asState (entry .args .o)) (entry .args .limits) ((entry .args .p) + 1)
     (c .before .before .before .before .if1 .left) refl _ (rw (c .before .before .before .effect .ensures) at (c .before .before .depths-ok .ensures)) (c .before .if2 .taken))
 
@@ -42,8 +41,7 @@ refuse-requires-2 c κs = search needs
 returns-3 : tie.Need-returns-3
 unfolding stacksOk
 returns-3 c =
-    let back6 = c .before .before .before .before .before .before in
-    let entry = back6 in
+    let entry = c .before .before .before .before .before .before in
     c .refuse2 .ensures ∙ deep Raise (row 1 0 0 0 0 0) (asState (entry .args .s)) (asState (entry .args .o)) (entry .args .limits) ((entry .args .p) + 1)
     (c .before .before .before .before .if1 .left) refl _ (rw (c .before .before .before .effect .ensures) at (c .before .before .depths-ok .ensures)) (c .before .if2 .left)
 

@@ -51,8 +51,7 @@ follows-requires c κs =
 
 head-at-requires : tie.Need-head-at-requires Inv-loop μ-loop
 head-at-requires c κs =
-    let back6 = c .before .before .before .before .before .before in
-    let at-loop = back6 in
+    let at-loop = c .before .before .before .before .before .before in
     let entry = at-loop .before .before .before in
     heading-whole (entry .pre) (at-loop .loop .inv .1) (omega arith) refl (omega arith)
 
@@ -61,14 +60,12 @@ head-right-requires c κs = search needs
 
 place-head-requires : tie.Need-place-head-requires Inv-loop μ-loop
 place-head-requires c κs =
-    let at-head-at = c .before .before .before in
-    let back5 = at-head-at .before .before in
-    let at-follows = back5 in
+    let at-follows = c .before .before .before .before .before in
     let at-loop = at-follows .before .before .before .before .before in
     let entry = at-loop .before .before .before in
     let w = heading-fits (entry .pre) (at-loop .loop .inv .1) (omega arith) refl (omega arith) (at-follows .follows .ensures) (c .before .before .before .before .if2 .taken) in
     let g = entry .pre .few in
-    (w .1, omega arith, at-head-at .head-at .ensures .a-small, at-head-at .head-at .ensures .b-small)
+    (w .1, omega arith, c .before .before .before .head-at .ensures .a-small, c .before .before .before .head-at .ensures .b-small)
 
 add-k : tie.Need-add-k Inv-loop μ-loop
 add-k c = omega arith
@@ -78,23 +75,19 @@ loop-less c = omega arith
 
 loop-again : tie.Need-loop-again Inv-loop μ-loop
 loop-again c =
-    let back5 = c .before .before .before .before .before in
-    let back7 = back5 .before .before in
-    let back8 = back7 .before in
-    let at-follows = back8 in
+    let at-follows = c .before .before .before .before .before .before .before .before in
     let at-loop = at-follows .before .before .before .before .before in
     let entry = at-loop .before .before .before in
-    let at-head-right = back5 in (
+    let at-head-right = c .before .before .before .before .before in (
       refl,
       heading-right (entry .pre) (at-loop .loop .inv .1) (omega arith) refl (omega arith) (at-follows .follows .ensures)
-          (back7 .if2 .taken) (at-head-right .before .head-at .ensures) (at-head-right .head-right .ensures)
+          (c .before .before .before .before .before .before .before .if2 .taken) (at-head-right .before .head-at .ensures) (at-head-right .head-right .ensures)
           (c .before .before .before .before .if3 .taken) (c .before .before .place-head .ensures),
     )
 
 same-length-2 : tie.Need-same-length-2 Inv-loop μ-loop
 same-length-2 c =
-    let back9 = c .before .before .before .before .before .before .before .before .before in
-    let at-loop = back9 in
+    let at-loop = c .before .before .before .before .before .before .before .before .before in
     let entry = at-loop .before .before .before in
     at-loop .loop .inv .1 .shows .long ∙ sym (entry .pre .shows .long)
 
@@ -108,8 +101,7 @@ returns-2 c =
 
 same-length-3 : tie.Need-same-length-3 Inv-loop μ-loop
 same-length-3 c =
-    let back6 = c .before .before .before .before .before .before in
-    let at-loop = back6 in
+    let at-loop = c .before .before .before .before .before .before in
     let entry = at-loop .before .before .before in
     at-loop .loop .inv .1 .shows .long ∙ sym (entry .pre .shows .long)
 

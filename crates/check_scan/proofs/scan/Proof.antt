@@ -26,8 +26,7 @@ bodies-requires c κs = search needs
 
 loop-holds : tie.Need-loop-holds Inv-loop μ-loop
 loop-holds c =
-    let back5 = c .before .before .before .before .before in
-    let entry = back5 in
+    let entry = c .before .before .before .before .before in
     (refl, behind-first _ _ _ (c .before .if1 .left) (entry .pre .3))
 
 shared-slice-read-kind : tie.Need-shared-slice-read-kind Inv-loop μ-loop
@@ -44,8 +43,7 @@ loop-less c = omega arith
 
 loop-again : tie.Need-loop-again Inv-loop μ-loop
 loop-again c =
-    let back5 = c .before .before .before .before .before in
-    let at-body = back5 in
+    let at-body = c .before .before .before .before .before in
     let at-loop = at-body .before .before .before .before in
     (refl, scan-short (at-loop .loop .inv .1 .here (omega arith)) (omega arith) (at-body .body .ensures .is) (omega arith) (omega arith) (c .before .before .mark .ensures .0))
 
@@ -57,8 +55,7 @@ loop-less-2 c = omega arith
 
 loop-again-2 : tie.Need-loop-again-2 Inv-loop μ-loop
 loop-again-2 c =
-    let back6 = c .before .before .before .before .before .before in
-    let at-body = back6 in
+    let at-body = c .before .before .before .before .before .before in
     let at-loop = at-body .before .before .before .before in
     (refl, scan-short (at-loop .loop .inv .1 .here (omega arith)) (omega arith) (at-body .body .ensures .is) (omega arith) (omega arith) (c .before .before .mark2 .ensures .0))
 
@@ -70,8 +67,7 @@ loop-less-3 c = omega arith
 
 loop-again-3 : tie.Need-loop-again-3 Inv-loop μ-loop
 loop-again-3 c =
-    let back7 = c .before .before .before .before .before .before .before in
-    let at-body = back7 in
+    let at-body = c .before .before .before .before .before .before .before in
     let at-loop = at-body .before .before .before .before in
     (refl, scan-short (at-loop .loop .inv .1 .here (omega arith)) (omega arith) (at-body .body .ensures .is) (omega arith) (omega arith) (c .before .before .mark3 .ensures .0))
 
@@ -83,8 +79,7 @@ loop-less-4 c = omega arith
 
 loop-again-4 : tie.Need-loop-again-4 Inv-loop μ-loop
 loop-again-4 c =
-    let back8 = c .before .before .before .before .before .before .before .before in
-    let at-body = back8 in
+    let at-body = c .before .before .before .before .before .before .before .before in
     let at-loop = at-body .before .before .before .before in
     (refl, scan-short (at-loop .loop .inv .1 .here (omega arith)) (omega arith) (at-body .body .ensures .is) (omega arith) (omega arith) (c .before .before .mark4 .ensures .0))
 
@@ -93,8 +88,7 @@ list-requires c κs = search needs
 
 add-k : tie.Need-add-k Inv-loop μ-loop
 add-k c =
-    let back11 = c .before .before .before .before .before .before .before .before .before .before .before in
-    let at-loop = back11 in
+    let at-loop = c .before .before .before .before .before .before .before .before .before .before .before in
     let w = at-loop .loop .inv .1 .here (omega arith) .few in
     omega arith
 
@@ -106,8 +100,7 @@ loop-less-5 c = omega arith
 
 loop-again-5 : tie.Need-loop-again-5 Inv-loop μ-loop
 loop-again-5 c =
-    let back7 = c .before .before .before .before .before .before .before in
-    let at-body = back7 in
+    let at-body = c .before .before .before .before .before .before .before in
     let at-loop = at-body .before .before .before .before in
     let is-head = c .before .before .if6 .taken in
     let size = head-body (at-loop .loop .inv .1 .here (omega arith)) (omega arith) (at-body .body .ensures .is) is-head in
@@ -115,14 +108,12 @@ loop-again-5 c =
 
 same-length : tie.Need-same-length Inv-loop μ-loop
 same-length c =
-    let back10 = c .before .before .before .before .before .before .before .before .before .before in
-    let at-loop = back10 in
+    let at-loop = c .before .before .before .before .before .before .before .before .before .before in
     at-loop .loop .inv .1 .long
 
 returns-2 : tie.Need-returns-2 Inv-loop μ-loop
 returns-2 c =
-    let back6 = c .before .before .before .before .before .before in
-    let at-body = back6 in
+    let at-body = c .before .before .before .before .before .before in
     let at-loop = at-body .before .before .before .before in
     scan-unknown (at-loop .loop .inv .1 .here (omega arith)) (omega arith) (at-body .body .ensures .is) (c .if7 .taken)
 
@@ -134,13 +125,11 @@ loop-less-6 c = omega arith
 
 loop-again-6 : tie.Need-loop-again-6 Inv-loop μ-loop
 loop-again-6 c =
-    let at-if6 = c .before .before .before .before .before in
-    let back10 = at-if6 .before .before .before .before .before in
-    let at-body = back10 in
+    let at-body = c .before .before .before .before .before .before .before .before .before .before in
     let at-loop = at-body .before .before .before .before in (
       refl,
       scan-mark (at-loop .loop .inv .1 .here (omega arith)) (omega arith) (at-body .body .ensures .is) (c .before .before .before .before .if7 .left) (omega arith)
-          (at-if6 .if6 .left) (c .before .before .mark5 .ensures .0),
+          (c .before .before .before .before .before .if6 .left) (c .before .before .mark5 .ensures .0),
     )
 
 same-length-2 : tie.Need-same-length-2 Inv-loop μ-loop

@@ -23,8 +23,7 @@ same-length-2 c = search needs
 
 returns-2 : tie.Need-returns-2
 returns-2 c =
-    let back5 = c .before .before .before .before .before in
-    let at-check-with = back5 in
+    let at-check-with = c .before .before .before .before .before in
     rw (c .before .v .given .1) at (at-check-with .check-with .ensures .is)
 
 pub check-spec : {M : Type 1} → statement M

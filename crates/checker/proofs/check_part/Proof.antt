@@ -33,8 +33,7 @@ same-length-2 c = search needs
 
 returns-2 : tie.Need-returns-2
 returns-2 c =
-    let back5 = c .before .before .before .before .before in
-    let at-v = back5 in
+    let at-v = c .before .before .before .before .before in
     let at-passes = at-v .before .before .before .before in
     let entry = at-passes .before .before .before .before .before in
     fill-refused (entry .args .file .now) (at-passes .passes .last .1 .0) (c .before .before .fill .last .0) (at-passes .passes .last .1 .1 .0)

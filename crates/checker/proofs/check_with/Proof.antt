@@ -22,8 +22,7 @@ mul-size c = search needs
 
 returns-3 : tie.Need-returns-3
 returns-3 c =
-    let back5 = c .before .before .before .before .before in
-    let entry = back5 in
+    let entry = c .before .before .before .before .before in
     check-map (entry .args .file .now) (entry .args .map .now) (entry .args .table .now) (omega arith) (omega arith) (c .if3 .taken)
 
 slice-relend-prefix-check-part : tie.Need-slice-relend-prefix-check-part
@@ -34,8 +33,7 @@ slice-aggregate-check-part c = sym (length-take-le _ _ (omega arith))
 
 check-part-requires : tie.Need-check-part-requires
 check-part-requires c κs =
-    let back6 = c .before .before .before .before .before .before in
-    let at-shared-slice-known = back6 in
+    let at-shared-slice-known = c .before .before .before .before .before .before in
     let entry = at-shared-slice-known .before in
     record { some = omega arith; few = omega arith; bytes = λ i. omega (arith, at-shared-slice-known .shared-slice-known .given i); part = length-take-le _ _ (omega arith); empty = entry .pre }
 
@@ -44,8 +42,7 @@ same-length c = search needs
 
 returns-4 : tie.Need-returns-4
 returns-4 c =
-    let back10 = c .before .before .before .before .before .before .before .before .before .before in
-    let entry = back10 in
+    let entry = c .before .before .before .before .before .before .before .before .before .before in
     check-rest (entry .args .file .now) (entry .args .map .now) (c .before .before .check-part .last .1 .1 .0) (omega arith) (omega arith) (c .before .before .check-part .last .1 .0) _
     (c .before .before .check-part .result) (omega arith) (c .before .before .check-part .ensures) refl
 

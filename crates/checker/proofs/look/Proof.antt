@@ -15,8 +15,7 @@ enum-known-heads-2 c = search needs
 
 flow-requires : tie.Need-flow-requires
 flow-requires c κs =
-    let back6 = c .before .before .before .before .before .before in
-    let at-heads-of = back6 in
+    let at-heads-of = c .before .before .before .before .before .before in
     let entry = at-heads-of .before .before .before .before in
     look-begun (entry .args .file .now) (entry .args .m .now) (entry .args .table .now) (entry .args .n) (entry .args .last) (entry .pre)
     (at-heads-of .heads-of .last .1 .0) _ (rw (c .before .before .heads2 .given .1) at (at-heads-of .heads-of .ensures))
@@ -26,8 +25,7 @@ same-length c = search needs
 
 returns : tie.Need-returns
 returns c =
-    let back5 = c .before .before .before .before .before in
-    let at-heads-of = back5 in
+    let at-heads-of = c .before .before .before .before .before in
     let entry = at-heads-of .before .before .before .before in
     look-wrong (entry .args .file .now) (entry .args .m .now) (entry .args .table .now) (entry .args .n) (entry .args .last) (entry .pre)
     (at-heads-of .heads-of .last .1 .0) _ (rw (c .before .heads .given .1) at (at-heads-of .heads-of .ensures) .0)
@@ -37,8 +35,7 @@ same-length-2 c = search needs
 
 returns-2 : tie.Need-returns-2
 returns-2 c =
-    let back5 = c .before .before .before .before .before in
-    let at-heads2 = back5 in
+    let at-heads2 = c .before .before .before .before .before in
     let at-heads-of = at-heads2 .before .before .before .before in
     let entry = at-heads-of .before .before .before .before in
     look-flow (entry .args .file .now) (entry .args .m .now) (entry .args .table .now) (entry .args .n) (entry .args .last) (entry .pre)

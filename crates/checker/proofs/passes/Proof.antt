@@ -18,8 +18,7 @@ enum-known-found-2 c = search needs
 
 look-requires : tie.Need-look-requires
 look-requires c κs =
-    let back7 = c .before .before .before .before .before .before .before in
-    let at-scan = back7 in
+    let at-scan = c .before .before .before .before .before .before .before in
     let at-fill = at-scan .before .before .before .before .before in
     let entry = at-fill .before .before .before .before in
     look-whole (entry .args .file .now) (entry .args .m .now) (at-fill .fill .last .0) (at-scan .scan .last .1 .0) (entry .args .table .now)
@@ -31,8 +30,7 @@ same-length c = search needs
 
 returns : tie.Need-returns
 returns c =
-    let back5 = c .before .before .before .before .before in
-    let at-scan = back5 in
+    let at-scan = c .before .before .before .before .before in
     let at-fill = at-scan .before .before .before .before .before in
     let entry = at-fill .before .before .before .before in
     look-broken (entry .args .file .now) (entry .args .m .now) (at-fill .fill .last .0) (at-scan .scan .last .1 .0) (entry .args .table .now)

@@ -18,15 +18,13 @@ byte-requires-2 : tie.Need-byte-requires-2
 byte-requires-2 c κs = search needs
 
 returns : tie.Need-returns
-returns c =
-    let entry = c .before .before .before in
-    record {
-      is = c .byte2 .ensures .is
-          ∙ ap (λ (l : List ℕ). getD l (c .before .before .byte .result) 0) (entry .pre)
-          ∙ ap (λ (i : ℕ). getD lengths i 0) (c .before .before .byte .ensures .is)
-          ∙ lengths-are (entry .args .kind) (search needs);
-      small = c .byte2 .ensures .small;
-    }
+returns c = record {
+  is = c .byte2 .ensures .is
+      ∙ ap (λ (l : List ℕ). getD l (c .before .before .byte .result) 0) (c .before .before .before .pre)
+      ∙ ap (λ (i : ℕ). getD lengths i 0) (c .before .before .byte .ensures .is)
+      ∙ lengths-are (c .before .before .before .args .kind) (search needs);
+  small = c .byte2 .ensures .small;
+}
 
 pub body-spec : {M : Type 1} → statement M
 body-spec = tie.close (tie.spec byte-requires element-copy-out-byte byte-requires-2 returns)

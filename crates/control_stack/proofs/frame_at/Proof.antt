@@ -22,19 +22,17 @@ word-requires-5 c κs = search needs
 returns : tie.Need-returns
 unfolding recAt
 returns c =
-    let at-word2 = c .before .before .before in
-    let at-word = at-word2 .before in
     record {
       is = λ i. record {
-        mainBase = at-word .word .ensures .0 i;
-        ptrBase = at-word2 .word2 .ensures .0 i;
+        mainBase = c .before .before .before .before .word .ensures .0 i;
+        ptrBase = c .before .before .before .word2 .ensures .0 i;
         proc = c .before .before .word3 .ensures .0 i;
         returns = c .before .word4 .ensures .0 i;
         caller = c .word5 .ensures .0 i;
       };
       words = record {
-        main-base = at-word .word .ensures .1;
-        ptr-base = at-word2 .word2 .ensures .1;
+        main-base = c .before .before .before .before .word .ensures .1;
+        ptr-base = c .before .before .before .word2 .ensures .1;
         proc = c .before .before .word3 .ensures .1;
         returns = c .before .word4 .ensures .1;
         caller = c .word5 .ensures .1;

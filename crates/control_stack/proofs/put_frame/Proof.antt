@@ -71,8 +71,7 @@ same-length c = search needs
 
 returns : tie.Need-returns
 returns c =
-    let back5 = c .before .before .before .before .before in
-    let S = back5 in
+    let S = c .before .before .before .before .before in
     frame-put (S .args .ctl .now) (S .args .top) (S .pre .0 .whole) (theFrame (S .args .frame))
 
 pub put-frame-spec : {M : Type 1} → statement M

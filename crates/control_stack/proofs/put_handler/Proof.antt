@@ -71,8 +71,7 @@ same-length c = search needs
 
 returns : tie.Need-returns
 returns c =
-    let back5 = c .before .before .before .before .before in
-    let S = back5 in
+    let S = c .before .before .before .before .before in
     handler-put (S .args .ctl .now) (S .args .top) (S .pre .0 .whole) (theHandler (S .args .handler))
 
 pub put-handler-spec : {M : Type 1} → statement M

@@ -31,8 +31,7 @@ same-length-6 c = search needs
 
 returns : tie.Need-returns
 returns c =
-    let back13 = c .before .before .before .before .before .before .before .before .before .before .before .before .before in
-    let at-run = back13 in
+    let at-run = c .before .before .before .before .before .before .before .before .before .before .before .before .before in
     let entry = at-run .before .before .before .before .before .before .before .before .before .before .before .before .before .before in
     call-replies (c .told .result) (at-run .run .result) (record {
       file = entry .args .file .now;

@@ -28,8 +28,7 @@ same-length-5 c = search needs
 
 returns : tie.Need-returns
 returns c =
-    let back11 = c .before .before .before .before .before .before .before .before .before .before .before in
-    let at-start = back11 in
+    let at-start = c .before .before .before .before .before .before .before .before .before .before .before in
     let entry = at-start .before .before .before .before .before .before .before .before .before .before .before .before .before in
     call-replies (c .told .result) (at-start .start .result) (record {
       file = entry .args .file .now;

@@ -28,10 +28,8 @@ word-from-requires-7 c κs = search needs
 returns : tie.Need-returns
 unfolding regsFrom
 returns c =
-    let at-word-from2 = c .before .before .before .before .before in
-    let at-word-from = at-word-from2 .before in
-    let the-place = at-word-from .word-from .ensures in
-    let the-frame = at-word-from2 .word-from2 .ensures in
+    let the-place = c .before .before .before .before .before .before .word-from .ensures in
+    let the-frame = c .before .before .before .before .before .word-from2 .ensures in
     let the-handler = c .before .before .before .before .word-from3 .ensures in
     let the-mtop = c .before .before .before .word-from4 .ensures in
     let the-ptop = c .before .before .word-from5 .ensures in

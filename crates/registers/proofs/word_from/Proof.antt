@@ -62,8 +62,7 @@ add-result c = search needs
 returns : tie.Need-returns
 unfolding wordFrom
 returns c =
-    let at-byte = c .before .before .before .before .before .before in
-    let a = at-byte .byte .ensures in
+    let a = c .before .before .before .before .before .before .byte .ensures in
     let b = c .before .before .before .before .byte2 .ensures in
     let d = c .before .before .byte3 .ensures in
     let e = c .byte4 .ensures in

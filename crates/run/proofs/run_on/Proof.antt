@@ -31,7 +31,6 @@ answered-requires c κs = search needs
 returns : tie.Need-returns Inv-loop μ-loop
 returns c =
     let back8 = c .before .before .before .before .before .before .before .before in
-    let back8 = back8 in
     let S = back8 in rw (c .answered .ensures) (sym (run-finished (S .args .file .now) (S .args .table .now) (S .args .budget) 0 (record {
       regs = S .args .regs;
       main = S .args .main .now;
@@ -43,14 +42,12 @@ returns c =
 
 go-on-requires : tie.Need-go-on-requires Inv-loop μ-loop
 go-on-requires c κs =
-    let back11 = c .before .before .before .before .before .before .before .before .before .before .before in
-    let entry = back11 in
+    let entry = c .before .before .before .before .before .before .before .before .before .before .before in
     (entry .pre, c .before .before .before .before .if1 .left)
 
 loop-holds : tie.Need-loop-holds Inv-loop μ-loop
 loop-holds c =
-    let back9 = c .before .before .before .before .before .before .before .before .before in
-    let at-go-on = back9 in
+    let at-go-on = c .before .before .before .before .before .before .before .before .before in
     let S = at-go-on .before .before .before .before .before .before .before .before .before .before .before .before in
     let P = at-go-on .go-on .ensures in
     record { going = going-start (S .args .file .now) (S .args .table .now) _ _ (P .going .runs); on? = P .on?; stopped = P .stopped }
@@ -60,16 +57,14 @@ sub-after c = omega arith
 
 step-with-requires : tie.Need-step-with-requires Inv-loop μ-loop
 step-with-requires c κs =
-    let back5 = c .before .before .before .before .before in
-    let at-loop = back5 in
+    let at-loop = c .before .before .before .before .before in
     let L = at-loop .loop in
     let P = L .inv .stopped (c .before .before .before .before .loop-test .taken) in
     (rw (P .is) (alive-settles (L .inv .going .runs .alive) (L .inv .on?)), P .late)
 
 sub-done : tie.Need-sub-done Inv-loop μ-loop
 sub-done c =
-    let back15 = c .before .before .before .before .before .before .before .before .before .before .before .before .before .before .before in
-    let at-loop = back15 in
+    let at-loop = c .before .before .before .before .before .before .before .before .before .before .before .before .before .before .before in
     let at-go-on = at-loop .before .before .before .before .before .before .before .before .before .before in
     omega (arith, at-loop .loop .inv .going .less, at-go-on .go-on .ensures .going .less)
 
@@ -78,40 +73,35 @@ answered-requires-2 c κs = search needs
 
 same-length : tie.Need-same-length Inv-loop μ-loop
 same-length c =
-    let back11 = c .before .before .before .before .before .before .before .before .before .before .before in
-    let at-step-with = back11 in
+    let at-step-with = c .before .before .before .before .before .before .before .before .before .before .before in
     let at-loop = at-step-with .before .before .before .before .before .before in
     let at-go-on = at-loop .before .before .before .before .before .before .before .before .before .before in
     at-step-with .step-with .kept .1 .1 .0 ∙ at-loop .loop .inv .going .alike .main ∙ at-go-on .go-on .ensures .going .alike .main
 
 same-length-2 : tie.Need-same-length-2 Inv-loop μ-loop
 same-length-2 c =
-    let back11 = c .before .before .before .before .before .before .before .before .before .before .before in
-    let at-step-with = back11 in
+    let at-step-with = c .before .before .before .before .before .before .before .before .before .before .before in
     let at-loop = at-step-with .before .before .before .before .before .before in
     let at-go-on = at-loop .before .before .before .before .before .before .before .before .before .before in
     at-step-with .step-with .kept .1 .1 .1 .0 ∙ at-loop .loop .inv .going .alike .ptr ∙ at-go-on .go-on .ensures .going .alike .ptr
 
 same-length-3 : tie.Need-same-length-3 Inv-loop μ-loop
 same-length-3 c =
-    let back11 = c .before .before .before .before .before .before .before .before .before .before .before in
-    let at-step-with = back11 in
+    let at-step-with = c .before .before .before .before .before .before .before .before .before .before .before in
     let at-loop = at-step-with .before .before .before .before .before .before in
     let at-go-on = at-loop .before .before .before .before .before .before .before .before .before .before in
     at-step-with .step-with .kept .1 .1 .1 .1 .0 ∙ at-loop .loop .inv .going .alike .ctl ∙ at-go-on .go-on .ensures .going .alike .ctl
 
 same-length-4 : tie.Need-same-length-4 Inv-loop μ-loop
 same-length-4 c =
-    let back11 = c .before .before .before .before .before .before .before .before .before .before .before in
-    let at-step-with = back11 in
+    let at-step-with = c .before .before .before .before .before .before .before .before .before .before .before in
     let at-loop = at-step-with .before .before .before .before .before .before in
     let at-go-on = at-loop .before .before .before .before .before .before .before .before .before .before in
     at-step-with .step-with .kept .1 .1 .1 .1 .1 .0 ∙ at-loop .loop .inv .going .alike .heap ∙ at-go-on .go-on .ensures .going .alike .heap
 
 returns-2 : tie.Need-returns-2 Inv-loop μ-loop
 returns-2 c =
-    let back11 = c .before .before .before .before .before .before .before .before .before .before .before in
-    let at-step-with = back11 in
+    let at-step-with = c .before .before .before .before .before .before .before .before .before .before .before in
     let at-loop-test = at-step-with .before .before .before .before .before in
     let at-loop = at-loop-test .before in
     let at-go-on = at-loop .before .before .before .before .before .before .before .before .before .before in
@@ -133,8 +123,7 @@ returns-2 c =
 
 sub-done-2 : tie.Need-sub-done-2 Inv-loop μ-loop
 sub-done-2 c =
-    let back18 = c .before .before .before .before .before .before .before .before .before .before .before .before .before .before .before .before .before .before in
-    let at-loop = back18 in
+    let at-loop = c .before .before .before .before .before .before .before .before .before .before .before .before .before .before .before .before .before .before in
     let at-go-on = at-loop .before .before .before .before .before .before .before .before .before .before in
     omega (arith, at-loop .loop .inv .going .less, at-go-on .go-on .ensures .going .less)
 
@@ -143,40 +132,35 @@ answered-requires-3 c κs = search needs
 
 same-length-5 : tie.Need-same-length-5 Inv-loop μ-loop
 same-length-5 c =
-    let back13 = c .before .before .before .before .before .before .before .before .before .before .before .before .before in
-    let at-step-with = back13 in
+    let at-step-with = c .before .before .before .before .before .before .before .before .before .before .before .before .before in
     let at-loop = at-step-with .before .before .before .before .before .before in
     let at-go-on = at-loop .before .before .before .before .before .before .before .before .before .before in
     at-step-with .step-with .kept .1 .1 .0 ∙ at-loop .loop .inv .going .alike .main ∙ at-go-on .go-on .ensures .going .alike .main
 
 same-length-6 : tie.Need-same-length-6 Inv-loop μ-loop
 same-length-6 c =
-    let back13 = c .before .before .before .before .before .before .before .before .before .before .before .before .before in
-    let at-step-with = back13 in
+    let at-step-with = c .before .before .before .before .before .before .before .before .before .before .before .before .before in
     let at-loop = at-step-with .before .before .before .before .before .before in
     let at-go-on = at-loop .before .before .before .before .before .before .before .before .before .before in
     at-step-with .step-with .kept .1 .1 .1 .0 ∙ at-loop .loop .inv .going .alike .ptr ∙ at-go-on .go-on .ensures .going .alike .ptr
 
 same-length-7 : tie.Need-same-length-7 Inv-loop μ-loop
 same-length-7 c =
-    let back13 = c .before .before .before .before .before .before .before .before .before .before .before .before .before in
-    let at-step-with = back13 in
+    let at-step-with = c .before .before .before .before .before .before .before .before .before .before .before .before .before in
     let at-loop = at-step-with .before .before .before .before .before .before in
     let at-go-on = at-loop .before .before .before .before .before .before .before .before .before .before in
     at-step-with .step-with .kept .1 .1 .1 .1 .0 ∙ at-loop .loop .inv .going .alike .ctl ∙ at-go-on .go-on .ensures .going .alike .ctl
 
 same-length-8 : tie.Need-same-length-8 Inv-loop μ-loop
 same-length-8 c =
-    let back13 = c .before .before .before .before .before .before .before .before .before .before .before .before .before in
-    let at-step-with = back13 in
+    let at-step-with = c .before .before .before .before .before .before .before .before .before .before .before .before .before in
     let at-loop = at-step-with .before .before .before .before .before .before in
     let at-go-on = at-loop .before .before .before .before .before .before .before .before .before .before in
     at-step-with .step-with .kept .1 .1 .1 .1 .1 .0 ∙ at-loop .loop .inv .going .alike .heap ∙ at-go-on .go-on .ensures .going .alike .heap
 
 returns-3 : tie.Need-returns-3 Inv-loop μ-loop
 returns-3 c =
-    let back13 = c .before .before .before .before .before .before .before .before .before .before .before .before .before in
-    let at-step-with = back13 in
+    let at-step-with = c .before .before .before .before .before .before .before .before .before .before .before .before .before in
     let at-loop-test = at-step-with .before .before .before .before .before in
     let at-loop = at-loop-test .before in
     let at-go-on = at-loop .before .before .before .before .before .before .before .before .before .before in
@@ -217,8 +201,7 @@ returns-3 c =
 
 go-on-requires-2 : tie.Need-go-on-requires-2 Inv-loop μ-loop
 go-on-requires-2 c κs =
-    let back7 = c .before .before .before .before .before .before .before in
-    let at-if2 = back7 in
+    let at-if2 = c .before .before .before .before .before .before .before in
     let at-step-with = at-if2 .before .before .before .before .before .before .before .before .before in
     let at-loop-test = at-step-with .before .before .before .before .before in
     let at-loop = at-loop-test .before in
@@ -254,16 +237,14 @@ go-on-requires-2 c κs =
 
 loop-less : tie.Need-loop-less Inv-loop μ-loop
 loop-less c =
-    let back9 = c .before .before .before .before .before .before .before .before .before in
-    let at-go-on2 = back9 in
+    let at-go-on2 = c .before .before .before .before .before .before .before .before .before in
     let far27 = at-go-on2 .before .before .before .before .before .before .before .before .before .before .before .before .before .before .before .before .before .before in
     let at-loop-test = far27 .before .before .before .before in
     omega (arith, at-go-on2 .go-on2 .ensures .going .less, at-loop-test .loop-test .taken)
 
 loop-again : tie.Need-loop-again Inv-loop μ-loop
 loop-again c =
-    let back9 = c .before .before .before .before .before .before .before .before .before in
-    let at-go-on2 = back9 in
+    let at-go-on2 = c .before .before .before .before .before .before .before .before .before in
     let at-if2 = at-go-on2 .before .before .before .before .before .before .before .before in
     let at-step-with = at-if2 .before .before .before .before .before .before .before .before .before in
     let at-loop-test = at-step-with .before .before .before .before .before in
@@ -294,32 +275,27 @@ answered-requires-4 c κs = search needs
 
 same-length-9 : tie.Need-same-length-9 Inv-loop μ-loop
 same-length-9 c =
-    let back12 = c .before .before .before .before .before .before .before .before .before .before .before .before in
-    let at-go-on = back12 in
+    let at-go-on = c .before .before .before .before .before .before .before .before .before .before .before .before in
     c .before .before .loop .inv .going .alike .main ∙ at-go-on .go-on .ensures .going .alike .main
 
 same-length-10 : tie.Need-same-length-10 Inv-loop μ-loop
 same-length-10 c =
-    let back12 = c .before .before .before .before .before .before .before .before .before .before .before .before in
-    let at-go-on = back12 in
+    let at-go-on = c .before .before .before .before .before .before .before .before .before .before .before .before in
     c .before .before .loop .inv .going .alike .ptr ∙ at-go-on .go-on .ensures .going .alike .ptr
 
 same-length-11 : tie.Need-same-length-11 Inv-loop μ-loop
 same-length-11 c =
-    let back12 = c .before .before .before .before .before .before .before .before .before .before .before .before in
-    let at-go-on = back12 in
+    let at-go-on = c .before .before .before .before .before .before .before .before .before .before .before .before in
     c .before .before .loop .inv .going .alike .ctl ∙ at-go-on .go-on .ensures .going .alike .ctl
 
 same-length-12 : tie.Need-same-length-12 Inv-loop μ-loop
 same-length-12 c =
-    let back12 = c .before .before .before .before .before .before .before .before .before .before .before .before in
-    let at-go-on = back12 in
+    let at-go-on = c .before .before .before .before .before .before .before .before .before .before .before .before in
     c .before .before .loop .inv .going .alike .heap ∙ at-go-on .go-on .ensures .going .alike .heap
 
 returns-4 : tie.Need-returns-4 Inv-loop μ-loop
 returns-4 c =
-    let back12 = c .before .before .before .before .before .before .before .before .before .before .before .before in
-    let at-go-on = back12 in
+    let at-go-on = c .before .before .before .before .before .before .before .before .before .before .before .before in
     let S = at-go-on .before .before .before .before .before .before .before .before .before .before .before .before in
     let L = c .before .before .loop in
     rw (c .answered4 .ensures)

@@ -20,7 +20,6 @@ abbrev μ-loop : tie.MeasureT-loop
 loop-holds : tie.Need-loop-holds Inv-loop μ-loop
 loop-holds c =
     let back5 = c .before .before .before .before .before in
-    let back5 = back5 in
     let S = back5 in (
       going-start (S .args .file .now) (S .args .table .now) (S .args .budget) (record {
         regs = S .args .regs;
@@ -38,8 +37,7 @@ sub-after c = omega arith
 
 plan-at-requires : tie.Need-plan-at-requires Inv-loop μ-loop
 plan-at-requires c κs =
-    let back5 = c .before .before .before .before .before in
-    let at-loop = back5 in
+    let at-loop = c .before .before .before .before .before in
     let L = at-loop .loop in alive-ready (L .inv .0 .runs .alive) (L .inv .1)
 
 enum-known-plan : tie.Need-enum-known-plan Inv-loop μ-loop
@@ -50,32 +48,27 @@ stop-requires c κs = search needs
 
 same-length : tie.Need-same-length Inv-loop μ-loop
 same-length c =
-    let back8 = c .before .before .before .before .before .before .before .before in
-    let at-loop = back8 in
+    let at-loop = c .before .before .before .before .before .before .before .before in
     at-loop .loop .inv .0 .alike .main
 
 same-length-2 : tie.Need-same-length-2 Inv-loop μ-loop
 same-length-2 c =
-    let back8 = c .before .before .before .before .before .before .before .before in
-    let at-loop = back8 in
+    let at-loop = c .before .before .before .before .before .before .before .before in
     at-loop .loop .inv .0 .alike .ptr
 
 same-length-3 : tie.Need-same-length-3 Inv-loop μ-loop
 same-length-3 c =
-    let back8 = c .before .before .before .before .before .before .before .before in
-    let at-loop = back8 in
+    let at-loop = c .before .before .before .before .before .before .before .before in
     at-loop .loop .inv .0 .alike .ctl
 
 same-length-4 : tie.Need-same-length-4 Inv-loop μ-loop
 same-length-4 c =
-    let back8 = c .before .before .before .before .before .before .before .before in
-    let at-loop = back8 in
+    let at-loop = c .before .before .before .before .before .before .before .before in
     at-loop .loop .inv .0 .alike .heap
 
 returns : tie.Need-returns Inv-loop μ-loop
 returns c =
-    let back8 = c .before .before .before .before .before .before .before .before in
-    let at-loop = back8 in
+    let at-loop = c .before .before .before .before .before .before .before .before in
     let S = at-loop .before .before .before .before .before .before in
     let L = at-loop .loop in
     rw (c .stop .ensures)
@@ -88,23 +81,20 @@ returns c =
 
 apply-requires : tie.Need-apply-requires Inv-loop μ-loop
 apply-requires c κs =
-    let back5 = c .before .before .before .before .before in
-    let at-plan = back5 in
+    let at-plan = c .before .before .before .before .before in
     let at-plan-at = at-plan .before .before in
     let at-loop = at-plan-at .before .before .before .before .before .before in
     let L = at-loop .loop in alive-settles (L .inv .0 .runs .alive) (L .inv .1) .writes _ (sym (at-plan-at .plan-at .ensures) ∙ at-plan .plan .given .1)
 
 loop-less : tie.Need-loop-less Inv-loop μ-loop
 loop-less c =
-    let back18 = c .before .before .before .before .before .before .before .before .before .before .before .before .before .before .before .before .before .before in
-    let far18 = back18 in
+    let far18 = c .before .before .before .before .before .before .before .before .before .before .before .before .before .before .before .before .before .before in
     let at-loop-test = far18 .before .before .before .before .before in
     let h = at-loop-test .loop-test .taken in omega (arith, h)
 
 loop-again : tie.Need-loop-again Inv-loop μ-loop
 loop-again c =
-    let back10 = c .before .before .before .before .before .before .before .before .before .before in
-    let at-apply = back10 in
+    let at-apply = c .before .before .before .before .before .before .before .before .before .before in
     let at-plan = at-apply .before .before .before .before .before .before in
     let at-plan-at = at-plan .before .before in
     let at-loop-test = at-plan-at .before .before .before .before .before in
@@ -131,36 +121,31 @@ stop-requires-2 c κs = search needs
 
 same-length-5 : tie.Need-same-length-5 Inv-loop μ-loop
 same-length-5 c =
-    let back10 = c .before .before .before .before .before .before .before .before .before .before in
-    let at-apply = back10 in
+    let at-apply = c .before .before .before .before .before .before .before .before .before .before in
     let at-loop = at-apply .before .before .before .before .before .before .before .before .before .before .before .before .before .before in
     at-apply .apply .kept .1 .0 ∙ at-loop .loop .inv .0 .alike .main
 
 same-length-6 : tie.Need-same-length-6 Inv-loop μ-loop
 same-length-6 c =
-    let back10 = c .before .before .before .before .before .before .before .before .before .before in
-    let at-apply = back10 in
+    let at-apply = c .before .before .before .before .before .before .before .before .before .before in
     let at-loop = at-apply .before .before .before .before .before .before .before .before .before .before .before .before .before .before in
     at-apply .apply .kept .1 .1 .0 ∙ at-loop .loop .inv .0 .alike .ptr
 
 same-length-7 : tie.Need-same-length-7 Inv-loop μ-loop
 same-length-7 c =
-    let back10 = c .before .before .before .before .before .before .before .before .before .before in
-    let at-apply = back10 in
+    let at-apply = c .before .before .before .before .before .before .before .before .before .before in
     let at-loop = at-apply .before .before .before .before .before .before .before .before .before .before .before .before .before .before in
     at-apply .apply .kept .1 .1 .1 .0 ∙ at-loop .loop .inv .0 .alike .ctl
 
 same-length-8 : tie.Need-same-length-8 Inv-loop μ-loop
 same-length-8 c =
-    let back10 = c .before .before .before .before .before .before .before .before .before .before in
-    let at-apply = back10 in
+    let at-apply = c .before .before .before .before .before .before .before .before .before .before in
     let at-loop = at-apply .before .before .before .before .before .before .before .before .before .before .before .before .before .before in
     at-apply .apply .kept .1 .1 .1 .1 .0 ∙ at-loop .loop .inv .0 .alike .heap
 
 returns-2 : tie.Need-returns-2 Inv-loop μ-loop
 returns-2 c =
-    let back10 = c .before .before .before .before .before .before .before .before .before .before in
-    let at-apply = back10 in
+    let at-apply = c .before .before .before .before .before .before .before .before .before .before in
     let at-plan = at-apply .before .before .before .before .before .before in
     let at-plan-at = at-plan .before .before in
     let at-loop = at-plan-at .before .before .before .before .before .before in

@@ -42,9 +42,8 @@ loop-less c = omega arith
 
 loop-again : tie.Need-loop-again Inv-loop μ-loop
 loop-again c =
-    let at-loop = c .before .before .before .before .before .before .before .before in
     let e = c .before .before .before .end in
-    let l = at-loop .loop in
+    let l = c .before .before .before .before .before .before .before .before .loop in
     (omega arith, e .ensures, e .kept .0 ∙ l .inv .2)
 
 same-length : tie.Need-same-length Inv-loop μ-loop
