@@ -1,4 +1,4 @@
-// What a plan comes to: its writes applied, or its exception raised. Document 01's table of codes, and "A raise ..., all in one step".
+// What a plan comes to: its writes applied, or its exception raised, all in one step (Manual 4.25).
 ghost use mathlib.Core.Path.{_≡_};
 ghost use mathlib.Core.Bool.{true, false};
 ghost use mathlib.Core.List.{List};

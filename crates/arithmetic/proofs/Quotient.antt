@@ -1,4 +1,5 @@
--- "div rounds towards zero and A = B × quotient + remainder": `quotient-remainder` for all whole numbers, `words-divided` for the words that the two operations give.
+-- Manual 4.19: A = B × quotient + remainder: `quotient-remainder` for all whole numbers, `words-divided` for the words that the two operations
+-- give.
 -- By the signs, from the same law of natural numbers; for a divisor 0 the law holds of the definitions too, though both operations raise.
 use Prim.Native.Nat.{ℕ, zero, suc, _*_, _/_, _%_, _<_, _≤_}
 use mathlib.Core.Bool.{Bool, true, false, true≢false}

@@ -1,5 +1,4 @@
-// Arithmetic and comparisons on words. Document 01: "A whole number is a word in two's complement",
-// "div rounds towards zero and A = B × quotient + remainder".
+// Arithmetic and comparisons on words, which are whole numbers in two's complement (Manual 2.1, 4.17 to 4.20).
 // A word becomes a signed number, is computed with, and becomes a word again.
 use model::Value;
 ghost use mathlib.Core.Bool.{true};

@@ -1,4 +1,4 @@
-// The heap: its audit for refusal 11, and reads of its objects. Document 01, Memory, second paragraph.
+// The heap: its audit for refusal 11, and reads of its objects (Manual 2.6 to 2.8, 6.7, 6.8).
 // The audit walks the objects and marks in a table where they start; a pointer is then looked up there.
 ghost use mathlib.Core.Path.{_≡_};
 ghost use Prim.Native.Nat.{ℕ, _+_, _-_, _≤_, _<_};

@@ -44,7 +44,7 @@ pub record Near (s : LookRead) : Type 0 where
   pub main : s .«main_base» < 4294967296
   pub ptr : s .«ptr_base» < 4294967296
 
--- what is known where a record is read: the lengths of the main and the pointer stack are in 01's range
+-- what is known where a record is read: the lengths of the main and the pointer stack are in range
 pub record Reads (lm lp left : ℕ) (s : LookRead) : Type 0 where
   pub near : Near s
   pub main : lm ≤ mainMost

@@ -1,5 +1,5 @@
 // One control record against a passed file and its map: its tests, and what it tells of the records below.
-// Document 01, Memory, third paragraph, and Refused, "Sound".
+// Manual 6.11.
 ghost use mathlib.Core.Path.{_≡_};
 ghost use mathlib.Core.List.{List};
 ghost use Prim.Native.Nat.{ℕ, _+_, _-_, _*_, _<_};

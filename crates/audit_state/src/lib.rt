@@ -1,5 +1,5 @@
 // Refusal 12: registers, stacks and control records against a passed file and its map.
-// Document 01, Memory, third paragraph, and Refused, "Sound". The records are read from the top downwards, each once.
+// Manual 6.10 to 6.12. The records are read from the top downwards, each once.
 ghost use mathlib.Core.Path.{_≡_};
 ghost use mathlib.Core.List.{List};
 ghost use Prim.Native.Nat.{ℕ, _*_, _<_, _≤_};

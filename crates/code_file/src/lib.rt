@@ -1,4 +1,4 @@
-// The code file of document 01: body lengths, operands, jump targets, procedure heads.
+// The code file (Manual 3): body lengths, operands, jump targets, procedure heads.
 ghost use mathlib.Core.Path.{_≡_};
 ghost use Prim.Native.Nat.{_+_, _<_};
 ghost use lib.ListN.{length};

@@ -1,4 +1,4 @@
-// Document 01, Memory, third paragraph: the five words of a control record, read and written by name.
+// The five words of a control record, read and written by name (Manual 2.10 to 2.12).
 ghost use mathlib.Core.Path.{_≡_};
 ghost use Prim.Native.Nat.{ℕ, _+_, _*_, _/_, _<_, _≤_};
 ghost use lib.ListN.{length};
@@ -151,7 +151,7 @@ pub fn put_handler(ctl: &mut [u32], top: usize, handler: Handler)
     ctl[top + OUTER] = handler.outer as u32;
 }
 
-// The topmost record, which starts at `at`, goes: "what is popped is zeroed".
+// The topmost record, which starts at `at`, goes, and is zeroed.
 pub fn clear_record(ctl: &mut [u32], at: usize)
     requires { ⌜ (at + recordWords ≤ length (now ctl)) × ((i : ℕ) → at + recordWords ≤ i → wordAt (now ctl) i ≡ 0) ⌝ }
     ensures { λ _. ⌜ now (ctl .exit) ≡ cut at (now (ctl .entry)) ⌝ }

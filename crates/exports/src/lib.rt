@@ -23,7 +23,7 @@ fn numbers(kind: u32, number: u32, place: usize, steps: u32) -> Reply
     }
 }
 
-// An answer in numbers, as the paper gives them.
+// An answer in numbers (Manual 7.1).
 fn told(answer: Answer) -> Reply
     ensures { λ r. ⌜ asTold r ≡ toldOf answer ⌝ }
 {

@@ -1,4 +1,4 @@
-// Document 01, the table of codes with their effects: what the instruction at the machine's place is about to do. Nothing is written
+// Manual 4: what the instruction at the machine's place is about to do. Nothing is written
 // here. Codes of one family share a function and an arm. Inside its arm the code is chosen again, so that the family's function gets
 // it as a constant; the compiler makes one jump table of all the matches. 20 and 22 have arms of their own: their plans differ in `Into`, and
 // in one arm the compiler joins the two and asks for it again, with a second jump table.

@@ -1,4 +1,4 @@
-// Document 01, the table of codes with their effects: what the instructions are about to do that go elsewhere, compute or open a record.
+// Manual 4: what the instructions are about to do that go elsewhere, compute or open a record.
 // Nothing is written here. Codes of one family share a function.
 use model::RECORD;
 use model::Regs;

@@ -32,11 +32,8 @@ abbrev pub planValue : Value → (ℕ → Plan) → Plan
 planValue (Word w) plan = plan w
 planValue Outside plan = OutOfRange
 
--- an instruction that works on words, with q the next place. In the order of the table:
--- 20, 21 "push word s of the frame"; 22, 23 "pop, store in word s"; 30, 31 "pop object, push its word s"; 32, 33 "pop object, then
--- pop value, store in word s"; 36 "pop that many words, pointers; push a new view of them", 4 if "the heap has too few free words"; 54, 56, 57;
--- 58 "push heap word 1", 59 "pop into it"; 60, 62, 64 "set the top aside (not 64), drop main and pointer words, put it back";
--- 140 to 143, 145 "pop B, pop A, push A op B"; 130, 195 to 204 push 1 or 0; 144, 146 on one word; 131 compares two pointers
+-- an instruction that works on words, with q the next place: 20, 21; 22, 23; 30, 31; 32, 33; 36, with exception 4; 54, 56, 57; 58, 59; 60, 62,
+-- 64; 130, 140 to 143, 145, 195 to 204; 131; 144, 146 (Manual 4.7 to 4.14, 4.17 to 4.20)
 unfoldable pub basicPlan : Machine → ℕ → Basic → Plan
 basicPlan m q (local onMain s) = write Push q (mtop m + 1) (ptop m) (mtop m) (wordAt (m .main) (running m .mainBase + s))
 basicPlan m q (local onPtr s) = write Pointer q (mtop m) (ptop m + 1) (ptop m) (wordAt (m .ptr) (running m .ptrBase + s))
@@ -71,7 +68,7 @@ basicPlan m q samePtr = write Read q (mtop m + 1) (ptop m - 2) (mtop m) (bit (eq
 basicPlan m q (unary o) = planValue (operate1 o (mainWord m 1)) (λ w. write Main q (mtop m) (ptop m) (mtop m - 1) w)
 
 -- q is the next place. 1 to 6: jumps; 72: the word and the index written are the new frame's bases; 73: back to the return place;
--- 160, 161: the handler's record; 162 "pop a word, raise it"
+-- 160, 161: the handler's record; 162: its word is raised
 unfoldable pub planOf : List ℕ → Machine → ℕ → Ins → Plan
 planOf f m q (basic b) = basicPlan m q b
 planOf f m q (jump t) = write Nothing t (mtop m) (ptop m) 0 0

@@ -32,7 +32,7 @@ ptrSet p m = setPtr (set (cut (p .ptop) (m .ptr)) (p .at) (p .word)) (cutOnly p 
 abbrev pub heapSet : Put → Machine → Machine
 heapSet p m = setHeap (set (m .heap) (p .at) (p .word)) (cutOnly p m)
 
--- 36: the words and pointers that are popped, "lowest first"
+-- 36: the words and pointers that are popped, lowest first
 abbrev pub formedFrom : Put → Machine → List ℕ
 formedFrom p m = made viewKind (slice (p .at) (ptop m) (m .ptr)) (slice (p .mtop) (mtop m) (m .main)) (m .heap)
 

@@ -1,5 +1,4 @@
-// Registers as bytes: seven words, most significant byte first.
-// Document 01, Memory, third paragraph.
+// Registers as bytes: seven words, most significant byte first (Manual 2.14).
 ghost use mathlib.Core.Path.{_≡_};
 ghost use Prim.Native.Nat.{_+_, _*_, _/_, _<_};
 ghost use lib.ListN.{length};

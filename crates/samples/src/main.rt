@@ -1,4 +1,4 @@
-// Code files worked out by hand from the paper, each run on the bench or on lists of its own: a line for each run, in
+// Code files worked out by hand from the manual, each run on the bench or on lists of its own: a line for each run, in
 // the bench's wording. Standard input has the files (crates/samples/stdin), a line each: a name, a colon and the
 // bytes in decimal; behind a slash the two budgets of a run cut in two. A line that starts with # is a comment.
 use libc::STDIN_FILENO;

@@ -37,15 +37,15 @@ module _ (f map : List ℕ) where
       let F = keeps-flow f (W .places) B (W .records) (W .heads) (R .assignment) (R .keeps) in
       answer-is W room (goes (F .known)) (F .passes)
 
--- "When a file passes, the map keeps the rules"
+-- Manual 5.16.2: the map of a file that passes keeps the rules
 pub map-keeps : MapKeeps
 map-keeps f map B e = passed-keeps f map B (checkOf f map .map) (passes f map e)
 
--- "every assignment of depths and open handlers that keeps them has the map's numbers at every instruction"
+-- Manual 5.16.2: no other assignment does
 pub map-alone : MapAlone
 map-alone f map B e = keeps-unique f map B (checkOf f map .map) (passes f map e)
 
--- "refused exactly when no assignment keeps the rules"
+-- Manual 5.16.3: refused exactly when no assignment keeps the rules
 pub refused : RefusedExactly
 refused f map B W room = (
   λ r A K. never (r .0) (r .1) (sym (r .2) ∙ answer-passed f map B room (record { in-order = W; assignment = A; keeps = K })),
@@ -56,7 +56,7 @@ refused f map B W room = (
     go w (stops n p) e = (n, p, answer-is f map W room (stops n p) e)
     go w (goes k) e = absurd (w (stateAt k) (flow-keeps f (W .places) B (W .records) (W .heads) k e))
 
--- "passed exactly when 01's rules for code hold of it"
+-- Manual 5.16.1: passed exactly when the rules for code hold of it
 pub passed : PassedExactly
 passed f map B room = (
   λ e.

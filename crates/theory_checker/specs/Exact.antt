@@ -1,4 +1,4 @@
--- A file that passes is in order, and the finished map is the one assignment that keeps document 01's rules: the pass finds the
+-- A file that passes is in order, and the finished map is the one assignment that keeps the rules: the pass finds the
 -- assignment if there is one, and its states are what the map has at every place of the file.
 use Prim.Native.Nat.{ℕ, zero, suc, _+_, _*_, _<_, _≤_}
 use mathlib.Core.Bool.{Bool, true, false, _&&_}
@@ -181,7 +181,7 @@ module _ (f map : List ℕ) (B : Bytes f) (new : List ℕ) (e : verdictOf f map 
   pub passed-shape : (p : ℕ) → Mem p (instructions f) → StateShape f (assigned new) p
   passed-shape = keeps-shape f (W .places) B (W .records) (W .heads) (assigned new) passed-keeps
 
-  -- "three times 65,535 where no instruction starts"
+  -- 65,535 three times where no instruction starts
   pub passed-rest : (p : ℕ) → p < length f → (Mem p (instructions f) → ⊥) → assigned new p ≡ unset
   passed-rest p l n = sym (map-is p l) ∙ flow-rest f (W .places) B (W .records) (W .heads) (P .known) (P .flows) p n
 

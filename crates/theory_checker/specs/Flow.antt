@@ -1,5 +1,5 @@
 -- The checker's pass over a file keeps the laws of a forward pass, so that its states are those of the one assignment that keeps
--- document 01's rules; and an assignment that keeps them has depths within its procedure's and open handlers below their places,
+-- the rules; and an assignment that keeps them has depths within its procedure's and open handlers below their places,
 -- because each state comes from an earlier instruction of the same procedure.
 use Prim.Native.Nat.{ℕ, zero, suc, _+_, _-_, _<_, _≤_}
 use mathlib.Core.Bool.{Bool, true, false, true≢false, _&&_}

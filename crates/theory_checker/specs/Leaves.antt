@@ -17,7 +17,7 @@ use Rattle.model.specs.declared.Answer.{Answer}
 use Rattle.model.specs.declared.Answer.the-variants.{Passed, Ready, Finished, Spent, Uncaught, Refused}
 
 module _ (f : List ℕ) where
-  -- "as before the instruction"
+  -- what stays is the state before the instruction
   pub uncaught-stays : (m x : Machine) (c : ℕ) → step f m ≡ uncaught c x → x ≡ m
   unfolding step instruct raised
   uncaught-stays m x c e = go (rule f m (after f (m .regs .place)) (insAt f (m .regs .place))) e
