@@ -1,4 +1,4 @@
-/* The two-stack routine machine, from document 01. See reference.h. */
+/* The two-stack routine machine in plain C. See reference.h. */
 #include "reference.h"
 
 #include <stdbool.h>
@@ -16,7 +16,7 @@ enum {
     NO_OWNER = 255  /* owner: no instruction starts here */
 };
 
-/* Codes of document 01, under their names. */
+/* The codes, under their names (Manual 4.2). */
 enum {
     FJUMP = 1, JUMPF = 2, BJUMP = 3, BJUMPT = 4, JUMPFF = 5, JUMPTT = 6,
     WLOCAL = 20, PLOCAL = 21, WLOCALASS = 22, PLOCALASS = 23,
@@ -451,7 +451,7 @@ static bool is_pointer(uint32_t word, const uint8_t *objects, size_t heap_len)
 }
 
 /*
- * 11: the heap, as under Memory; its place by order 1 of document 02. Marks
+ * 11: the heap (Manual 6.7), and which word is named (Manual 6.8). Marks
  * the first words of objects in a table of heap_len bytes.
  */
 static bool heap_fault(const uint32_t *heap, size_t heap_len, uint8_t *objects, size_t *place)

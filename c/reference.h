@@ -1,5 +1,6 @@
 /*
- * The two-stack routine machine in plain C, written from document 01 alone.
+ * The two-stack routine machine in plain C, written from its rules alone
+ * (docs/MANUAL.md), away from the Rattle code.
  * An independent reference for the proved implementation, and its benchmark
  * baseline. Any lengths and contents are accepted; an empty list may be NULL.
  * The lists of one call must not overlap.

@@ -1,6 +1,6 @@
 /*
  * Tests of the reference. Every expectation is worked out by hand from
- * document 01; places stand in front of the instructions in the comments.
+ * the rules; places stand in front of the instructions in the comments.
  */
 #include "reference.h"
 
@@ -317,7 +317,7 @@ static void expect_passes(int line, const uint8_t *file, size_t file_len)
 
 #define PASSES(...) expect_passes(__LINE__, BYTES(__VA_ARGS__))
 
-/* ---- the samples of document 01 ---- */
+/* ---- the bench samples ---- */
 
 #define A_FILE 240, 0, 0, 1, 0, 2, 0, 54, 5, 54, 3, 142, 73
 #define B_FILE 240, 0, 0, 1, 0, 2, 0, 160, 0, 17, 54, 9, 54, 0, 143, 161, 73, 73

@@ -13,10 +13,12 @@ use borrow.Author.Tests.{eq-eqb, eqb-true, eqb-false, leb-true, leb-false, le-le
 use Rattle.model.specs.Choice.{if_then_else_, Mem, member}
 use Rattle.model.specs.Words.{wordAt}
 use Rattle.laws.specs.Members.{member-in, in-member}
-use Rattle.model.specs.Heap.{markOf, rootOf, firstObject, ptrsAt, sizeAt, kindOf, Object, Objects, Pointer, Heap, Audit, fault, clean, andObject, badHeader, badSize, walk, isPointer, range, pointerWords, zerosFirst, judge, heapOf}
+use Rattle.model.specs.Heap.{markOf, rootOf, firstObject, ptrsAt, sizeAt, kindOf, Object, Objects, Pointer, Heap, Audit, fault, clean, andObject}
+use Rattle.model.specs.Heap.{badHeader, badSize, walk, isPointer, range, pointerWords, zerosFirst, judge, heapOf}
 use Rattle.audit_heap.specs.declared.HeapAudit.{HeapAudit}
 use Rattle.audit_heap.specs.declared.HeapAudit.the-variants.{Clean, Fault}
-use Rattle.audit_heap.specs.First.{firstBad, walked, freeWords, orAudit, pointerAt, zeroAt, pointers-first, zeros-first, all-good, none-bad, bad-in, range-mem, mem-range, mem-append, mem-more, mem-right}
+use Rattle.audit_heap.specs.First.{firstBad, walked, freeWords, orAudit, pointerAt, zeroAt, pointers-first, zeros-first, all-good, none-bad}
+use Rattle.audit_heap.specs.First.{bad-in, range-mem, mem-range, mem-append, mem-more, mem-right}
 use Rattle.audit_heap.specs.Faults.{WrongHeader, WrongSize, Broken, bad-header, bad-size, Inside, AtFault, bad-mark, bad-object, bad-pointer, bad-free}
 
 -- The walk

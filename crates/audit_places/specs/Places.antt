@@ -10,13 +10,15 @@ use lib.Dec.{ltb, eqb}
 use lib.ListN.{length, getD}
 use borrow.Author.Tests.{lt-ltb, le-ltb, eq-eqb, ne-eqb, eqb-true}
 use Rattle.model.specs.Choice.{if_then_else_, Mem, member}
-use Rattle.model.specs.File.{byteAt, headKind, isHead, select, instructions, heads, procs, headOf, procAt, upTo, recordsOf, starts, paramsMain, paramsPtr, resultsMain, resultsPtr, greatestMain, greatestPtr}
+use Rattle.model.specs.File.{byteAt, headKind, isHead, select, instructions, heads, procs, headOf, procAt, upTo, recordsOf, starts, paramsMain}
+use Rattle.model.specs.File.{paramsPtr, resultsMain, resultsPtr, greatestMain, greatestPtr}
 use Rattle.model.specs.Checker.{none, State}
 use Rattle.model.specs.Sound.{mainAt, isIns}
 use Rattle.model.specs.Calls.{pass, verdictOf}
 use Rattle.model.specs.Claim.{Bytes}
 use Rattle.laws.specs.Members.{member-in, in-member, getD-in}
-use Rattle.laws_file.specs.Walk.{upTo-most, upTo-least, upTo-less, heads-rise, first-head, head-in, ins-in, Walk, file-walk, walk-above, after-head, instruction-below, procs-some, proc-below}
+use Rattle.laws_file.specs.Walk.{upTo-most, upTo-least, upTo-less, heads-rise, first-head, head-in, ins-in, Walk, file-walk, walk-above, after-head}
+use Rattle.laws_file.specs.Walk.{instruction-below, procs-some, proc-below}
 use Rattle.theory_checker.specs.Exact.{passed-as, passed-shape, passed-rest}
 use Rattle.code_file.specs.declared.Head.{Head}
 use Rattle.code_file.specs.Heads.{HeadIs, procHead, head-of}

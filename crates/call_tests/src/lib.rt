@@ -20,6 +20,9 @@ ghost use Rattle.model.specs.File.{procsMost};
 // A heap of so many words at most is short.
 const FEW: usize = 2048;
 
+// Marks for any heap.
+const MANY: usize = HEAP_MOST;
+
 // Refusal 10: the lent lengths, with the head of procedure 0.
 fn lengths_right(head: Head, main: usize, ptr: usize, ctl: usize, heap: usize) -> bool
     ensures { λ r. ⌜ r ≡ all (lengthList head main ptr ctl heap) ⌝ }
@@ -126,7 +129,7 @@ pub fn admit(
         let mut few = [false; FEW];
         return admit_with(file, map, table, &mut few, main, ptr, ctl, heap, bytes);
     }
-    let mut marks = [false; HEAP_MOST];
+    let mut marks = [false; MANY];
     admit_with(file, map, table, &mut marks, main, ptr, ctl, heap, bytes)
 }
 
@@ -198,6 +201,6 @@ pub fn test_for_run(
         let mut few = [false; FEW];
         return test_with(file, map, table, &mut few, main, ptr, ctl, heap, bytes);
     }
-    let mut marks = [false; HEAP_MOST];
+    let mut marks = [false; MANY];
     test_with(file, map, table, &mut marks, main, ptr, ctl, heap, bytes)
 }

@@ -11,9 +11,11 @@ use lib.ListN.{length, getD, drop, length-drop}
 use lib.Seq.{getD-drop, drop-drop}
 use borrow.Author.Tests.{lt-ltb, le-ltb, eq-eqb, ne-eqb, eqb-true}
 use Rattle.model.specs.Choice.{if_then_else_, Mem, member}
-use Rattle.model.specs.File.{unknown, bodies, bodyOf, byteAt, after, whole?, Records, starts, recordsOf, startsIn, isHead, select, instructions, heads, procs, headOf, procAt, greatestMain, greatestPtr, fileMost, headKind, headSize}
+use Rattle.model.specs.File.{unknown, bodies, bodyOf, byteAt, after, whole?, Records, starts, recordsOf, startsIn, isHead, select, instructions, heads}
+use Rattle.model.specs.File.{procs, headOf, procAt, greatestMain, greatestPtr, fileMost, headKind, headSize}
 use Rattle.model.specs.Checker.{none, State, state, isSet, Known, stateAt, innermost, own, firsts, Taking, bad, good, refused, passed, goOn, takeOne, takeAll, flow, mapFrom}
-use Rattle.laws_file.specs.Walk.{instructions-others, instructions-are, Walk, file-walk, walk-above, records-walk, after-above, after-head, head-in, first-head, instruction-below, HeadsHold, procs-some}
+use Rattle.laws_file.specs.Walk.{instructions-others, instructions-are, Walk, file-walk, walk-above, records-walk, after-above, after-head, head-in}
+use Rattle.laws_file.specs.Walk.{first-head, instruction-below, HeadsHold, procs-some}
 use Rattle.laws.specs.Members.{member-in, in-member, select-in, getD-in, in-select}
 use Rattle.theory_checker.specs.Flow.{own-in, keeps-shape, flow-keeps, flow-rest}
 use Rattle.laws_file.specs.Rest.{restOf, rest-end, rest-inv, whole-inside, records-first}

@@ -5,7 +5,8 @@ use native.Mathlib.Omega.{arith}
 use lib.ListN.{length}
 use Rattle.laws_file.specs.Walk.{after-above}
 use Rattle.check_flow.specs.Ways.{Bounds}
-use Rattle.check_flow.specs.Flowing.{Flowing, begun-whole, begun-table, head-size, flowing-start, flowing-inside, flowing-head, flowing-here, flowing-fault, flowing-take, flowing-end}
+use Rattle.check_flow.specs.Flowing.{Flowing, begun-whole, begun-table, head-size, flowing-start, flowing-inside, flowing-head, flowing-here}
+use Rattle.check_flow.specs.Flowing.{flowing-fault, flowing-take, flowing-end}
 use Rattle.check_flow.proofs.flow.Statement.{statement}
 use Rattle.check_flow.proofs.flow.Tie as tie
 
