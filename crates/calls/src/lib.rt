@@ -47,23 +47,26 @@ pub fn start(
     heap: &[u32],
     bytes: &mut [u8],
 ) -> Answer
-    ensures { λ r. ⌜ answers r (record {
-      file = now (file .entry);
-      map = now (map .exit);
-      main = now (main .exit);
-      ptr = now (ptr .exit);
-      ctl = now (ctl .exit);
-      heap = now (heap .entry);
-      bytes = now (bytes .exit);
-    }) ≡ startOf (record {
-      file = now (file .entry);
-      map = now (map .entry);
-      main = now (main .entry);
-      ptr = now (ptr .entry);
-      ctl = now (ctl .entry);
-      heap = now (heap .entry);
-      bytes = now (bytes .entry);
-    }) ⌝ }
+    ensures { λ r. ⌜
+        answers r (record {
+          file = now (file .entry);
+          map = now (map .exit);
+          main = now (main .exit);
+          ptr = now (ptr .exit);
+          ctl = now (ctl .exit);
+          heap = now (heap .entry);
+          bytes = now (bytes .exit);
+        })
+        ≡ startOf (record {
+          file = now (file .entry);
+          map = now (map .entry);
+          main = now (main .entry);
+          ptr = now (ptr .entry);
+          ctl = now (ctl .entry);
+          heap = now (heap .entry);
+          bytes = now (bytes .entry);
+        })
+        ⌝ }
 {
     let mut table = [0usize; PROCS_MOST];
     let v = call_tests::admit(file, map, &mut table, main, ptr, ctl, heap, bytes);
@@ -90,23 +93,26 @@ pub fn run(
     bytes: &mut [u8],
     budget: u32,
 ) -> Answer
-    ensures { λ r. ⌜ answers r (record {
-      file = now (file .entry);
-      map = now (map .exit);
-      main = now (main .exit);
-      ptr = now (ptr .exit);
-      ctl = now (ctl .exit);
-      heap = now (heap .exit);
-      bytes = now (bytes .exit);
-    }) ≡ runOf budget (record {
-      file = now (file .entry);
-      map = now (map .entry);
-      main = now (main .entry);
-      ptr = now (ptr .entry);
-      ctl = now (ctl .entry);
-      heap = now (heap .entry);
-      bytes = now (bytes .entry);
-    }) ⌝ }
+    ensures { λ r. ⌜
+        answers r (record {
+          file = now (file .entry);
+          map = now (map .exit);
+          main = now (main .exit);
+          ptr = now (ptr .exit);
+          ctl = now (ctl .exit);
+          heap = now (heap .exit);
+          bytes = now (bytes .exit);
+        })
+        ≡ runOf budget (record {
+          file = now (file .entry);
+          map = now (map .entry);
+          main = now (main .entry);
+          ptr = now (ptr .entry);
+          ctl = now (ctl .entry);
+          heap = now (heap .entry);
+          bytes = now (bytes .entry);
+        })
+        ⌝ }
 {
     let mut table = [0usize; PROCS_MOST];
     let t = call_tests::test_for_run(file, map, &mut table, main, ptr, ctl, heap, bytes);

@@ -72,7 +72,10 @@ pub fn check_with(file: &[u8], map: &mut [u16], table: &mut [usize; PROCS_MOST])
 
 // The check, for any file and any map.
 pub fn check(file: &[u8], map: &mut [u16]) -> Answer
-    ensures { λ r. ⌜ checked r (now (map .exit)) ≡ checkOf (now (file .entry)) (now (map .entry)) ⌝ }
+    ensures { λ r. ⌜
+        checked r (now (map .exit))
+        ≡ checkOf (now (file .entry)) (now (map .entry))
+        ⌝ }
 {
     let mut table = [0usize; PROCS_MOST];
     let v = check_with(file, map, &mut table);

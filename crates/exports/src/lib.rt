@@ -39,7 +39,10 @@ fn told(answer: Answer) -> Reply
 
 #[no_mangle]
 pub extern "C" fn yalgovim_check(file: &[u8], map: &mut [u16]) -> Reply
-    ensures { λ r. ⌜ checks r (now (map .exit)) ≡ checksTo (checkOf (now (file .entry)) (now (map .entry))) ⌝ }
+    ensures { λ r. ⌜
+        checks r (now (map .exit))
+        ≡ checksTo (checkOf (now (file .entry)) (now (map .entry)))
+        ⌝ }
 {
     told(checker::check(file, map))
 }
@@ -54,23 +57,26 @@ pub extern "C" fn yalgovim_start(
     heap: &[u32],
     registers: &mut [u8],
 ) -> Reply
-    ensures { λ r. ⌜ replies r (record {
-      file = now (file .entry);
-      map = now (map .exit);
-      main = now (main .exit);
-      ptr = now (ptr .exit);
-      ctl = now (ctl .exit);
-      heap = now (heap .entry);
-      bytes = now (registers .exit);
-    }) ≡ repliesTo (startOf (record {
-      file = now (file .entry);
-      map = now (map .entry);
-      main = now (main .entry);
-      ptr = now (ptr .entry);
-      ctl = now (ctl .entry);
-      heap = now (heap .entry);
-      bytes = now (registers .entry);
-    })) ⌝ }
+    ensures { λ r. ⌜
+        replies r (record {
+          file = now (file .entry);
+          map = now (map .exit);
+          main = now (main .exit);
+          ptr = now (ptr .exit);
+          ctl = now (ctl .exit);
+          heap = now (heap .entry);
+          bytes = now (registers .exit);
+        })
+        ≡ repliesTo (startOf (record {
+          file = now (file .entry);
+          map = now (map .entry);
+          main = now (main .entry);
+          ptr = now (ptr .entry);
+          ctl = now (ctl .entry);
+          heap = now (heap .entry);
+          bytes = now (registers .entry);
+        }))
+        ⌝ }
 {
     told(calls::start(file, map, main, ptr, ctl, heap, registers))
 }
@@ -86,23 +92,26 @@ pub extern "C" fn yalgovim_run(
     registers: &mut [u8],
     budget: u32,
 ) -> Reply
-    ensures { λ r. ⌜ replies r (record {
-      file = now (file .entry);
-      map = now (map .exit);
-      main = now (main .exit);
-      ptr = now (ptr .exit);
-      ctl = now (ctl .exit);
-      heap = now (heap .exit);
-      bytes = now (registers .exit);
-    }) ≡ repliesTo (runOf budget (record {
-      file = now (file .entry);
-      map = now (map .entry);
-      main = now (main .entry);
-      ptr = now (ptr .entry);
-      ctl = now (ctl .entry);
-      heap = now (heap .entry);
-      bytes = now (registers .entry);
-    })) ⌝ }
+    ensures { λ r. ⌜
+        replies r (record {
+          file = now (file .entry);
+          map = now (map .exit);
+          main = now (main .exit);
+          ptr = now (ptr .exit);
+          ctl = now (ctl .exit);
+          heap = now (heap .exit);
+          bytes = now (registers .exit);
+        })
+        ≡ repliesTo (runOf budget (record {
+          file = now (file .entry);
+          map = now (map .entry);
+          main = now (main .entry);
+          ptr = now (ptr .entry);
+          ctl = now (ctl .entry);
+          heap = now (heap .entry);
+          bytes = now (registers .entry);
+        }))
+        ⌝ }
 {
     told(calls::run(file, map, main, ptr, ctl, heap, registers, budget))
 }
