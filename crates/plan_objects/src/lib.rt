@@ -106,7 +106,7 @@ fn pushes(regs: Regs, word: u32) -> Plan
     )
 }
 
-// 57.
+// 57: nil.
 pub fn push_nil(regs: Regs) -> Plan
     requires { ⌜ (regs .place < 4096) × (regs .ptop ≤ 4096) ⌝ }
     ensures { λ r. ⌜ ((f : List ℕ) (m : Machine) → r ≡ planned f (setRegs regs m) 1 57) ⌝ }
@@ -114,7 +114,7 @@ pub fn push_nil(regs: Regs) -> Plan
     pushes(regs, 0)
 }
 
-// 58.
+// 58: the root.
 pub fn push_root(heap: &[u32], regs: Regs) -> Plan
     requires { ⌜ (regs .place < 4096) × (regs .ptop ≤ 4096) × (2 ≤ length (now heap)) ⌝ }
     ensures { λ r. ⌜ ((f : List ℕ) (m : Machine) → r ≡ planned f (setRegs regs (setHeap (now (heap .entry)) m)) 1 58) ⌝ }
