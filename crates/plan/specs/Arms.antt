@@ -1,21 +1,23 @@
 -- What `StepReady` gives to each family of codes: each is a consequence of its fields at the instruction that the code stands for.
 use Prim.Native.Nat.{ℕ, suc, _+_, _<_, _≤_}
-use mathlib.Core.List.{List}
+use mathlib.Core.List.{List, [], _∷_}
 use mathlib.Core.Logic.{_⊎_, inl, inr, ⊎-elim}
 use mathlib.Core.Path.{_≡_, _∙_, refl, ap}
 use native.Mathlib.Omega.{arith}
 use lib.ListN.{length}
 use Rattle.model.specs.Words.{wordAt}
-use Rattle.model.specs.File.{byteAt, bodyOf, after, operand, insOf, insAt}
-use Rattle.model.specs.Checker.{effectOf}
+use Rattle.model.specs.File.{byteAt, bodyOf, after, operand, operand2, makerPops, insOf, insAt}
+use Rattle.model.specs.Checker.{basicEffect, effectOf}
 use Rattle.model.specs.Control.{Machine, running}
 use Rattle.model.specs.Moves.{mtop, ptop}
 use Rattle.audit_heap.specs.Stores.{Lies, object-lies}
 use Rattle.laws_file.specs.Walk.{after-above}
-use Rattle.plan_meaning.specs.Planned.{planAt}
+use Rattle.laws_file.specs.Kinds.{OneOf}
+use Rattle.plan_meaning.specs.Planned.{planAt, planned}
+use Rattle.plan_meaning.specs.Asked.{Body, TopWithin}
 use Rattle.plan_meaning.specs.declared.Plan.{Plan}
 use Rattle.control_stack.specs.Layout.{Numbered}
-use Rattle.plan_flow.specs.Given.{planned, Body, TopWithin, Callee}
+use Rattle.plan_flow.specs.Given.{Callee}
 use Rattle.plan.specs.Ready.{StepReady, placeOf, here}
 
 -- the code at the place
@@ -71,6 +73,20 @@ module _ {f table : List ℕ} {m : Machine} (R : StepReady f table m) where
   unfolding insOf
   ptr-word (inl e) = R .local-ptr (operand f (placeOf m)) (is-at 21 e)
   ptr-word (inr e) = omega (arith, R .assign-ptr (operand f (placeOf m)) (is-at 23 e))
+
+  pub taken-main : OneOf (36 ∷ 60 ∷ 62 ∷ 64 ∷ []) (codeAt f m) → operand f (placeOf m) ≤ mtop m
+  unfolding insOf effectOf basicEffect makerPops
+  taken-main (inl e) = pops-main 36 _ e refl
+  taken-main (inr (inl e)) = let k = pops-main 60 _ e refl in omega (arith, k)
+  taken-main (inr (inr (inl e))) = pops-main 62 _ e refl
+  taken-main (inr (inr (inr e))) = pops-main 64 _ e refl
+
+  pub taken-ptr : OneOf (36 ∷ 60 ∷ 62 ∷ 64 ∷ []) (codeAt f m) → operand2 f (placeOf m) ≤ ptop m
+  unfolding insOf effectOf basicEffect makerPops
+  taken-ptr (inl e) = pops-ptr 36 _ e refl
+  taken-ptr (inr (inl e)) = pops-ptr 60 _ e refl
+  taken-ptr (inr (inr (inl e))) = let k = pops-ptr 62 _ e refl in omega (arith, k)
+  taken-ptr (inr (inr (inr e))) = pops-ptr 64 _ e refl
 
   pub points : (i : ℕ) → (wordAt (m .ptr) i ≡ 0) ⊎ Lies (m .heap) (wordAt (m .ptr) i)
   points i = ⊎-elim (λ e. inl e) (λ o. inr (object-lies (R .heap) _ o)) (R .pointers i)

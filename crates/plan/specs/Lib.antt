@@ -1,4 +1,3 @@
 pub mod Ready
 pub mod Kinds
-pub mod Given
 pub mod Arms

@@ -1,38 +1,21 @@
--- What each family of codes asks for, in the words of the lists that it reads, and the definition in the values that the code computes.
+-- What a call asks for, and the definition in the values that the code computes.
 use Prim.Native.Nat.{ℕ, _+_, _-_, _<_, _≤_}
 use mathlib.Core.Bool.{true, false}
 use mathlib.Core.List.{List, [], _∷_}
-use mathlib.Core.Logic.{_⊎_, inl, inr}
 use mathlib.Core.Path.{_≡_, _∙_, ap}
 use lib.ListN.{length, getD}
 use borrow.Author.Tests.{eq-eqb, ne-eqb, le-leb, lt-leb}
 use Rattle.model.specs.Choice.{if_then_else_, atMost, all}
 use Rattle.model.specs.Words.{truth}
-use Rattle.model.specs.File.{call, operand, headOf, entry, insOf, paramsMain, paramsPtr, greatestMain, greatestPtr}
+use Rattle.model.specs.File.{call, operand, headOf, entry, paramsMain, paramsPtr, greatestMain, greatestPtr}
 use Rattle.model.specs.Control.{Machine, recordWords}
-use Rattle.model.specs.Moves.{mainWord, mtop, ptop}
-use Rattle.plan_meaning.specs.Planned.{write, planValue, planOf}
+use Rattle.model.specs.Moves.{mtop, ptop}
+use Rattle.plan_meaning.specs.Planned.{write, planOf}
 use Rattle.model.specs.declared.Regs.{Regs}
-use Rattle.model.specs.declared.Value.{Value}
-use Rattle.plan_meaning.specs.declared.Into.the-variants.{Main, Frame}
-use Rattle.plan_meaning.specs.declared.Plan.{Plan}
+use Rattle.plan_meaning.specs.declared.Into.the-variants.{Frame}
 use Rattle.plan_meaning.specs.declared.Plan.the-variants.{NoRoom}
 use Rattle.code_file.specs.declared.Head.{Head}
 use Rattle.code_file.specs.Heads.{procHead, HeadIs, head-of}
-
--- the plan of code k at the machine's place, its record being n bytes long
-unfoldable pub planned : List ℕ → Machine → ℕ → ℕ → Plan
-planned f m n k = planOf f m (m .regs .place + n) (insOf f (m .regs .place) k)
-
--- n bytes behind p are the file's
-pub record Body (f : List ℕ) (p n : ℕ) : Type 0 where
-  pub inside : p + n < length f
-  pub short : length f ≤ 4096
-
--- a top of a stack
-pub record TopWithin (l : List ℕ) (top : ℕ) : Type 0 where
-  pub below : top ≤ length l
-  pub few : length l ≤ 4096
 
 -- the procedure that a call names
 pub record Callee (f table : List ℕ) (r : Regs) : Type 0 where
@@ -41,17 +24,6 @@ pub record Callee (f table : List ℕ) (r : Regs) : Type 0 where
   pub whole : headOf f (operand f (r .place)) + 6 < length f
   pub main : paramsMain f (operand f (r .place)) ≤ r .mtop
   pub ptr : paramsPtr f (operand f (r .place)) ≤ r .ptop
-
--- the operation of code k on two words gives v
-unfoldable pub Binary : ℕ → ℕ → ℕ → Value → Type 0
-Binary k a b v =
-    (f : List ℕ) (p : ℕ) (m : Machine) (q : ℕ) → mainWord m 2 ≡ a → mainWord m 1 ≡ b →
-    planValue v (λ w. write Main q (mtop m - 1) (ptop m) (mtop m - 2) w) ≡ planOf f m q (insOf f p k)
-
--- of two codes, the one that a test has left
-pub other : {A B : Type 0} → A ⊎ B → (A → ⊥) → B
-other (inl a) n = absurd (n a)
-other (inr b) n = b
 
 -- a word's truth
 pub is-true : (w : ℕ) → (w ≡ 0 → ⊥) → truth w ≡ true

@@ -1,4 +1,5 @@
 pub mod Planned
+pub mod Asked
 pub mod Settled
 pub mod Suits
 pub mod Bridge

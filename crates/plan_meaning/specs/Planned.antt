@@ -6,9 +6,7 @@ use lib.Dec.{leb, eqb}
 use lib.ListN.{length}
 use Rattle.model.specs.Choice.{if_then_else_, all}
 use Rattle.model.specs.Words.{wordAt, truth, bit, operate, operate1}
-use Rattle.model.specs.File.{onMain, onPtr, keepMain, keepPtr, keepNone, Basic, local, assign, field, setField, make, form, literal, nil, root}
-use Rattle.model.specs.File.{setRoot, retract, binary, samePtr, unary, Ins, basic, jump, branch, branchKeep, call, return, enter, exit, raise, after}
-use Rattle.model.specs.File.{entry, insAt, paramsMain, paramsPtr}
+use Rattle.model.specs.File.{onMain, onPtr, keepMain, keepPtr, keepNone, Basic, local, assign, field, setField, make, form, literal, nil, root, setRoot, retract, binary, samePtr, unary, Ins, basic, jump, branch, branchKeep, call, return, enter, exit, raise, after, entry, insOf, insAt, paramsMain, paramsPtr}
 use Rattle.model.specs.Heap.{markOf, rootOf, inPtrs, inPlain}
 use Rattle.model.specs.Control.{Machine, running, recordWords}
 use Rattle.model.specs.Moves.{mtop, ptop, mainWord, ptrWord}
@@ -93,6 +91,10 @@ planOf f m q raise = Thrown
 -- the plan of the instruction at the machine's place
 unfoldable pub planAt : List ℕ → Machine → Plan
 planAt f m = planOf f m (after f (m .regs .place)) (insAt f (m .regs .place))
+
+-- the plan of code k at the machine's place, its record being n bytes long
+unfoldable pub planned : List ℕ → Machine → ℕ → ℕ → Plan
+planned f m n k = planOf f m (m .regs .place + n) (insOf f (m .regs .place) k)
 
 -- what a return writes, as `planOf` has it
 abbrev pub returnPut : Machine → Put

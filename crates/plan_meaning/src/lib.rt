@@ -1,4 +1,6 @@
 // What the code plans for an instruction, and what writing it comes to. `Bridge` shows that it is the model's step.
+ghost use mathlib.Core.Path.{_≡_};
+ghost use Rattle.plan_meaning.specs.Planned.{write};
 
 // What an instruction writes, beside the tops and the place.
 pub enum Into {
@@ -39,4 +41,17 @@ pub enum Plan {
     HeapFull, // 4: the heap has too few free words
     NoRoom, // 5: a frame or a handler does not fit the stacks
     Thrown, // the word that instruction 162 pops
+}
+
+pub fn writes(into: Into, place: usize, mtop: usize, ptop: usize, at: usize, word: u32) -> Plan
+    ensures { λ r. ⌜ r ≡ write into place mtop ptop at word ⌝ }
+{
+    Plan::Write(Put {
+        into,
+        place,
+        mtop,
+        ptop,
+        at,
+        word,
+    })
 }

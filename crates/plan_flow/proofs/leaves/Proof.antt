@@ -1,8 +1,7 @@
 -- `plan_flow::leaves`: the return place is read from the frame's record.
 use borrow.Author.Needs.{needs}
 use Rattle.model.specs.File.{insOf}
-use Rattle.plan_meaning.specs.Planned.{planOf}
-use Rattle.plan_flow.specs.Given.{planned}
+use Rattle.plan_meaning.specs.Planned.{planOf, planned}
 use Rattle.plan_flow.proofs.leaves.Statement.{statement}
 use Rattle.plan_flow.proofs.leaves.Tie as tie
 

@@ -1,9 +1,10 @@
 -- `plan_flow::on_false`: at each of the two codes the definition computes, but for its test of the word, which the code makes too.
 use mathlib.Core.Logic.{⊎-elim}
-use borrow.Author.Needs.{needs}
 use Rattle.model.specs.File.{insOf}
-use Rattle.plan_meaning.specs.Planned.{planOf}
-use Rattle.plan_flow.specs.Given.{is-true, is-false, planned, other}
+use Rattle.plan_meaning.specs.Planned.{planOf, planned}
+use Rattle.plan_meaning.specs.Asked.{other}
+use Rattle.plan_flow.specs.Given.{is-true, is-false}
+use borrow.Author.Needs.{needs}
 use Rattle.plan_flow.proofs.on_false.Statement.{statement}
 use Rattle.plan_flow.proofs.on_false.Tie as tie
 
@@ -25,9 +26,10 @@ writes-requires c κs = search needs
 returns : tie.Need-returns
 unfolding planned planOf insOf
 returns c =
+    let entry = c .before .before .before .before .before .before in
     λ m.
     let t = is-true _ (c .before .if1 .taken) in
-    rw (c .writes .ensures) (⊎-elim (λ e. rw e (rw t)) (λ e. rw e (rw t)) (c .before .before .before .before .before .before .pre .3))
+    rw (c .writes .ensures) (⊎-elim (λ e. rw e (rw t)) (λ e. rw e (rw t)) (entry .pre .3))
 
 forwards-requires : tie.Need-forwards-requires
 forwards-requires c κs = search needs
@@ -35,25 +37,26 @@ forwards-requires c κs = search needs
 writes-requires-2 : tie.Need-writes-requires-2
 writes-requires-2 c κs = search needs
 
+writes-requires-3 : tie.Need-writes-requires-3
+writes-requires-3 c κs = search needs
+
 returns-2 : tie.Need-returns-2
 unfolding planned planOf insOf
 returns-2 c =
     λ m.
     rw (
       c .writes2 .ensures,
-      c .before .if2 .taken,
+      c .before .match .keys1,
       is-false _ (c .before .before .before .if1 .left),
       c .before .before .forwards .ensures .is,
     )
 
-writes-requires-3 : tie.Need-writes-requires-3
-writes-requires-3 c κs = search needs
-
 returns-3 : tie.Need-returns-3
 unfolding planned planOf insOf
 returns-3 c =
+    let entry = c .before .before .before .before .before .before .before .before in
     λ m.
-    let e = other (c .before .before .before .before .before .before .before .before .pre .3) (c .before .if2 .left) in
+    let e = other (entry .pre .3) (c .before .match .rest .1) in
     rw (c .writes3 .ensures, e, is-false _ (c .before .before .before .if1 .left), c .before .before .forwards .ensures .is)
 
 pub on-false-spec : {M : Type 1} → statement M
@@ -68,6 +71,6 @@ on-false-spec =
     returns
     forwards-requires
     writes-requires-2
-    returns-2
     writes-requires-3
+    returns-2
     returns-3)

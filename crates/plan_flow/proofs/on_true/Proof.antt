@@ -1,9 +1,10 @@
 -- `plan_flow::on_true`: at each of the two codes the definition computes, but for its test of the word, which the code makes too.
 use mathlib.Core.Logic.{⊎-elim}
-use borrow.Author.Needs.{needs}
 use Rattle.model.specs.File.{insOf}
-use Rattle.plan_meaning.specs.Planned.{planOf}
-use Rattle.plan_flow.specs.Given.{is-true, is-false, planned, other}
+use Rattle.plan_meaning.specs.Planned.{planOf, planned}
+use Rattle.plan_meaning.specs.Asked.{other}
+use Rattle.plan_flow.specs.Given.{is-true, is-false}
+use borrow.Author.Needs.{needs}
 use Rattle.plan_flow.proofs.on_true.Statement.{statement}
 use Rattle.plan_flow.proofs.on_true.Tie as tie
 
@@ -25,9 +26,10 @@ writes-requires c κs = search needs
 returns : tie.Need-returns
 unfolding planned planOf insOf
 returns c =
+    let entry = c .before .before .before .before .before .before in
     λ m.
     let t = is-false _ (c .before .if1 .taken) in
-    rw (c .writes .ensures) (⊎-elim (λ e. rw e (rw t)) (λ e. rw e (rw t)) (c .before .before .before .before .before .before .pre .3))
+    rw (c .writes .ensures) (⊎-elim (λ e. rw e (rw t)) (λ e. rw e (rw t)) (entry .pre .3))
 
 backwards-requires : tie.Need-backwards-requires
 backwards-requires c κs = search needs
@@ -35,28 +37,29 @@ backwards-requires c κs = search needs
 writes-requires-2 : tie.Need-writes-requires-2
 writes-requires-2 c κs = search needs
 
-returns-2 : tie.Need-returns-2
-unfolding planned planOf insOf
-returns-2 c =
-    λ m.
-    rw (
-      c .writes2 .ensures,
-      c .before .before .if2 .taken,
-      is-true _ (c .before .before .before .if1 .left),
-      c .before .backwards .ensures .is,
-    )
-
 forwards-requires : tie.Need-forwards-requires
 forwards-requires c κs = search needs
 
 writes-requires-3 : tie.Need-writes-requires-3
 writes-requires-3 c κs = search needs
 
+returns-2 : tie.Need-returns-2
+unfolding planned planOf insOf
+returns-2 c =
+    λ m.
+    rw (
+      c .writes2 .ensures,
+      c .before .before .match .keys1,
+      is-true _ (c .before .before .before .if1 .left),
+      c .before .backwards .ensures .is,
+    )
+
 returns-3 : tie.Need-returns-3
 unfolding planned planOf insOf
 returns-3 c =
+    let entry = c .before .before .before .before .before .before .before .before in
     λ m.
-    let e = other (c .before .before .before .before .before .before .before .before .pre .3) (c .before .before .if2 .left) in
+    let e = other (entry .pre .3) (c .before .before .match .rest .1) in
     rw (c .writes3 .ensures, e, is-true _ (c .before .before .before .if1 .left), c .before .forwards .ensures .is)
 
 pub on-true-spec : {M : Type 1} → statement M
@@ -71,7 +74,7 @@ on-true-spec =
     returns
     backwards-requires
     writes-requires-2
-    returns-2
     forwards-requires
     writes-requires-3
+    returns-2
     returns-3)

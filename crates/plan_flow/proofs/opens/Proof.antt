@@ -1,28 +1,26 @@
--- `plan_flow::opens`: the definition's test of the room is the code's.
+-- `plan_flow::opens`: at each of the two codes by what the function called ensures.
+use Rattle.model.specs.Control.{setMain, setPtr}
+use Rattle.plan_meaning.specs.Asked.{other}
 use borrow.Author.Needs.{needs}
-use borrow.Author.Tests.{le-leb, lt-leb}
-use Rattle.model.specs.File.{insOf}
-use Rattle.plan_meaning.specs.Planned.{planOf}
-use Rattle.plan_flow.specs.Given.{planned}
 use Rattle.plan_flow.proofs.opens.Statement.{statement}
 use Rattle.plan_flow.proofs.opens.Tie as tie
 
-add-if1 : tie.Need-add-if1
-add-if1 c = search needs
+calls-requires : tie.Need-calls-requires
+calls-requires c κs =
+    let entry = c .before .before .before .before .before in
+    let a = entry .pre in
+    (a .0, a .1, a .2, a .3, a .4 (c .match .keys1))
+
+enters-requires : tie.Need-enters-requires
+enters-requires c κs = search needs
 
 returns : tie.Need-returns
-unfolding planned planOf insOf
-returns c = λ f m. rw (lt-leb _ _ (c .if1 .taken))
-
-add-writes : tie.Need-add-writes
-add-writes c = search needs
-
-writes-requires : tie.Need-writes-requires
-writes-requires c κs = search needs
+returns c = λ m. rw (c .before .match .keys1) (c .calls .ensures m)
 
 returns-2 : tie.Need-returns-2
-unfolding planned planOf insOf
-returns-2 c = λ f m. rw (c .writes .ensures, le-leb _ _ (c .before .before .if1 .left))
+returns-2 c =
+    let entry = c .before .before .before .before .before .before in
+    λ m. rw (other (entry .pre .5) (c .before .match .rest .1)) (c .enters .ensures _ (setMain _ (setPtr _ m)))
 
 pub opens-spec : {M : Type 1} → statement M
-opens-spec = tie.close (tie.spec add-if1 returns add-writes writes-requires returns-2)
+opens-spec = tie.close (tie.spec calls-requires enters-requires returns returns-2)
