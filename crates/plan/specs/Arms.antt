@@ -6,7 +6,7 @@ use mathlib.Core.Path.{_≡_, _∙_, refl, ap}
 use native.Mathlib.Omega.{arith}
 use lib.ListN.{length}
 use Rattle.model.specs.Words.{wordAt}
-use Rattle.model.specs.File.{byteAt, bodyOf, after, operand, operand2, makerPops, insOf, insAt}
+use Rattle.model.specs.File.{byteAt, bodyOf, after, operand, operand2, makerPops, insOf, insAt, fileMost, procsMost}
 use Rattle.model.specs.Checker.{basicEffect, effectOf}
 use Rattle.model.specs.Control.{Machine, running}
 use Rattle.model.specs.Moves.{mtop, ptop}
@@ -28,7 +28,7 @@ module _ {f table : List ℕ} {m : Machine} (R : StepReady f table m) where
   pub place-in : placeOf m < length f
   place-in = omega (arith, R .whole, after-above f (placeOf m))
 
-  pub place-small : placeOf m < 4096
+  pub place-small : placeOf m < fileMost
   place-small = omega (arith, R .short, place-in)
 
   pub main-within : TopWithin (m .main) (mtop m)
@@ -57,7 +57,7 @@ module _ {f table : List ℕ} {m : Machine} (R : StepReady f table m) where
 
   -- what an operation on n plain words asks for, and which of its family's codes it has
   pub on-words : {W : Type 0} (k n : ℕ) → codeAt f m ≡ k → effectOf f (insOf f (placeOf m) k) .popMain ≡ n → W →
-      (placeOf m < 4096) × TopWithin (m .main) (mtop m) × (n ≤ mtop m) × W
+      (placeOf m < fileMost) × TopWithin (m .main) (mtop m) × (n ≤ mtop m) × W
   on-words k n e d w = (place-small, main-within, pops-main k n e d, w)
 
   is-at : (k : ℕ) → codeAt f m ≡ k → here f m ≡ insOf f (placeOf m) k
@@ -96,7 +96,7 @@ module _ {f table : List ℕ} {m : Machine} (R : StepReady f table m) where
   callee e =
       let n = operand f (placeOf m) in
       let k = R .callee n (is-at 72 e) in
-      let l : n < 64 = omega (arith, R .few) in
+      let l : n < procsMost = omega (arith, R .few) in
       record {
         listed = l;
         head = R .heads n l;

@@ -4,11 +4,12 @@ use mathlib.Core.List.{List}
 use mathlib.Core.Path.{_≡_}
 use lib.ListN.{length, getD}
 use Rattle.model.specs.Words.{wordAt}
-use Rattle.model.specs.File.{Ins, basic, local, assign, onMain, onPtr, call, after, procs, headOf, insAt}
+use Rattle.model.specs.File.{Ins, basic, local, assign, onMain, onPtr, call, after, procs, headOf, insAt, fileMost, procsMost}
 use Rattle.model.specs.Checker.{effectOf}
 use Rattle.model.specs.Heap.{Heap, Pointer}
 use Rattle.model.specs.Control.{Machine, running, recordWords}
 use Rattle.model.specs.Moves.{mtop, ptop}
+use Rattle.model.specs.Calls.{mainMost, ptrMost, ctlMost, heapMost}
 
 -- where the machine is
 abbrev pub placeOf : Machine → ℕ
@@ -19,21 +20,21 @@ here f m = insAt f (placeOf m)
 
 pub record StepReady (f table : List ℕ) (m : Machine) : Type 0 where
   -- refusal 1: the file has at most 4,096 bytes
-  pub short : length f ≤ 4096
+  pub short : length f ≤ fileMost
   -- the place is a record's, and the records are whole: refusal 3
   pub whole : after f (placeOf m) ≤ length f
   -- the table holds the heads, each of six bytes and its kind: refusals 3 and 4
-  pub few : procs f ≤ 64
-  pub heads : (n : ℕ) → n < 64 → getD table n 0 ≡ headOf f n
+  pub few : procs f ≤ procsMost
+  pub heads : (n : ℕ) → n < procsMost → getD table n 0 ≡ headOf f n
   pub bytes : (n : ℕ) → n < procs f → headOf f n + 6 < length f
   -- a call names a procedure: refusal 5
   pub callee : (n : ℕ) → here f m ≡ call n → n < procs f
   -- the lists have at most these lengths, the heap at least its mark and root: refusal 10
-  pub main-most : length (m .main) ≤ 4096
-  pub ptr-most : length (m .ptr) ≤ 4096
-  pub ctl-most : length (m .ctl) ≤ 1280
+  pub main-most : length (m .main) ≤ mainMost
+  pub ptr-most : length (m .ptr) ≤ ptrMost
+  pub ctl-most : length (m .ctl) ≤ ctlMost
   pub heap-least : 2 ≤ length (m .heap)
-  pub heap-most : length (m .heap) ≤ 16384
+  pub heap-most : length (m .heap) ≤ heapMost
   -- a top is the frame's base with a depth that is at most the procedure's, and the frame fits the list
   pub main-top : mtop m ≤ length (m .main)
   pub ptr-top : ptop m ≤ length (m .ptr)

@@ -4,6 +4,7 @@ use plan_meaning::Plan;
 ghost use mathlib.Core.Path.{_≡_};
 ghost use Rattle.plan_meaning.specs.Planned.{planAt};
 ghost use Rattle.plan.specs.Ready.{StepReady};
+use model::PROCS_MOST;
 
 // The plan of the instruction at the machine's place; table holds the procedures' heads. One match decides by the code's number, and each
 // family's function matches its own codes again. The compiler makes one jump table of all these matches, as long as a family that shares an arm
@@ -12,7 +13,7 @@ ghost use Rattle.plan.specs.Ready.{StepReady};
 // 162 is the raise, and the definition takes every number that is no code for one.
 pub fn plan_at(
     file: &[u8],
-    table: &[usize; 64],
+    table: &[usize; PROCS_MOST],
     main: &[u32],
     ptr: &[u32],
     ctl: &[u32],
@@ -25,7 +26,7 @@ pub fn plan_at(
     let place = regs.place;
     let kind = file[place];
     match kind {
-        1 => plan_flow::jumps(file, regs, 1),
+        1 => plan_flow::jumps(file, regs, 1), // jumps
         3 => plan_flow::jumps(file, regs, 3),
         2 => plan_flow::on_false(file, main, regs, 2),
         5 => plan_flow::on_false(file, main, regs, 5),

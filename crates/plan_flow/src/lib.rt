@@ -14,6 +14,10 @@ ghost use Rattle.plan_meaning.specs.Planned.{planned};
 ghost use Rattle.plan_meaning.specs.Asked.{Body, TopWithin};
 ghost use Rattle.control_stack.specs.Layout.{Numbered};
 ghost use Rattle.plan_flow.specs.Given.{Callee};
+use model::HEAD_SIZE;
+use model::PROCS_MOST;
+ghost use Rattle.model.specs.File.{fileMost};
+ghost use Rattle.model.specs.Calls.{ctlMost};
 
 // 1 and 3: forwards, backwards.
 pub fn jumps(file: &[u8], regs: Regs, kind: u8) -> Plan
@@ -91,14 +95,14 @@ pub fn on_true(file: &[u8], main: &[u32], regs: Regs, kind: u8) -> Plan
 // 72: the callee's frame begins with its parameters.
 fn calls(
     file: &[u8],
-    table: &[usize; 64],
+    table: &[usize; PROCS_MOST],
     main: &[u32],
     ptr: &[u32],
     ctl: &[u32],
     regs: Regs,
 ) -> Plan
     requires { ⌜ Body (now file) (regs .place) 2 × TopWithin (now main) (regs .mtop) × TopWithin (now ptr) (regs .ptop)
-        × (regs .ctop ≤ 1280) × Callee (now file) (now table) regs ⌝ }
+        × (regs .ctop ≤ ctlMost) × Callee (now file) (now table) regs ⌝ }
     ensures { λ r. ⌜ ((m : Machine) → r ≡ planned (now (file .entry)) (setRegs regs (setMain (now (main .entry)) (setPtr (now (ptr .entry)) (setCtl (now (ctl .entry)) m)))) 3 72) ⌝ }
 {
     let s = code_file::operand(file, regs.place);
@@ -115,12 +119,19 @@ fn calls(
     if ctl.len() < regs.ctop + RECORD {
         return Plan::NoRoom;
     }
-    writes(Into::Frame, h + 7, regs.mtop, regs.ptop, m, q as u32)
+    writes(
+        Into::Frame,
+        h + HEAD_SIZE,
+        regs.mtop,
+        regs.ptop,
+        m,
+        q as u32,
+    )
 }
 
 // 160: a handler's record.
 fn enters(ctl: &[u32], regs: Regs) -> Plan
-    requires { ⌜ (regs .place < 4096) × (regs .ctop ≤ 1280) ⌝ }
+    requires { ⌜ (regs .place < fileMost) × (regs .ctop ≤ ctlMost) ⌝ }
     ensures { λ r. ⌜ ((f : List ℕ) (m : Machine) → r ≡ planned f (setRegs regs (setCtl (now (ctl .entry)) m)) 3 160) ⌝ }
 {
     if ctl.len() < regs.ctop + RECORD {
@@ -132,7 +143,7 @@ fn enters(ctl: &[u32], regs: Regs) -> Plan
 // 72 and 160: a record is opened.
 pub fn opens(
     file: &[u8],
-    table: &[usize; 64],
+    table: &[usize; PROCS_MOST],
     main: &[u32],
     ptr: &[u32],
     ctl: &[u32],
@@ -140,7 +151,7 @@ pub fn opens(
     kind: u8,
 ) -> Plan
     requires { ⌜ Body (now file) (regs .place) 2 × TopWithin (now main) (regs .mtop) × TopWithin (now ptr) (regs .ptop)
-        × (regs .ctop ≤ 1280) × (kind ≡ 72 → Callee (now file) (now table) regs) × ((kind ≡ 72) ⊎ (kind ≡ 160)) ⌝ }
+        × (regs .ctop ≤ ctlMost) × (kind ≡ 72 → Callee (now file) (now table) regs) × ((kind ≡ 72) ⊎ (kind ≡ 160)) ⌝ }
     ensures { λ r. ⌜ ((m : Machine) → r ≡ planned (now (file .entry)) (setRegs regs (setMain (now (main .entry)) (setPtr (now (ptr .entry)) (setCtl (now (ctl .entry)) m)))) 3 kind) ⌝ }
 {
     match kind {
@@ -160,7 +171,7 @@ fn leaves(ctl: &[u32], regs: Regs) -> Plan
 
 // 161: the innermost handler's record goes.
 fn exits(regs: Regs) -> Plan
-    requires { ⌜ regs .place < 4096 ⌝ }
+    requires { ⌜ regs .place < fileMost ⌝ }
     ensures { λ r. ⌜ ((f : List ℕ) (m : Machine) → r ≡ planned f (setRegs regs m) 1 161) ⌝ }
 {
     writes(Into::Close, regs.place + 1, regs.mtop, regs.ptop, 0, 0)
@@ -168,7 +179,7 @@ fn exits(regs: Regs) -> Plan
 
 // 73 and 161: a record is closed.
 pub fn closes(ctl: &[u32], regs: Regs, kind: u8) -> Plan
-    requires { ⌜ (regs .place < 4096) × Numbered (now ctl) (regs .frame) × ((kind ≡ 73) ⊎ (kind ≡ 161)) ⌝ }
+    requires { ⌜ (regs .place < fileMost) × Numbered (now ctl) (regs .frame) × ((kind ≡ 73) ⊎ (kind ≡ 161)) ⌝ }
     ensures { λ r. ⌜ ((f : List ℕ) (m : Machine) → r ≡ planned f (setRegs regs (setCtl (now (ctl .entry)) m)) 1 kind) ⌝ }
 {
     match kind {

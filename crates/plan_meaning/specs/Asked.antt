@@ -3,16 +3,18 @@ use Prim.Native.Nat.{ℕ, _+_, _<_, _≤_}
 use mathlib.Core.List.{List}
 use mathlib.Core.Logic.{_⊎_, inl, inr}
 use lib.ListN.{length}
+use Rattle.model.specs.File.{fileMost}
+use Rattle.model.specs.Calls.{mainMost}
 
 -- n bytes behind p are the file's
 pub record Body (f : List ℕ) (p n : ℕ) : Type 0 where
   pub inside : p + n < length f
-  pub short : length f ≤ 4096
+  pub short : length f ≤ fileMost
 
 -- a top of a stack
 pub record TopWithin (l : List ℕ) (top : ℕ) : Type 0 where
   pub below : top ≤ length l
-  pub few : length l ≤ 4096
+  pub few : length l ≤ mainMost
 
 -- of two codes, the one that a test has left
 pub other : {A B : Type 0} → A ⊎ B → (A → ⊥) → B

@@ -1,4 +1,4 @@
-// Document 01, the table of codes with their effects: what an instruction is about to do that works on objects or pointers, or drops words of both
+// Manual 4: what an instruction is about to do that works on objects or pointers, or drops words of both
 // stacks. Nothing is written here. Codes of one family share a function.
 use model::Regs;
 use plan_meaning::Into;
@@ -15,6 +15,8 @@ ghost use Rattle.model.specs.Control.{Machine, setRegs, setMain, setPtr, setHea
 ghost use Rattle.plan_meaning.specs.Planned.{write, planned};
 ghost use Rattle.plan_meaning.specs.Asked.{Body, TopWithin};
 ghost use Rattle.audit_heap.specs.Stores.{Lies};
+ghost use Rattle.model.specs.File.{fileMost};
+ghost use Rattle.model.specs.Calls.{mainMost, ptrMost};
 
 // 30 and 32: a plain word of an object.
 pub fn plain_fields(
@@ -93,7 +95,7 @@ pub fn ptr_fields(file: &[u8], ptr: &[u32], heap: &[u32], regs: Regs, kind: u8) 
 
 // A pointer pushed by an instruction of one byte.
 fn pushes(regs: Regs, word: u32) -> Plan
-    requires { ⌜ (regs .place < 4096) × (regs .ptop ≤ 4096) ⌝ }
+    requires { ⌜ (regs .place < fileMost) × (regs .ptop ≤ ptrMost) ⌝ }
     ensures { λ r. ⌜ r ≡ write Into.Pointer (regs .place + 1) (regs .mtop) (regs .ptop + 1) (regs .ptop) word ⌝ }
 {
     writes(
@@ -108,7 +110,7 @@ fn pushes(regs: Regs, word: u32) -> Plan
 
 // 57: nil.
 pub fn push_nil(regs: Regs) -> Plan
-    requires { ⌜ (regs .place < 4096) × (regs .ptop ≤ 4096) ⌝ }
+    requires { ⌜ (regs .place < fileMost) × (regs .ptop ≤ ptrMost) ⌝ }
     ensures { λ r. ⌜ ((f : List ℕ) (m : Machine) → r ≡ planned f (setRegs regs m) 1 57) ⌝ }
 {
     pushes(regs, 0)
@@ -116,7 +118,7 @@ pub fn push_nil(regs: Regs) -> Plan
 
 // 58: the root.
 pub fn push_root(heap: &[u32], regs: Regs) -> Plan
-    requires { ⌜ (regs .place < 4096) × (regs .ptop ≤ 4096) × (2 ≤ length (now heap)) ⌝ }
+    requires { ⌜ (regs .place < fileMost) × (regs .ptop ≤ ptrMost) × (2 ≤ length (now heap)) ⌝ }
     ensures { λ r. ⌜ ((f : List ℕ) (m : Machine) → r ≡ planned f (setRegs regs (setHeap (now (heap .entry)) m)) 1 58) ⌝ }
 {
     pushes(regs, heap[1])
@@ -124,7 +126,7 @@ pub fn push_root(heap: &[u32], regs: Regs) -> Plan
 
 // 59: into the root.
 pub fn set_root(ptr: &[u32], regs: Regs) -> Plan
-    requires { ⌜ (regs .place < 4096) × TopWithin (now ptr) (regs .ptop) × (1 ≤ regs .ptop) ⌝ }
+    requires { ⌜ (regs .place < fileMost) × TopWithin (now ptr) (regs .ptop) × (1 ≤ regs .ptop) ⌝ }
     ensures { λ r. ⌜ ((f : List ℕ) (m : Machine) → r ≡ planned f (setRegs regs (setPtr (now (ptr .entry)) m)) 1 59) ⌝ }
 {
     let top = regs.ptop - 1;
@@ -134,7 +136,7 @@ pub fn set_root(ptr: &[u32], regs: Regs) -> Plan
 // 36: a new view.
 fn forms(file: &[u8], heap: &[u32], regs: Regs) -> Plan
     requires { ⌜ Body (now file) (regs .place) 4 × (model.operand (now file) (regs .place) ≤ regs .mtop)
-        × (model.operand2 (now file) (regs .place) ≤ regs .ptop) × (regs .mtop ≤ 4096) × (regs .ptop ≤ 4096) × (2 ≤ length (now heap)) ⌝ }
+        × (model.operand2 (now file) (regs .place) ≤ regs .ptop) × (regs .mtop ≤ mainMost) × (regs .ptop ≤ ptrMost) × (2 ≤ length (now heap)) ⌝ }
     ensures { λ r. ⌜ ((m : Machine) → r ≡ planned (now (file .entry)) (setRegs regs (setHeap (now (heap .entry)) m)) 5 36) ⌝ }
 {
     let place = regs.place;
@@ -191,7 +193,7 @@ pub fn takes(file: &[u8], main: &[u32], ptr: &[u32], heap: &[u32], regs: Regs, k
 
 // 131: two pointers are the same.
 pub fn same_ptr(ptr: &[u32], regs: Regs) -> Plan
-    requires { ⌜ (regs .place < 4096) × (regs .mtop ≤ 4096) × TopWithin (now ptr) (regs .ptop) × (2 ≤ regs .ptop) ⌝ }
+    requires { ⌜ (regs .place < fileMost) × (regs .mtop ≤ mainMost) × TopWithin (now ptr) (regs .ptop) × (2 ≤ regs .ptop) ⌝ }
     ensures { λ r. ⌜ ((f : List ℕ) (m : Machine) → r ≡ planned f (setRegs regs (setPtr (now (ptr .entry)) m)) 1 131) ⌝ }
 {
     let second = regs.ptop - 1;

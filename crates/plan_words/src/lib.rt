@@ -1,4 +1,4 @@
-// Document 01, the table of codes with their effects: what an instruction is about to do that works on words of the frame, on literals or on
+// Manual 4: what an instruction is about to do that works on words of the frame, on literals or on
 // plain words. Nothing is written here. Codes of one family share a function.
 use model::Regs;
 use model::Value;
@@ -16,6 +16,8 @@ ghost use Rattle.plan_meaning.specs.Planned.{write, planValue, planned};
 ghost use Rattle.plan_meaning.specs.Asked.{Body, TopWithin};
 ghost use Rattle.control_stack.specs.Layout.{Numbered};
 ghost use Rattle.plan_words.specs.Given.{Binary};
+ghost use Rattle.model.specs.File.{fileMost};
+ghost use Rattle.model.specs.Calls.{mainMost};
 
 // 20 and 22: word s of the frame.
 fn main_locals(file: &[u8], main: &[u32], ctl: &[u32], regs: Regs, kind: u8) -> Plan
@@ -37,7 +39,7 @@ fn main_locals(file: &[u8], main: &[u32], ctl: &[u32], regs: Regs, kind: u8) -> 
 
 // 54 and 56: a literal.
 fn literals(file: &[u8], regs: Regs, kind: u8) -> Plan
-    requires { ⌜ Body (now file) (regs .place) (model.bodyOf kind) × (regs .mtop ≤ 4096) × ((kind ≡ 54) ⊎ (kind ≡ 56)) ⌝ }
+    requires { ⌜ Body (now file) (regs .place) (model.bodyOf kind) × (regs .mtop ≤ mainMost) × ((kind ≡ 54) ⊎ (kind ≡ 56)) ⌝ }
     ensures { λ r. ⌜ ((m : Machine) → r ≡ planned (now (file .entry)) (setRegs regs m) (suc (model.bodyOf kind)) kind) ⌝ }
 {
     let place = regs.place;
@@ -127,7 +129,7 @@ fn compare(kind: u8, a: u32, b: u32) -> u32
 
 // 130, 195, 198, 201 and 204.
 pub fn compares(main: &[u32], regs: Regs, kind: u8) -> Plan
-    requires { ⌜ (regs .place < 4096) × TopWithin (now main) (regs .mtop) × (2 ≤ regs .mtop)
+    requires { ⌜ (regs .place < fileMost) × TopWithin (now main) (regs .mtop) × (2 ≤ regs .mtop)
         × ((kind ≡ 130) ⊎ ((kind ≡ 195) ⊎ ((kind ≡ 198) ⊎ ((kind ≡ 201) ⊎ (kind ≡ 204))))) ⌝ }
     ensures { λ r. ⌜ ((f : List ℕ) (m : Machine) → r ≡ planned f (setRegs regs (setMain (now (main .entry)) m)) 1 kind) ⌝ }
 {
@@ -139,7 +141,7 @@ pub fn compares(main: &[u32], regs: Regs, kind: u8) -> Plan
 
 // 140 and 142.
 pub fn sums(main: &[u32], regs: Regs, kind: u8) -> Plan
-    requires { ⌜ (regs .place < 4096) × TopWithin (now main) (regs .mtop) × (2 ≤ regs .mtop) × ((kind ≡ 140) ⊎ (kind ≡ 142)) ⌝ }
+    requires { ⌜ (regs .place < fileMost) × TopWithin (now main) (regs .mtop) × (2 ≤ regs .mtop) × ((kind ≡ 140) ⊎ (kind ≡ 142)) ⌝ }
     ensures { λ r. ⌜ ((f : List ℕ) (m : Machine) → r ≡ planned f (setRegs regs (setMain (now (main .entry)) m)) 1 kind) ⌝ }
 {
     let place = regs.place + 1;
@@ -155,7 +157,7 @@ pub fn sums(main: &[u32], regs: Regs, kind: u8) -> Plan
 
 // 141, 143 and 145.
 pub fn products(main: &[u32], regs: Regs, kind: u8) -> Plan
-    requires { ⌜ (regs .place < 4096) × TopWithin (now main) (regs .mtop) × (2 ≤ regs .mtop) × ((kind ≡ 141) ⊎ ((kind ≡ 143) ⊎ (kind ≡ 145))) ⌝ }
+    requires { ⌜ (regs .place < fileMost) × TopWithin (now main) (regs .mtop) × (2 ≤ regs .mtop) × ((kind ≡ 141) ⊎ ((kind ≡ 143) ⊎ (kind ≡ 145))) ⌝ }
     ensures { λ r. ⌜ ((f : List ℕ) (m : Machine) → r ≡ planned f (setRegs regs (setMain (now (main .entry)) m)) 1 kind) ⌝ }
 {
     let place = regs.place + 1;
@@ -172,7 +174,7 @@ pub fn products(main: &[u32], regs: Regs, kind: u8) -> Plan
 
 // 144 and 146.
 pub fn unaries(main: &[u32], regs: Regs, kind: u8) -> Plan
-    requires { ⌜ (regs .place < 4096) × TopWithin (now main) (regs .mtop) × (1 ≤ regs .mtop) × ((kind ≡ 144) ⊎ (kind ≡ 146)) ⌝ }
+    requires { ⌜ (regs .place < fileMost) × TopWithin (now main) (regs .mtop) × (1 ≤ regs .mtop) × ((kind ≡ 144) ⊎ (kind ≡ 146)) ⌝ }
     ensures { λ r. ⌜ ((f : List ℕ) (m : Machine) → r ≡ planned f (setRegs regs (setMain (now (main .entry)) m)) 1 kind) ⌝ }
 {
     let place = regs.place + 1;

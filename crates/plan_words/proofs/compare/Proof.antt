@@ -1,4 +1,4 @@
--- `plan_words::compare`: at each of the five codes the definition computes, and the comparison is the one that `words` ensures.
+-- `plan_words::compare`: at each of the five codes the definition computes, and the comparison is the one that `arithmetic` ensures.
 use borrow.Author.Needs.{needs}
 use Rattle.model.specs.File.{insOf}
 use Rattle.plan_meaning.specs.Planned.{basicPlan, planOf}

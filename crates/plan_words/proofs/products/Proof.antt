@@ -1,4 +1,4 @@
--- `plan_words::products`: at each of the three codes the definition computes, and the operation is the one that `words` ensures.
+-- `plan_words::products`: at each of the three codes the definition computes, and the operation is the one that `arithmetic` ensures.
 use mathlib.Core.Path.{_∙_}
 use mir.Syntax.{w64}
 use mir.ValLaws.{toZ-ofZ}

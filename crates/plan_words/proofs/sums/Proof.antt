@@ -1,4 +1,4 @@
--- `plan_words::sums`: at each of the two codes the definition computes, and the operation is the one that `words` ensures.
+-- `plan_words::sums`: at each of the two codes the definition computes, and the operation is the one that `arithmetic` ensures.
 use mathlib.Core.Path.{_∙_}
 use mir.Syntax.{w64}
 use mir.ValLaws.{toZ-ofZ}

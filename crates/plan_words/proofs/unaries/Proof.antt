@@ -1,4 +1,4 @@
--- `plan_words::unaries`: at each of the two codes the definition computes, and the operation is the one that `words` ensures.
+-- `plan_words::unaries`: at each of the two codes the definition computes, and the operation is the one that `arithmetic` ensures.
 use mathlib.Core.Path.{_∙_, sym}
 use borrow.Author.Tests.{not-true, not-false}
 use Rattle.model.specs.File.{insOf}
