@@ -15,7 +15,7 @@ ghost use Rattle.model.specs.File as model;
 ghost use Rattle.model.specs.Control.{Machine, frameOf, setRegs, setMain, setPtr, setCtl, setHeap};
 ghost use Rattle.plan_meaning.specs.Planned.{planAt};
 ghost use Rattle.laws_file.specs.Kinds.{NoneOf};
-ghost use Rattle.audit_heap.specs.Stores.{Lies};
+ghost use Rattle.heap.specs.Stores.{Lies};
 ghost use Rattle.control_stack.specs.Layout.{Numbered};
 ghost use Rattle.plan_flow.specs.Given.{planned, Body, TopWithin};
 ghost use Rattle.plan.specs.Kinds.{atArms, localArms, wordArms};
@@ -67,7 +67,7 @@ fn plain_fields(file: &[u8], main: &[u32], ptr: &[u32], heap: &[u32], regs: Regs
         return Plan::NilObject; // before the field is looked for: 2, not 3
     }
     let s = code_file::operand(file, place);
-    if !audit_heap::in_plain(heap, object, s) {
+    if !heap::in_plain(heap, object, s) {
         return Plan::NoSuchWord;
     }
     let at = object + s;
@@ -99,7 +99,7 @@ fn ptr_fields(file: &[u8], ptr: &[u32], heap: &[u32], regs: Regs, kind: u8) -> P
         return Plan::NilObject;
     }
     let s = code_file::operand(file, place);
-    if !audit_heap::in_ptrs(heap, view, s) {
+    if !heap::in_ptrs(heap, view, s) {
         return Plan::NoSuchWord;
     }
     let slot = view + s;

@@ -6,7 +6,7 @@ use borrow.Author.Needs.{needs}
 use borrow.Author.Tests.{eq-eqb, ne-eqb, not-true, not-false}
 use Rattle.model.specs.File.{insOf}
 use Rattle.plan_meaning.specs.Planned.{basicPlan, planOf}
-use Rattle.audit_heap.specs.Stores.{in-plain}
+use Rattle.heap.specs.Stores.{in-plain}
 use Rattle.plan.specs.Given.{not-nil, lies}
 use Rattle.plan_flow.specs.Given.{planned, other}
 use Rattle.plan.proofs.plain_fields.Statement.{statement}
