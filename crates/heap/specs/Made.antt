@@ -10,9 +10,9 @@ use lib.ListN.{length, length-set, length-append, List·getD-append}
 use lib.Seq.{sets, length-sets, getD-set-same, getD-set-other}
 use Rattle.model.specs.Choice.{Mem}
 use Rattle.model.specs.Words.{wordAt}
+use Rattle.model.specs.Heap.{markOf, rootOf, firstObject, kindAt, ptrsAt, sizeAt, kinds, kindIn, kindOf, objectOf, made, Object, Objects, Pointer, Heap}
 use Rattle.laws.specs.Members.{mem-append, mem-more, mem-right}
 use Rattle.laws.specs.Stores.{sets-other, sets-at}
-use Rattle.model.specs.Heap.{markOf, rootOf, firstObject, kindAt, ptrsAt, sizeAt, kinds, kindIn, kindOf, objectOf, made, Object, Objects, Pointer, Heap}
 use Rattle.heap.specs.Objects.{SameHeader, ptrs-alike, size-alike, objects-alike}
 use Rattle.heap.specs.Stores.{object-lies}
 
