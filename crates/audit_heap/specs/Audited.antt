@@ -7,18 +7,18 @@ use mathlib.Core.List.{List, [], _∷_}
 use mathlib.Core.Logic.{_⊎_, inl, inr}
 use native.Mathlib.Decide.{decLt}
 use native.Mathlib.Omega.{arith}
-use lib.Dec.{eqb, leb, ltb}
+use lib.Dec.{leb, ltb}
 use lib.ListN.{length, List·getD-eq-default}
 use borrow.Author.Tests.{eq-eqb, eqb-true, eqb-false, leb-true, leb-false, le-leb, lt-leb, ltb-true, ltb-false, le-ltb, not-true, not-false}
-use Rattle.model.specs.Choice.{if_then_else_, Mem, member}
+use Rattle.model.specs.Choice.{if_then_else_, Mem}
 use Rattle.model.specs.Words.{wordAt}
-use Rattle.laws.specs.Members.{member-in, in-member}
-use Rattle.model.specs.Heap.{markOf, rootOf, firstObject, ptrsAt, sizeAt, kindOf, Object, Objects, Pointer, Heap, Audit, fault, clean, andObject}
-use Rattle.model.specs.Heap.{badHeader, badSize, walk, isPointer, range, pointerWords, zerosFirst, judge, heapOf}
+use Rattle.laws.specs.Members.{mem-append, mem-more, mem-right}
+use Rattle.model.specs.Heap.{markOf, rootOf, firstObject, ptrsAt, sizeAt, kindOf, Object, Objects, Pointer, Heap}
+use Rattle.model.specs.Heap.{Audit, fault, clean, andObject, badHeader, badSize, walk, isPointer, range, pointerWords, zerosFirst, judge, heapOf}
+use Rattle.heap.specs.Pointers.{pointer-true, true-pointer}
 use Rattle.audit_heap.specs.declared.HeapAudit.{HeapAudit}
 use Rattle.audit_heap.specs.declared.HeapAudit.the-variants.{Clean, Fault}
-use Rattle.audit_heap.specs.First.{firstBad, walked, freeWords, orAudit, pointerAt, zeroAt, pointers-first, zeros-first, all-good, none-bad}
-use Rattle.audit_heap.specs.First.{bad-in, range-mem, mem-range, mem-append, mem-more, mem-right}
+use Rattle.audit_heap.specs.First.{firstBad, walked, freeWords, orAudit, pointerAt, zeroAt, pointers-first, zeros-first, all-good, none-bad, bad-in, range-mem, mem-range}
 use Rattle.audit_heap.specs.Faults.{WrongHeader, WrongSize, Broken, bad-header, bad-size, Inside, AtFault, bad-mark, bad-object, bad-pointer, bad-free}
 
 -- The walk
@@ -126,25 +126,8 @@ walk-shows (suc n) h q mark a b = go (leb mark q) refl (badHeader h q mark) refl
 
 -- Pointers
 
-is-pointer : (os : List ℕ) (v : ℕ) → isPointer os v ≡ true → Pointer os v
-unfolding isPointer
-is-pointer os v e = go (eqb v 0) refl e
-  where
-    go : (t : Bool) → eqb v 0 ≡ t → t || member v os ≡ true → Pointer os v
-    go true u w = inl (eqb-true v 0 u)
-    go false u w = inr (member-in v os w)
-
-pub pointer-is : (os : List ℕ) (v : ℕ) → Pointer os v → isPointer os v ≡ true
-unfolding isPointer
-pointer-is os v (inl e) = rw (eq-eqb v 0 e)
-pointer-is os v (inr i) = go (eqb v 0)
-  where
-    go : (t : Bool) → t || member v os ≡ true
-    go true = refl
-    go false = in-member v os i
-
 not-pointer : (os : List ℕ) (v : ℕ) → isPointer os v ≡ false → Pointer os v → ⊥
-not-pointer os v e p = true≢false (sym (pointer-is os v p) ∙ e)
+not-pointer os v e p = true≢false (sym (true-pointer os v p) ∙ e)
 
 -- where pointers stand in objects
 words-inside : (h os : List ℕ) (i : ℕ) → Mem i (pointerWords h os) → Inside h os i
@@ -204,10 +187,10 @@ clean-heap h os H =
     ∙ rw (none-bad (pointerAt h os) (1 ∷ pointerWords h os) right, none-bad (zeroAt h) (freeWords h) zero-at)
   where
     right : (i : ℕ) → Mem i (1 ∷ pointerWords h os) → pointerAt h os i ≡ true
-    right i (inl e) = rw e (pointer-is os (rootOf h) (H .root))
+    right i (inl e) = rw e (true-pointer os (rootOf h) (H .root))
     right i (inr m) =
         let r = words-inside h os i m in
-        rw (r .is) (pointer-is os (wordAt h (r .q + r .k)) (H .inside (r .q) (r .k) (r .mem) (r .from) (r .to)))
+        rw (r .is) (true-pointer os (wordAt h (r .q + r .k)) (H .inside (r .q) (r .k) (r .mem) (r .from) (r .to)))
 
     zero-at : (i : ℕ) → Mem i (freeWords h) → zeroAt h i ≡ true
     zero-at i m = eq-eqb (wordAt h i) 0 (H .free i (range-mem (markOf h) (length h - markOf h) i m .0))
@@ -231,8 +214,8 @@ heap-says h = go (decLt (markOf h) firstObject) (decLt (length h) (markOf h))
           low = l;
           high = g;
           objects = W;
-          root = is-pointer os (rootOf h) (good 1 (inl refl));
-          inside = λ q k m a b. is-pointer os (wordAt h (q + k)) (good (q + k) (inr (inside-words h os q k m a b)));
+          root = pointer-true os (rootOf h) (good 1 (inl refl));
+          inside = λ q k m a b. pointer-true os (wordAt h (q + k)) (good (q + k) (inr (inside-words h os q k m a b)));
           free = λ i a. free i a zeros (decLt i (length h));
         }
       where

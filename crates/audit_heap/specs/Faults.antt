@@ -11,7 +11,7 @@ use lib.ListN.{length}
 use Rattle.model.specs.Choice.{Mem}
 use Rattle.model.specs.Words.{wordAt}
 use Rattle.model.specs.Heap.{markOf, firstObject, ptrsAt, sizeAt, kindOf, Object, Objects, Pointer, Heap}
-use Rattle.audit_heap.specs.Objects.{object-of}
+use Rattle.heap.specs.Objects.{object-of}
 
 -- objects end to end from q to o, of which none goes past the mark
 abbrev pub Reaches : List ℕ → ℕ → ℕ → ℕ → List ℕ → Type 0

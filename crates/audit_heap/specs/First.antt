@@ -4,7 +4,7 @@ use Prim.Native.Nat.{ℕ, zero, suc, _+_, _-_, _<_, _≤_}
 use mathlib.Core.Path.{_≡_, refl}
 use mathlib.Core.Bool.{Bool, true, false}
 use mathlib.Core.List.{List, [], _∷_, _++_}
-use mathlib.Core.Logic.{_⊎_, inl, inr}
+use mathlib.Core.Logic.{inl, inr}
 use native.Mathlib.Decide.{ℕ-discrete}
 use native.Mathlib.Omega.{arith}
 use lib.Dec.{eqb}
@@ -116,21 +116,3 @@ mem-range q (suc n) i a b = go (ℕ-discrete i q) (mem-range (suc q) n i)
     go : Dec (i ≡ q) → (suc q ≤ i → i < suc q + n → Mem i (range (suc q) n)) → Mem i (range q (suc n))
     go (yes e) f = inl e
     go (no e) f = inr (f (omega arith) (omega arith))
-
--- the members of two lists joined
-pub mem-append : (i : ℕ) (l r : List ℕ) → Mem i (l ++ r) → Mem i l ⊎ Mem i r
-mem-append i [] r m = inr m
-mem-append i (a ∷ l) r (inl e) = inl (inl e)
-mem-append i (a ∷ l) r (inr m) = go (mem-append i l r m)
-  where
-    go : Mem i l ⊎ Mem i r → Mem i (a ∷ l) ⊎ Mem i r
-    go (inl m) = inl (inr m)
-    go (inr m) = inr m
-
-pub mem-more : (i : ℕ) (l r : List ℕ) → Mem i l → Mem i (l ++ r)
-mem-more i (a ∷ l) r (inl e) = inl e
-mem-more i (a ∷ l) r (inr m) = inr (mem-more i l r m)
-
-pub mem-right : (i : ℕ) (l r : List ℕ) → Mem i r → Mem i (l ++ r)
-mem-right i [] r m = m
-mem-right i (a ∷ l) r m = inr (mem-right i l r m)

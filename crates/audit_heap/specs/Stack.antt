@@ -13,8 +13,8 @@ use Rattle.model.specs.Choice.{if_then_else_, if-both}
 use Rattle.model.specs.Words.{wordAt}
 use Rattle.model.specs.Heap.{isPointer}
 use Rattle.model.specs.Sound.{pointers, zeros}
+use Rattle.heap.specs.Pointers.{true-pointer}
 use Rattle.audit_heap.specs.First.{zeroAt}
-use Rattle.audit_heap.specs.Audited.{pointer-is}
 use Rattle.audit_heap.specs.Table.{Marks, markedAt, marked-pointer}
 use Rattle.audit_heap.specs.Every.{Passing, Every}
 
@@ -23,7 +23,7 @@ zeros-pointers : (os l : List ℕ) → zeros l ≡ true → pointers os l ≡ tr
 zeros-pointers os [] e = refl
 zeros-pointers os (v ∷ l) e =
     let b = if-both (eqb v 0) (zeros l) e in
-    rw (pointer-is os v (inl (eqb-true v 0 (b .0)))) (zeros-pointers os l (b .1))
+    rw (true-pointer os v (inl (eqb-true v 0 (b .0)))) (zeros-pointers os l (b .1))
 
 pub zeros-end : (l : List ℕ) (i : ℕ) → length l ≤ i → zeros (drop i l) ≡ true
 zeros-end [] zero h = refl
@@ -71,7 +71,7 @@ module _ (l : List ℕ) (t : List Bool) (os : List ℕ) (M : Marks os t) where
   -- words that are nil are marked
   pub nil-marked : (n : ℕ) → Every (zeroAt l) 0 n true → Every (markedAt t l) 0 n true
   unfolding zeroAt markedAt
-  nil-marked n A j a b = rw (eqb-true (wordAt l j) 0 (A j a b)) (marked-pointer os t 0 M ∙ pointer-is os 0 (inl refl))
+  nil-marked n A j a b = rw (eqb-true (wordAt l j) 0 (A j a b)) (marked-pointer os t 0 M ∙ true-pointer os 0 (inl refl))
 
   -- pointers from i on, and below it
   pointers-down : (i : ℕ) → i ≤ length l → Passing (markedAt t l) 0 i → pointers os (drop i l) ≡ true → pointers os l ≡ true

@@ -1,6 +1,6 @@
 -- The table of marks: a mark for each word of a heap, set where an object starts, and at 0 for nil. A look there tells a pointer
 -- (`marked-pointer`).
-use Prim.Native.Nat.{ℕ, zero, suc, _+_, _<_, _≤_}
+use Prim.Native.Nat.{ℕ, zero, suc, _+_, _≤_}
 use mathlib.Core.Path.{_≡_, refl, sym, _∙_, ap}
 use mathlib.Core.Bool.{Bool, false}
 use mathlib.Core.List.{List, []}

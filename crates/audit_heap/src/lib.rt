@@ -1,13 +1,12 @@
-// The heap: its audit for refusal 11, and reads of its objects (Manual 2.6 to 2.8, 6.7, 6.8).
+// The heap's audit, for refusal 11 (Manual 6.7, 6.8), and the pointer stack's, for refusal 12.
 // The audit walks the objects and marks in a table where they start; a pointer is then looked up there.
 ghost use mathlib.Core.Path.{_≡_};
 ghost use Prim.Native.Nat.{ℕ, _+_, _-_, _≤_, _<_};
 ghost use mathlib.Core.Bool.{true};
 ghost use mathlib.Core.List.{List};
 ghost use mathlib.Core.Logic.{_⊎_};
-ghost use lib.Dec.{eqb};
 ghost use lib.ListN.{length, drop};
-ghost use Rattle.model.specs.Heap.{markOf, kindAt, ptrsAt, sizeAt, viewKind, inPtrs, inPlain, Objects, range, pointerWords};
+ghost use Rattle.model.specs.Heap.{markOf, Objects, range, pointerWords};
 ghost use Rattle.model.specs.Sound.{pointers, zeros};
 ghost use Rattle.audit_heap.specs.First.{firstBad, zeroAt, freeWords};
 ghost use Rattle.audit_heap.specs.Every.{oneIf, Every};
@@ -27,60 +26,20 @@ struct Walk {
     links: usize,
 }
 
-// The number of pointer words of the object at `q`.
-pub fn ptrs_at(heap: &[u32], q: usize) -> usize
-    requires { ⌜ q < length (now heap) ⌝ }
-    ensures { λ r. ⌜ Small 16777216 (ptrsAt (now (heap .entry)) q) r ⌝ }
-{
-    numbers::word(heap[q]) % 16777216
-}
-
-// The size in words of the object at `q`.
-pub fn size_at(heap: &[u32], q: usize) -> usize
-    requires { ⌜ q + 1 < length (now heap) ⌝ }
-    ensures { λ r. ⌜ Small 4294967296 (sizeAt (now (heap .entry)) q) r ⌝ }
-{
-    let at = q + 1;
-    numbers::word(heap[at])
-}
-
-// Word `s` of the object at `q` is one of its pointer words.
-pub fn in_ptrs(heap: &[u32], q: usize, s: usize) -> bool
-    requires { ⌜ q < length (now heap) ⌝ }
-    ensures { λ r. ⌜ r ≡ inPtrs (now (heap .entry)) q s ⌝ }
-{
-    2 <= s && s < 2 + ptrs_at(heap, q)
-}
-
-// Word `s` of the object at `q` is one of its plain words.
-pub fn in_plain(heap: &[u32], q: usize, s: usize) -> bool
-    requires { ⌜ q + 1 < length (now heap) ⌝ }
-    ensures { λ r. ⌜ r ≡ inPlain (now (heap .entry)) q s ⌝ }
-{
-    2 + ptrs_at(heap, q) <= s && s < size_at(heap, q)
-}
-
-fn is_view(heap: &[u32], q: usize) -> bool
-    requires { ⌜ q < length (now heap) ⌝ }
-    ensures { λ r. ⌜ r ≡ eqb (kindAt (now (heap .entry)) q) viewKind ⌝ }
-{
-    numbers::word(heap[q]) / 16777216 == 1
-}
-
 // The fault of the object at `q`, which is to end at `mark` or before it.
 fn judge_object(heap: &[u32], q: usize, mark: usize) -> HeapAudit
     requires { ⌜ (q < mark) × (mark ≤ length (now heap)) × (length (now heap) ≤ heapMost) ⌝ }
     ensures { λ r. ⌜ r ≡ faultAt (now (heap .entry)) q mark ⌝ }
 {
     let next = q + 1;
-    if !is_view(heap, q) {
+    if !heap::is_view(heap, q) {
         return HeapAudit::Fault(q);
     }
     if mark <= next {
         return HeapAudit::Fault(q);
     }
-    let size = size_at(heap, q);
-    if size < 2 + ptrs_at(heap, q) {
+    let size = heap::size_at(heap, q);
+    if size < 2 + heap::ptrs_at(heap, q) {
         return HeapAudit::Fault(next);
     }
     if mark < q + size {
@@ -107,8 +66,8 @@ fn mark_objects(heap: &[u32], marks: &mut [bool]) -> Walk
             };
         }
         marks[q] = true;
-        links += ptrs_at(heap, q);
-        q += size_at(heap, q);
+        links += heap::ptrs_at(heap, q);
+        q += heap::size_at(heap, q);
     }
     Walk {
         answer: HeapAudit::Clean,
@@ -178,12 +137,12 @@ fn pointers_right(heap: &[u32], marks: &[bool], links: usize) -> HeapAudit
     let mut q = 2;
     while q < mark {
         let from = q + 2;
-        let end = from + ptrs_at(heap, q);
+        let end = from + heap::ptrs_at(heap, q);
         let a = bad_pointer(heap, marks, from, end);
         if let HeapAudit::Fault(p) = a {
             return HeapAudit::Fault(p);
         }
-        q += size_at(heap, q);
+        q += heap::size_at(heap, q);
     }
     HeapAudit::Clean
 }

@@ -1,8 +1,8 @@
--- Members of a list: as a test and as a statement, by their index, of a selection; lists that rise. Each law is an induction on the list.
+-- Members of a list: as a test and as a statement, by their index, of two lists joined, of a selection; lists that rise. Each law is an induction on the list.
 use Prim.Native.Nat.{ℕ, zero, suc, _<_, _-_}
-use mathlib.Core.Bool.{Bool, true, false, true≢false, not}
-use mathlib.Core.List.{List, [], _∷_}
-use mathlib.Core.Logic.{inl, inr}
+use mathlib.Core.Bool.{Bool, true, false, true≢false}
+use mathlib.Core.List.{List, [], _∷_, _++_}
+use mathlib.Core.Logic.{_⊎_, inl, inr}
 use mathlib.Core.Path.{_≡_, refl, sym}
 use native.Mathlib.Omega.{arith}
 use lib.Dec.{eqb}
@@ -41,6 +41,24 @@ getD-in (a ∷ l) (suc n) d h = inr (getD-in l n d (omega arith))
 
 pub has-some : (a : ℕ) (l : List ℕ) → Mem a l → 0 < length l
 has-some a (b ∷ l) h = omega arith
+
+-- the members of two lists joined
+pub mem-append : (i : ℕ) (l r : List ℕ) → Mem i (l ++ r) → Mem i l ⊎ Mem i r
+mem-append i [] r m = inr m
+mem-append i (a ∷ l) r (inl e) = inl (inl e)
+mem-append i (a ∷ l) r (inr m) = go (mem-append i l r m)
+  where
+    go : Mem i l ⊎ Mem i r → Mem i (a ∷ l) ⊎ Mem i r
+    go (inl m) = inl (inr m)
+    go (inr m) = inr m
+
+pub mem-more : (i : ℕ) (l r : List ℕ) → Mem i l → Mem i (l ++ r)
+mem-more i (a ∷ l) r (inl e) = inl e
+mem-more i (a ∷ l) r (inr m) = inr (mem-more i l r m)
+
+pub mem-right : (i : ℕ) (l r : List ℕ) → Mem i r → Mem i (l ++ r)
+mem-right i [] r m = m
+mem-right i (a ∷ l) r m = inr (mem-right i l r m)
 
 -- what a selection keeps
 module _ (t : ℕ → Bool) where

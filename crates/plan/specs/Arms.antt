@@ -10,7 +10,7 @@ use Rattle.model.specs.File.{byteAt, bodyOf, after, operand, operand2, makerPop
 use Rattle.model.specs.Checker.{basicEffect, effectOf}
 use Rattle.model.specs.Control.{Machine, running}
 use Rattle.model.specs.Moves.{mtop, ptop}
-use Rattle.audit_heap.specs.Stores.{Lies, object-lies}
+use Rattle.heap.specs.Stores.{Lies, object-lies}
 use Rattle.laws_file.specs.Walk.{after-above}
 use Rattle.laws_file.specs.Kinds.{OneOf}
 use Rattle.plan_meaning.specs.Planned.{planAt, planned}

@@ -6,7 +6,7 @@ use mathlib.Core.Path.{_≡_, _∙_}
 use lib.Dec.{eqb}
 use Rattle.model.specs.Words.{bit, eqW, operate}
 use Rattle.model.specs.declared.Value.the-variants.{Word}
-use Rattle.audit_heap.specs.Stores.{Lies}
+use Rattle.heap.specs.Stores.{Lies}
 
 -- the word of a comparison
 pub same-word : (a b : ℕ) {w : ℕ} → Word w ≡ operate eqW a b → w ≡ bit (eqb a b)

@@ -14,7 +14,7 @@ ghost use Rattle.model.specs.File as model;
 ghost use Rattle.model.specs.Control.{Machine, setRegs, setMain, setPtr, setHeap};
 ghost use Rattle.plan_meaning.specs.Planned.{write, planned};
 ghost use Rattle.plan_meaning.specs.Asked.{Body, TopWithin};
-ghost use Rattle.audit_heap.specs.Stores.{Lies};
+ghost use Rattle.heap.specs.Stores.{Lies};
 ghost use Rattle.model.specs.File.{fileMost};
 ghost use Rattle.model.specs.Calls.{mainMost, ptrMost};
 
@@ -39,7 +39,7 @@ pub fn plain_fields(
         return Plan::NilObject; // before the field is looked for: 2, not 3
     }
     let s = code_file::operand(file, place);
-    if !audit_heap::in_plain(heap, object, s) {
+    if !heap::in_plain(heap, object, s) {
         return Plan::NoSuchWord;
     }
     let at = object + s;
@@ -73,7 +73,7 @@ pub fn ptr_fields(file: &[u8], ptr: &[u32], heap: &[u32], regs: Regs, kind: u8) 
         return Plan::NilObject;
     }
     let s = code_file::operand(file, place);
-    if !audit_heap::in_ptrs(heap, view, s) {
+    if !heap::in_ptrs(heap, view, s) {
         return Plan::NoSuchWord;
     }
     let slot = view + s;

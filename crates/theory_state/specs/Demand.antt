@@ -6,8 +6,8 @@ use lib.ListN.{length}
 use Rattle.model.specs.Heap.{markOf}
 use Rattle.model.specs.Claim.{CallsHold, HeapExactly}
 use Rattle.audit_heap.specs.Audited.{clean-heap, heap-clean}
-use Rattle.audit_heap.specs.Stores.{store-plain, store-ptr, store-root}
-use Rattle.audit_heap.specs.Made.{pointer-more, pointer-new, made-kept}
+use Rattle.heap.specs.Stores.{store-plain, store-ptr, store-root}
+use Rattle.heap.specs.Made.{pointer-more, pointer-new, made-kept}
 use Rattle.theory_state.specs.Rules.{HeapLaws}
 use Rattle.theory_state.specs.Claims.{calls}
 

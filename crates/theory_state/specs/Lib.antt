@@ -1,4 +1,3 @@
-pub mod Tests
 pub mod Stack
 pub mod Laws
 pub mod Sound

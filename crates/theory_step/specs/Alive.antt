@@ -18,7 +18,7 @@ use Rattle.model.specs.Claim.{Bytes}
 use Rattle.model.specs.declared.Regs.{Regs}
 use Rattle.theory_checker.specs.Exact.{passed-as, passed-again}
 use Rattle.check_scan.specs.Heading.{Placed}
-use Rattle.theory_state.specs.Tests.{pointer-true}
+use Rattle.heap.specs.Pointers.{pointer-true}
 use Rattle.theory_state.specs.Laws.{CodeLaws, code-laws}
 use Rattle.theory_state.specs.Sound.{Running, Sound, TestedPointer, sound-with, sound?-true}
 use Rattle.theory_state.specs.Rules.{step-keeps}

@@ -21,8 +21,8 @@ use Rattle.plan_meaning.specs.Settled.{settle}
 use Rattle.plan_meaning.specs.Suits.{Suited}
 use Rattle.laws_file.specs.Codes.{enter-after}
 use Rattle.laws_file.specs.Walk.{instruction-below, instruction-whole, proc-below}
-use Rattle.audit_heap.specs.Stores.{read-ptr, read-plain}
-use Rattle.audit_heap.specs.Views.{may-set-plain, may-set-ptr}
+use Rattle.heap.specs.Stores.{read-ptr, read-plain}
+use Rattle.heap.specs.Views.{may-set-plain, may-set-ptr}
 use Rattle.laws.specs.Records.{down-length}
 use Rattle.theory_state.specs.Stack.{Stack, first, frame, handler, stack-here, stack-frame, stack-numbers, HandlerFound, find-handler}
 use Rattle.theory_state.specs.Laws.{CodeLaws, at-exit, depth-most, inner-opens}

@@ -1,4 +1,5 @@
--- Where every word is a pointer there is no fault. Else, the invariant: the first fault of the whole range is that from `i` on, no word before `i` being at fault.
+-- Where every word is a pointer there is no fault. Else, the invariant: the first fault of the whole range is that from `i` on, no word
+-- before `i` being at fault.
 use Prim.Native.Nat.{_-_, _≤_}
 use mathlib.Core.Path.{subst}
 use native.Mathlib.Omega.{arith}
@@ -34,8 +35,9 @@ is-pointer-requires : tie.Need-is-pointer-requires Inv-loop μ-loop
 is-pointer-requires c κs = search needs
 
 returns-2 : tie.Need-returns-2 Inv-loop μ-loop
-returns-2 c = scan-bad _ _ _ _ (c .before .before .before .before .loop .inv .1) (c .before .before .before .loop-test .taken) (pointer-bad _ _ _ _ (c .before .is-pointer .ensures)
-    (c .if2 .taken))
+returns-2 c =
+    let turn = c .before .before .before in
+    scan-bad _ _ _ _ (turn .before .loop .inv .1) (turn .loop-test .taken) (pointer-bad _ _ _ _ (c .before .is-pointer .ensures) (c .if2 .taken))
 
 add-i : tie.Need-add-i Inv-loop μ-loop
 add-i c = omega arith
@@ -44,10 +46,11 @@ loop-less : tie.Need-loop-less Inv-loop μ-loop
 loop-less c = omega arith
 
 loop-again : tie.Need-loop-again Inv-loop μ-loop
-loop-again c = (
-  omega arith,
-  scan-more _ _ _ _ (c .before .before .before .before .loop .inv .1) (c .before .before .before .loop-test .taken) (pointer-good _ _ _ _ (c .before .is-pointer .ensures) (c .if2 .left)),
-)
+loop-again c =
+    let turn = c .before .before .before in (
+      omega arith,
+      scan-more _ _ _ _ (turn .before .loop .inv .1) (turn .loop-test .taken) (pointer-good _ _ _ _ (c .before .is-pointer .ensures) (c .if2 .left)),
+    )
 
 returns-3 : tie.Need-returns-3 Inv-loop μ-loop
 returns-3 c = scan-end _ _ _ _ (c .before .loop .inv .1) (c .loop-test .left)

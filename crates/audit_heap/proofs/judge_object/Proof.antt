@@ -1,4 +1,4 @@
--- Each return is one branch of `judged`: the tests stand in its order.
+-- Each return is one branch of `faultAt`: the tests stand in its order.
 use native.Mathlib.Omega.{arith}
 use borrow.Author.Needs.{needs}
 use Rattle.audit_heap.specs.Turns.{judged-kind, judged-cut, judged-small, judged-long, judged-right}
@@ -27,22 +27,30 @@ add-if3 : tie.Need-add-if3
 add-if3 c = search needs
 
 returns-3 : tie.Need-returns-3
-returns-3 c = search (judged-small)
+returns-3 c =
+    let cut = c .before .before .before in
+    let view = cut .before in
+    judged-small _ _ _ _ (view .before .is-view .ensures) (view .if1 .left) (cut .if2 .left) _ _ _ _ (c .before .before .size-at .ensures)
+    (c .before .ptrs-at .ensures) (omega (arith, c .if3 .taken))
 
 add-if4 : tie.Need-add-if4
 add-if4 c = search needs
 
 returns-4 : tie.Need-returns-4
 returns-4 c =
-    let view = c .before .before .before .before .before in
-    judged-long _ _ _ _ (view .before .is-view .ensures) (view .if1 .left) (c .before .before .before .before .if2 .left) _ _ (c .before .before .before .size-at .ensures)
+    let size = c .before .before .before in
+    let cut = size .before in
+    let view = cut .before in
+    judged-long _ _ _ _ (view .before .is-view .ensures) (view .if1 .left) (cut .if2 .left) _ _ (size .size-at .ensures)
     (omega (arith, c .if4 .taken))
 
 returns-5 : tie.Need-returns-5
 returns-5 c =
-    let view = c .before .before .before .before .before in
-    judged-right _ _ _ _ (view .before .is-view .ensures) (view .if1 .left) (c .before .before .before .before .if2 .left) _ _ _ _ (c .before .before .before .size-at .ensures)
-    (c .before .before .ptrs-at .ensures) (c .before .if3 .left) (omega (arith, c .if4 .left))
+    let size = c .before .before .before in
+    let cut = size .before in
+    let view = cut .before in
+    judged-right _ _ _ _ (view .before .is-view .ensures) (view .if1 .left) (cut .if2 .left) _ _ _ _ (size .size-at .ensures)
+    (c .before .before .ptrs-at .ensures) (omega (arith, c .before .if3 .left)) (omega (arith, c .if4 .left))
 
 pub judge-object-spec : {M : Type 1} → statement M
 judge-object-spec =

@@ -24,7 +24,9 @@ word-requires : tie.Need-word-requires Inv-loop μ-loop
 word-requires c κs = search needs
 
 loop-holds : tie.Need-loop-holds Inv-loop μ-loop
-loop-holds c = pointing-none _ _ (c .before .before .before .before .before .pre .0) (c .before .before .before .before .before .pre .1)
+loop-holds c =
+    let entry = c .before .before .before .before .before in
+    pointing-none _ _ (entry .pre .0) (entry .pre .1)
 
 add-from : tie.Need-add-from Inv-loop μ-loop
 add-from c = omega arith

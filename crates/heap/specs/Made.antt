@@ -10,11 +10,11 @@ use lib.ListN.{length, length-set, length-append, List·getD-append}
 use lib.Seq.{sets, length-sets, getD-set-same, getD-set-other}
 use Rattle.model.specs.Choice.{Mem}
 use Rattle.model.specs.Words.{wordAt}
-use Rattle.laws.specs.Stores.{sets-other, sets-at}
 use Rattle.model.specs.Heap.{markOf, rootOf, firstObject, kindAt, ptrsAt, sizeAt, kinds, kindIn, kindOf, objectOf, made, Object, Objects, Pointer, Heap}
-use Rattle.audit_heap.specs.First.{mem-append, mem-more, mem-right}
-use Rattle.audit_heap.specs.Objects.{SameHeader, ptrs-alike, size-alike, objects-alike}
-use Rattle.audit_heap.specs.Stores.{object-lies}
+use Rattle.laws.specs.Members.{mem-append, mem-more, mem-right}
+use Rattle.laws.specs.Stores.{sets-other, sets-at}
+use Rattle.heap.specs.Objects.{SameHeader, ptrs-alike, size-alike, objects-alike}
+use Rattle.heap.specs.Stores.{object-lies}
 
 -- one object more
 pub pointer-more : (v : ℕ) (os more : List ℕ) → Pointer os v → Pointer (os ++ more) v
@@ -24,7 +24,7 @@ pointer-more v os more (inr i) = inr (mem-more v os more i)
 pub pointer-new : (m : ℕ) (os : List ℕ) → Pointer (os ++ m ∷ []) m
 pointer-new m os = inr (mem-right m os (m ∷ []) (inl refl))
 
-pub mem-last : (q m : ℕ) (os : List ℕ) → Mem q (os ++ m ∷ []) → Mem q os ⊎ (q ≡ m)
+mem-last : (q m : ℕ) (os : List ℕ) → Mem q (os ++ m ∷ []) → Mem q os ⊎ (q ≡ m)
 mem-last q m os i = go (mem-append q os (m ∷ []) i)
   where
     go : Mem q os ⊎ Mem q (m ∷ []) → Mem q os ⊎ (q ≡ m)

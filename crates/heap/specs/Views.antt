@@ -7,7 +7,7 @@ use mathlib.Core.List.{List}
 use lib.Dec.{eqb}
 use Rattle.model.specs.Choice.{if_then_else_, Mem}
 use Rattle.model.specs.Heap.{markOf, firstObject, kindAt, ptrsAt, viewKind, view, noKind, kinds, kindOf, inPtrs, inPlain, maySetPlain, maySetPtr, Heap}
-use Rattle.audit_heap.specs.Objects.{object-of}
+use Rattle.heap.specs.Objects.{object-of}
 
 module _ (h : List ℕ) (q : ℕ) where
   -- the code's test is the row's
