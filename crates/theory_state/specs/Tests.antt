@@ -3,10 +3,10 @@ use Prim.Native.Nat.{ℕ}
 use mathlib.Core.Path.{_≡_, refl, sym}
 use mathlib.Core.Bool.{Bool, true, false, true≢false, _||_}
 use mathlib.Core.List.{List}
-use mathlib.Core.Logic.{inl, inr}
+use mathlib.Core.Logic.{inl, inr, _≢_}
 use lib.Dec.{eqb}
 use borrow.Author.Tests.{eq-eqb, eqb-true}
-use Rattle.model.specs.Choice.{if_then_else_, if-both, Test, all, All, all-true, member}
+use Rattle.model.specs.Choice.{if_then_else_, if-both, Test, all, All, all-true, Mem, member}
 use Rattle.model.specs.Heap.{Pointer, isPointer}
 use Rattle.laws.specs.Members.{member-in, in-member}
 
@@ -28,3 +28,8 @@ true-pointer os v (inr h) = rw (in-member v os h) (or-true (eqb v 0))
     or-true : (t : Bool) → (t || true) ≡ true
     or-true true = refl
     or-true false = refl
+
+-- one that is not nil
+pub is-object : (os : List ℕ) (v : ℕ) → Pointer os v → v ≢ 0 → Mem v os
+is-object os v (inl e) u = absurd (u e)
+is-object os v (inr o) u = o
