@@ -21,10 +21,11 @@ use Rattle.laws_file.specs.Rest.{restOf, rest-end, rest-inv, whole-inside, reco
 use Rattle.check_scan.specs.Marks.{stateIn}
 use Rattle.check_scan.specs.Heading.{Placed}
 use Rattle.check_rows.specs.Site.{Table}
-use Rattle.check_flow.specs.Own.{ownIn, own-alike}
-use Rattle.check_flow.specs.Takes.{Good, SameWay, take-alike, takeIn, in-set, in-unset, outer-alike}
-use Rattle.check_flow.specs.Faults.{takeAns, HandlerIn, endIn}
-use Rattle.check_flow.specs.Ways.{Here}
+use Rattle.check_ways.specs.Takes.{ownIn, takeIn}
+use Rattle.check_ways.specs.Faults.{takeAns, HandlerIn}
+use Rattle.check_ways.specs.Ways.{Here}
+use Rattle.check_flow.specs.Own.{own-alike}
+use Rattle.check_flow.specs.Alike.{Good, SameWay, take-alike, in-set, in-unset, outer-alike}
 use Rattle.check_flow.specs.declared.Verdict.{Verdict}
 use Rattle.check_flow.specs.declared.Verdict.the-variants.{Pass, Refuse}
 
@@ -60,6 +61,10 @@ head-first c l x xs e =
 whole-known : (f : List ℕ) (p : ℕ) → whole? f p ≡ true → bodyOf (byteAt f p) ≡ unknown → ⊥
 unfolding whole?
 whole-known f p e z = true≢false (sym e ∙ rw (eq-eqb (bodyOf (byteAt f p)) unknown z))
+
+-- the end of the procedure behind c heads
+abbrev pub endIn : List ℕ → ℕ → ℕ → ℕ → ℕ
+endIn table k c n = if ltb c k then getD table c 0 else n
 
 -- at p, behind c heads, in the procedure between h and e
 pub record Flowing (f m table : List ℕ) (k p c h e : ℕ) : Type 0 where

@@ -16,9 +16,7 @@ use Rattle.laws.specs.Members.{member-in}
 use Rattle.laws_file.specs.Walk.{instruction-below}
 use Rattle.laws_file.specs.Procedures.{endOf, end-low, own-head, own-end, between}
 use Rattle.check_scan.specs.Marks.{PartShows, starts-here}
-
-abbrev pub ownIn : List ℕ → ℕ → ℕ → ℕ → Bool
-ownIn m h e q = if ltb h q then (if ltb q e then not (eqb (getD m (3 * q) 0) none) else false) else false
+use Rattle.check_ways.specs.Takes.{ownIn}
 
 module _ (f ps : List ℕ) (e : recordsOf f ≡ starts ps) where
   module _ (k : Known) (m : List ℕ) (S : PartShows f k m) (p : ℕ) (n : ℕ) (n-is : procAt f p ≡ n) (n-low : n < procs f) where

@@ -17,7 +17,7 @@ use Rattle.laws_file.specs.Walk.{HeadsHold, heads-right, entry-proc, file-walk,
 use Rattle.check_scan.specs.Marks.{PartShows, marked, marked-shows}
 use Rattle.check_scan.specs.Scanning.{Comes, Scanned, listed-count, listed-all}
 use Rattle.check_scan.specs.Heading.{ScanMarked, Placed}
-use Rattle.check_flow.specs.Takes.{Fit}
+use Rattle.check_flow.specs.Alike.{Fit}
 use Rattle.check_flow.specs.Flowing.{Begun, Flowed, refuse-pass}
 use Rattle.check_scan.specs.declared.RecordsFound.{RecordsFound}
 use Rattle.check_scan.specs.declared.RecordsFound.the-variants.{Broken, Whole}

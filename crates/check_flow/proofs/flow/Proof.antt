@@ -4,7 +4,7 @@ use Prim.Native.Nat.{_-_}
 use native.Mathlib.Omega.{arith}
 use lib.ListN.{length}
 use Rattle.laws_file.specs.Walk.{after-above, after-head}
-use Rattle.check_flow.specs.Ways.{Bounds}
+use Rattle.check_ways.specs.Ways.{Bounds}
 use Rattle.check_flow.specs.Flowing.{Flowing, begun-whole, begun-table, flowing-start, flowing-inside, flowing-head, flowing-here, flowing-fault, flowing-take, flowing-end}
 use Rattle.check_flow.proofs.flow.Statement.{statement}
 use Rattle.check_flow.proofs.flow.Tie as tie
