@@ -7,7 +7,8 @@ ghost use Rattle.model.specs.File.{byteAt, operand};
 ghost use Rattle.model.specs.Sound.{mainAt, ptrAt, innerAt};
 ghost use Rattle.numbers.specs.Small.{Small};
 ghost use Rattle.check_scan.specs.Heading.{Placed};
-ghost use Rattle.audit_places.specs.Places.{Tabled, AuditReady, endOf, inProc, HeadFor};
+ghost use Rattle.laws_file.specs.Procedures.{endOf};
+ghost use Rattle.audit_places.specs.Places.{Tabled, AuditReady, inProc, HeadFor};
 use code_file::Head;
 use model::NONE_OPEN;
 use model::PROCS_MOST;
@@ -67,7 +68,7 @@ pub fn inner_at(map: &[u16], p: usize) -> usize
 // Where procedure `n` ends: at the next head, or with the file.
 fn end_of(file: &[u8], table: &[usize; PROCS_MOST], k: usize, n: usize) -> usize
     requires { ⌜ Placed (now file) (now table) k × (n < k) ⌝ }
-    ensures { λ r. ⌜ r ≡ endOf (now (file .entry)) n ⌝ }
+    ensures { λ r. ⌜ r ≡ endOf (now (file .entry)) (n + 1) ⌝ }
 {
     let next = n + 1;
     if next < k { table[next] } else { file.len() }

@@ -1,18 +1,18 @@
 -- One control record against a passed file and its map: the tests that the code makes are the model's, though in another order, and what
 -- one record leaves of `stack?` to the records below.
-use Prim.Native.Nat.{ℕ, zero, suc, _+_, _-_, _<_, _≤_}
+use Prim.Native.Nat.{ℕ, _<_, _≤_}
 use mathlib.Core.Bool.{Bool, true, false, true≢false, not, _&&_}
 use mathlib.Core.List.{List, _∷_}
 use mathlib.Core.Path.{_≡_, refl, ap, sym, _∙_}
 use native.Mathlib.Decide.{decLt}
 use native.Mathlib.Omega.{arith}
 use lib.Dec.{eqb}
-use lib.ListN.{length}
+use lib.ListN.{length, List·getD-eq-default}
 use borrow.Author.Tests.{eq-eqb, ne-eqb, eqb-true}
 use Rattle.model.specs.Choice.{if_then_else_, Test, all, all-true}
-use Rattle.model.specs.File.{codes, bodies, bodyOf, byteAt, operand, after, procAt, insOf, insAt, paramsMain, paramsPtr}
+use Rattle.model.specs.File.{byteAt, operand, procAt, insOf, insAt, paramsMain, paramsPtr}
 use Rattle.model.specs.Checker.{none, Effect, effectOf}
-use Rattle.model.specs.Control.{Rec, Frame, Handler, asFrame, asHandler, frameRec, handlerRec, down}
+use Rattle.model.specs.Control.{Rec, Frame, Handler, asFrame, asHandler, frameRec, handlerRec}
 use Rattle.model.specs.Sound.{Look, mainAt, isIns, isCode, callBefore, frameTests, firstTests, callerTests, caller, handlerTests, outside, stack?}
 use Rattle.control_stack.specs.declared.Frame.{Frame as FrameRead}
 use Rattle.control_stack.specs.declared.Handler.{Handler as HandlerRead}
@@ -22,7 +22,7 @@ use Rattle.audit_records.specs.declared.Below.{Below}
 use Rattle.audit_records.specs.declared.Below.the-variants.{End, On}
 use Rattle.laws.specs.Tests.{fails-at}
 use Rattle.code_file.specs.declared.Head.{Head}
-use Rattle.audit_places.specs.Places.{MapShows, beyond, inProc, HeadFor}
+use Rattle.audit_places.specs.Places.{MapShows, inProc, HeadFor}
 use Rattle.model.specs.Calls.{mainMost, ptrMost}
 
 -- the struct of the code as the model's record
@@ -56,12 +56,8 @@ pub record BasesFit (w : FrameRead) : Type 0 where
   pub main : w .«main_base» ≤ mainMost
   pub ptr : w .«ptr_base» ≤ ptrMost
 
--- a call, by its code: the place behind it, and what it pops, which is its procedure's parameters
+-- a call, by its code: what it pops, which is its procedure's parameters
 module _ (f : List ℕ) (c : ℕ) (b : byteAt f c ≡ 72) where
-  pub call-after : after f c ≡ c + 3
-  unfolding after bodyOf bodies codes
-  call-after = rw b (omega arith)
-
   pub call-pops : (n : ℕ) → operand f c ≡ n →
       (effectOf f (insAt f c) .popMain ≡ paramsMain f n) × (effectOf f (insAt f c) .popPtr ≡ paramsPtr f n)
   unfolding insAt insOf effectOf
@@ -76,7 +72,7 @@ module _ (f : List ℕ) (c : ℕ) (b : byteAt f c ≡ 72) where
     where
       inside : Dec (c < length f) → c < length f
       inside (yes l) = l
-      inside (no l) = let z = beyond f c 0 (omega arith) in absurd (omega arith)
+      inside (no l) = let z = List·getD-eq-default f 0 {n = c} (omega arith) in absurd (omega arith)
 
       here : (t : Bool) → not t ≡ false → t ≡ true
       here true e = refl
@@ -145,10 +141,6 @@ tells (On s) k = k s
 abbrev pub NearBelow : Below → Type 0
 NearBelow (End t) = Unit {0}
 NearBelow (On s) = Near s
-
-pub down-length : (l : List ℕ) (n : ℕ) → length (down l n) ≡ n
-down-length l zero = refl
-down-length l (suc n) = ap suc (down-length l n)
 
 -- what a record tells, on top of rs
 pub record RecordTells (f map : List ℕ) (lm lp : ℕ) (w : Rec) (rs : List Rec) (s : LookRead) (r : Below) : Type 0 where

@@ -8,17 +8,16 @@ use native.Mathlib.Omega.{arith}
 use lib.ListN.{length, replicate, length-replicate}
 use borrow.Author.Tests.{eq-eqb, ne-eqb}
 use Rattle.model.specs.Choice.{if_then_else_, Test, atMost, all, All, all-true}
-use Rattle.model.specs.File.{byteAt, heads, isHead, headOf, headKind, procsMost}
+use Rattle.model.specs.File.{headOf, procsMost}
 use Rattle.model.specs.Heap.{clean, heapOf, objectsOf}
 use Rattle.model.specs.Control.{registerBytes, recordWords}
-use Rattle.model.specs.Calls.{pass, refuse, verdictOf, Checked, checked, answered, checkOf, Lent, withMap, After, answers, lengthTests, afterMap}
-use Rattle.model.specs.Calls.{afterCheck, tested, mainMost, ptrMost, ctlMost, heapMost}
+use Rattle.model.specs.Calls.{pass, refuse, verdictOf, Checked, checked, answered, checkOf, Lent, withMap, After, answers, lengthTests, afterMap, afterCheck, tested, mainMost, ptrMost, ctlMost, heapMost}
 use Rattle.model.specs.Calls as model
 use Rattle.theory_checker.specs.Exact.{passed-as}
-use Rattle.laws_file.specs.Walk.{first-head, after-head}
-use Rattle.laws_file.specs.Rest.{rest-inv, whole-inside, records-first}
+use Rattle.laws_file.specs.Procedures.{head-zero, head-whole}
 use Rattle.check_scan.specs.Heading.{Placed}
 use Rattle.checker.specs.Parts.{answerOf, Checks}
+use Rattle.check_flow.specs.Flowing.{refuse-pass}
 use Rattle.check_flow.specs.declared.Verdict.{Verdict}
 use Rattle.check_flow.specs.declared.Verdict.the-variants.{Pass, Refuse}
 use Rattle.code_file.specs.Heads.{HeadIs, procHead, head-of}
@@ -71,19 +70,11 @@ pub record AdmittedMarks (l : Lent) (map table : List ℕ) (marks : List Bool) (
 
 -- the first head of a passed file stands at place 0, and is whole
 pub first-whole : (f map new : List ℕ) → verdictOf f map ≡ pass new → (headOf f 0 ≡ 0) × (6 < length f)
-unfolding headOf heads isHead
 first-whole f map new e =
     let P = passed-as f map new e .formed in
-    let w = P .records in
-    let z = first-head f (P .places) w in
-    let r = rest-inv f 0 (P .places) (P .some) (sym (records-first f z) ∙ w) in
-    let a = whole-inside f 0 (r .0) in
-    let b = after-head f (P .places) w 0 z in
-    (rw (w, r .1 .2, eq-eqb (byteAt f 0) headKind z), omega arith)
-
--- a refusal is no pass
-refuse-pass : {A : Type 0} (n p k : ℕ) → Refuse n p ≡ Pass k → A
-refuse-pass n p k e = let y : _≡_ {A = ℕ} 0 1 = cc in absurd (omega arith)
+    let z = head-zero f (P .places) (P .records) in
+    let w = head-whole f (P .places) (P .records) 0 in
+    (z, omega arith)
 
 -- the check refused the file
 not-passed : (l : Lent) (map : List ℕ) (w : model.Verdict) (v : Verdict) → checked (answerOf v) map ≡ answered w →

@@ -1,10 +1,12 @@
 -- Start: a refusal is the model's, and zeroed stacks with the first registers are the state that it begins with.
-use Prim.Native.Nat.{ℕ, zero, suc}
-use mathlib.Core.List.{List, [], _∷_}
-use mathlib.Core.Path.{_≡_, refl, ap, sym, _∙_}
-use lib.ListN.{length, getD, set, replicate}
+use Prim.Native.Nat.{ℕ}
+use mathlib.Core.List.{List}
+use mathlib.Core.Path.{_≡_, ap, sym, _∙_}
+use native.Mathlib.Omega.{arith}
+use lib.ListN.{set}
 use lib.Seq.{set-getD}
 use Rattle.model.specs.Words.{cut}
+use Rattle.laws.specs.Cuts.{cut-zero}
 use Rattle.model.specs.File.{entry}
 use Rattle.model.specs.Control.{frameRec, putRec, regBytes}
 use Rattle.model.specs.Calls.{Lent, withMap, answers, firstFrame, started, startOf, leaving}
@@ -14,23 +16,13 @@ use Rattle.check_flow.specs.declared.Verdict.the-variants.{Pass, Refuse}
 use Rattle.model.specs.declared.Regs.{Regs}
 use Rattle.model.specs.declared.Answer.the-variants.{Ready, Refused}
 
--- zeroed stacks, and the first frame's record, which is five zeros
-pub cut-all : (l : List ℕ) → cut 0 l ≡ replicate (length l) 0
-unfolding cut
-cut-all [] = refl
-cut-all (w ∷ l) = ap (λ (r : List ℕ). 0 ∷ r) (cut-all l)
+-- the first frame's record is five zeros, as the stack is already
+zeroed : (l : List ℕ) (i : ℕ) → set (cut 0 l) i 0 ≡ cut 0 l
+zeroed l i = ap (λ (w : ℕ). set (cut 0 l) i w) (sym (cut-zero 0 l i (omega arith))) ∙ set-getD (cut 0 l) i 0
 
-zero-at : (n i : ℕ) → _≡_ {A = ℕ} (getD (replicate n 0) i 0) 0
-zero-at zero i = refl
-zero-at (suc n) zero = refl
-zero-at (suc n) (suc i) = zero-at n i
-
-set-zero : (n i : ℕ) → _≡_ {A = List ℕ} (set (replicate n 0) i 0) (replicate n 0)
-set-zero n i = ap (λ (w : ℕ). set (replicate n 0) i w) (sym (zero-at n i)) ∙ set-getD (replicate n 0) i 0
-
-pub first-record : (n : ℕ) → putRec (replicate n 0) 0 (frameRec firstFrame) ≡ replicate n 0
+first-record : (l : List ℕ) → putRec (cut 0 l) 0 (frameRec firstFrame) ≡ cut 0 l
 unfolding putRec
-first-record n = rw (set-zero n 0, set-zero n 1, set-zero n 2, set-zero n 3, set-zero n 4)
+first-record l = rw (zeroed l 0, zeroed l 1, zeroed l 2, zeroed l 3, zeroed l 4)
 
 -- the first registers, in numbers
 abbrev pub firstRegs : Regs
@@ -41,8 +33,8 @@ module _ (l : Lent) (map table : List ℕ) (v : Verdict) (A : Admitted l map tab
   unfolding startOf
   start-refused n p e = tested-refused l map table v A _ n p e
 
-  pub start-ready : (k : ℕ) → v ≡ Pass k → (main ptr ctl bytes : List ℕ) → main ≡ replicate (length (l .main)) 0 →
-      ptr ≡ replicate (length (l .ptr)) 0 → ctl ≡ replicate (length (l .ctl)) 0 → bytes ≡ regBytes firstRegs →
+  pub start-ready : (k : ℕ) → v ≡ Pass k → (main ptr ctl bytes : List ℕ) → main ≡ cut 0 (l .main) →
+      ptr ≡ cut 0 (l .ptr) → ctl ≡ cut 0 (l .ctl) → bytes ≡ regBytes firstRegs →
       answers Ready
       (record { file = l .file; map = map; main = main; ptr = ptr; ctl = ctl; heap = l .heap; bytes = bytes }) ≡ startOf l
   unfolding startOf started entry
@@ -52,8 +44,5 @@ module _ (l : Lent) (map table : List ℕ) (v : Verdict) (A : Admitted l map tab
       (rw (
         ← tested-on l map table v A (λ l′. answers Ready (leaving l′ (started l′))) k e,
         z,
-        cut-all (l .main),
-        cut-all (l .ptr),
-        cut-all (l .ctl),
-        first-record (length (l .ctl)),
+        first-record (l .ctl),
       ))

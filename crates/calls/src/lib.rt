@@ -1,6 +1,6 @@
 // start and run over lent lists.
 ghost use mathlib.Core.Path.{_≡_};
-ghost use lib.ListN.{length, replicate};
+ghost use Rattle.model.specs.Words.{cut};
 ghost use Rattle.model.specs.Calls.{answers, startOf, runOf};
 ghost use Rattle.calls.specs.Starts.{firstRegs};
 use call_tests::Tested;
@@ -13,13 +13,10 @@ use model::Regs;
 
 // Every word is 0.
 fn clear(l: &mut [u32])
-    ensures { λ _. ⌜ now (l .exit) ≡ replicate (length (now (l .entry))) 0 ⌝ }
+    ensures { λ _. ⌜ now (l .exit) ≡ cut 0 (now (l .entry)) ⌝ }
 {
-    let mut i = 0;
-    while i < l.len() {
-        l[i] = 0;
-        i += 1;
-    }
+    let all = l.len();
+    apply_words::cut_to(l, 0, all);
 }
 
 // At the first instruction of procedure 0, in its frame, with empty stacks.

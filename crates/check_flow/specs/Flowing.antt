@@ -11,21 +11,21 @@ use lib.ListN.{length, getD, drop, length-drop}
 use lib.Seq.{getD-drop, drop-drop}
 use borrow.Author.Tests.{lt-ltb, le-ltb, eq-eqb, ne-eqb, eqb-true}
 use Rattle.model.specs.Choice.{if_then_else_, Mem, member}
-use Rattle.model.specs.File.{unknown, bodies, bodyOf, byteAt, after, whole?, Records, starts, recordsOf, startsIn, isHead, select, instructions, heads}
-use Rattle.model.specs.File.{procs, headOf, procAt, greatestMain, greatestPtr, fileMost, headKind, headSize}
+use Rattle.model.specs.File.{unknown, bodyOf, byteAt, after, whole?, Records, starts, recordsOf, startsIn, isHead, select, instructions, heads, procs, headOf, procAt, greatestMain, greatestPtr, fileMost, headKind}
 use Rattle.model.specs.Checker.{none, State, state, isSet, Known, stateAt, innermost, own, firsts, Taking, bad, good, refused, passed, goOn, takeOne, takeAll, flow, mapFrom}
-use Rattle.laws_file.specs.Walk.{instructions-others, instructions-are, Walk, file-walk, walk-above, records-walk, after-above, after-head, head-in}
-use Rattle.laws_file.specs.Walk.{first-head, instruction-below, HeadsHold, procs-some}
-use Rattle.laws.specs.Members.{member-in, in-member, select-in, getD-in, in-select}
+use Rattle.laws_file.specs.Walk.{instructions-others, instructions-are, Walk, walk-above, records-walk, after-above, first-head, instruction-below, HeadsHold}
+use Rattle.laws_file.specs.Procedures.{endOf, head-zero, head-none, head-whole, end-low, between}
+use Rattle.laws.specs.Members.{member-in, in-member, select-in, in-select}
 use Rattle.theory_checker.specs.Flow.{own-in, keeps-shape, flow-keeps, flow-rest}
 use Rattle.laws_file.specs.Rest.{restOf, rest-end, rest-inv, whole-inside, records-first}
 use Rattle.check_scan.specs.Marks.{stateIn}
 use Rattle.check_scan.specs.Heading.{Placed}
 use Rattle.check_rows.specs.Site.{Table}
-use Rattle.check_flow.specs.Own.{endOf, between, end-low, ownIn, own-alike}
-use Rattle.check_flow.specs.Takes.{Good, SameWay, take-alike, takeIn, in-set, in-unset, outer-alike}
-use Rattle.check_flow.specs.Faults.{takeAns, HandlerIn, endIn}
-use Rattle.check_flow.specs.Ways.{Here}
+use Rattle.check_ways.specs.Takes.{ownIn, takeIn}
+use Rattle.check_ways.specs.Faults.{takeAns, HandlerIn}
+use Rattle.check_ways.specs.Ways.{Here}
+use Rattle.check_flow.specs.Own.{own-alike}
+use Rattle.check_flow.specs.Alike.{Good, SameWay, take-alike, in-set, in-unset, outer-alike}
 use Rattle.check_flow.specs.declared.Verdict.{Verdict}
 use Rattle.check_flow.specs.declared.Verdict.the-variants.{Pass, Refuse}
 
@@ -45,6 +45,10 @@ abbrev pub Flowed : List ℕ → List ℕ → ℕ → Verdict → Type 0
 Flowed f m n (Pass j) = (j ≡ n) × ((k : Known) × (flow f ≡ passed k) × (m ≡ mapFrom k (length f) 0))
 Flowed f m n (Refuse r p) = flow f ≡ refused r p
 
+-- a refusal is no pass
+pub refuse-pass : {A : Type 0} (n p k : ℕ) → Refuse n p ≡ Pass k → A
+refuse-pass n p k z = let v : _≡_ {A = ℕ} 0 1 = cc in absurd (omega arith)
+
 abbrev pub ins : List ℕ → List ℕ → List ℕ
 ins f ps = select (λ p. not (isHead f p)) ps
 
@@ -58,9 +62,9 @@ whole-known : (f : List ℕ) (p : ℕ) → whole? f p ≡ true → bodyOf (byteA
 unfolding whole?
 whole-known f p e z = true≢false (sym e ∙ rw (eq-eqb (bodyOf (byteAt f p)) unknown z))
 
-pub head-size : (f : List ℕ) (p : ℕ) → byteAt f p ≡ headKind → after f p ≡ p + headSize
-unfolding after bodyOf bodies
-head-size f p z = rw z (omega arith)
+-- the end of the procedure behind c heads
+abbrev pub endIn : List ℕ → ℕ → ℕ → ℕ → ℕ
+endIn table k c n = if ltb c k then getD table c 0 else n
 
 -- at p, behind c heads, in the procedure between h and e
 pub record Flowing (f m table : List ℕ) (k p c h e : ℕ) : Type 0 where
@@ -97,49 +101,18 @@ module _ (f m₀ table : List ℕ) (k : ℕ) (B : Begun f m₀ table k) where
         low = omega arith;
       }
 
-  -- the first head stands at place 0
-  head-zero : headOf f 0 ≡ 0
-  unfolding headOf heads isHead
-  head-zero =
-      let e = B .records in
-      let z = first-head f (B .places) e in
-      let r = rest-inv f 0 (B .places) (B .some) (sym (records-first f z) ∙ e) in
-      rw (e, r .1 .2, eq-eqb (byteAt f 0) headKind z)
-
   pub begun-table : Table f table k
   begun-table =
       record {
         count = B .placed .count;
         few = B .placed .few;
         heads = B .placed .heads;
-        none = λ n l. past n (rw (B .placed .count) at l);
-        whole = λ n. at n (decLt n (procs f));
+        none = λ n l. head-none f (B .places) (B .records) n (rw (B .placed .count) at l);
+        whole = head-whole f (B .places) (B .records);
       }
-    where
-      beyond : (l : List ℕ) (n : ℕ) → length l ≤ n → getD l n 0 ≡ 0
-      beyond [] n w = refl
-      beyond (x ∷ l) zero w = absurd (omega arith)
-      beyond (x ∷ l) (suc n) w = beyond l n (omega arith)
-
-      past : (n : ℕ) → procs f ≤ n → headOf f n ≡ 0
-      past n l = unfold headOf procs in beyond (heads f) n l
-
-      room : (g : ℕ) → Mem g (heads f) → g + 6 < length f
-      room g i =
-          let w = head-in f (B .places) (B .records) g i in
-          let a = walk-above f 0 (B .places) (file-walk f (B .places) (B .records)) g (w .0) .1 in
-          let b = after-head f (B .places) (B .records) g (w .1) in
-          omega arith
-
-      at : (n : ℕ) → Dec (n < procs f) → headOf f n + 6 < length f
-      at n (yes l) = room (headOf f n) (unfold headOf procs in getD-in (heads f) n 0 l)
-      at n (no l) =
-          let z = procs-some f (B .places) (B .records) in
-          let first : headOf f 0 + 6 < length f = room (headOf f 0) (unfold headOf procs in getD-in (heads f) 0 0 z) in
-          rw (past n (omega arith)) (let q = head-zero in omega arith)
 
   pub begun-whole : 0 + 6 < length f
-  begun-whole = let w = begun-table .whole 0 in let z = head-zero in omega arith
+  begun-whole = let w = begun-table .whole 0 in let z = head-zero f (B .places) (B .records) in omega arith
 
   module _ (m : List ℕ) (p c h e : ℕ) (F : Flowing f m table k p c h e) (below : p < length f) where
     next-is : (whole? f p ≡ true) × ((qs : List ℕ) × (restOf f (after f p) ≡ starts qs) × (F .rest ≡ p ∷ qs))
@@ -250,7 +223,7 @@ module _ (f m₀ table : List ℕ) (k : ℕ) (B : Begun f m₀ table k) where
       proc-is : procAt f p ≡ c - 1
       proc-is =
           let I = in-proc in
-          let z : suc (c - 1) ≡ c = let a = I .one in omega arith in
+          let z : c - 1 + 1 ≡ c = let a = I .one in omega arith in
           between f (B .places) (B .records) (c - 1) p n-low (let a = I .head in let b = I .above in omega arith) (rw z (I .before))
 
       held : HandlerIn m (stateIn m p .inner)
@@ -281,9 +254,9 @@ module _ (f m₀ table : List ℕ) (k : ℕ) (B : Begun f m₀ table k) where
       owns q =
           let I = in-proc in
           let b = I .one in
-          let z : suc (c - 1) ≡ c = omega arith in
+          let z : c - 1 + 1 ≡ c = omega arith in
           rw (I .head, I .end ∙ ap (endOf f) (sym z))
-          (own-alike f (B .places) (B .records) (F .known) m (F .good .shows) p (c - 1) proc-is n-low head-zero q)
+          (own-alike f (B .places) (B .records) (F .known) m (F .good .shows) p (c - 1) proc-is n-low q)
 
       -- the next record is an instruction of the procedure, if it starts before the end
       own-next : ownIn m h e (after f p) ≡ ltb (after f p) e
@@ -323,7 +296,7 @@ module _ (f m₀ table : List ℕ) (k : ℕ) (B : Begun f m₀ table k) where
 
           go : Dec (after f p < e) → ownIn m h e (after f p) ≡ ltb (after f p) e
           go (yes l) =
-              let z : suc (c - 1) ≡ c = let a = I .one in omega arith in
+              let z : c - 1 + 1 ≡ c = let a = I .one in omega arith in
               let pq : procAt f (after f p) ≡ c - 1 =
               between f (B .places) (B .records) (c - 1) (after f p) n-low (let a = I .head in let b = I .above in let u = up in omega arith) (rw (z, ← I .end) l) in
               let own? : own f p (after f p) ≡ true =

@@ -1,5 +1,3 @@
 pub mod Own
-pub mod Takes
-pub mod Faults
-pub mod Ways
+pub mod Alike
 pub mod Flowing

@@ -10,11 +10,11 @@ use lib.Dec.{ltb, eqb}
 use lib.ListN.{length, getD}
 use borrow.Author.Tests.{eq-eqb, ne-eqb, lt-ltb, le-ltb, le-leb, lt-leb}
 use Rattle.model.specs.Choice.{if_then_else_, Test, same, atMost, yes?, all, All, all-true, member}
-use Rattle.model.specs.File.{byteAt, starts, recordsOf, instructions, heads, procs, headOf, entry, headTests, wrong, right, headsFrom, headsOf}
-use Rattle.model.specs.File.{paramsMain, paramsPtr, fileMost, headSize}
+use Rattle.model.specs.File.{byteAt, starts, recordsOf, instructions, heads, procs, headOf, entry, headTests, wrong, right, headsFrom, headsOf, paramsMain, paramsPtr, fileMost, headSize}
 use Rattle.model.specs.Checker.{none, state, firsts}
-use Rattle.laws_file.specs.Walk.{file-walk, walk-above, head-in, after-head, instruction-below}
-use Rattle.laws.specs.Members.{getD-in, member-in}
+use Rattle.laws_file.specs.Walk.{instruction-below}
+use Rattle.laws_file.specs.Procedures.{head-whole}
+use Rattle.laws.specs.Members.{member-in}
 use Rattle.code_file.specs.Heads.{procHead, HeadIs, head-of}
 use Rattle.code_file.specs.declared.Head.{Head}
 use Rattle.check_scan.specs.Marks.{putIn, PartShows, starts-here, put-shows}
@@ -146,14 +146,7 @@ module _ {f m₀ table : List ℕ} {n last : ℕ} (M : ScanMarked f m₀ table n
         entry-is = rw head-is
 
         pub heading-whole : p + 6 < length f
-        unfolding headOf procs
-        heading-whole =
-            let e = M .whole in
-            let w = head-in f (M .places) e (headOf f k) (getD-in (heads f) k 0 one-more) in
-            let a = walk-above f 0 (M .places) (file-walk f (M .places) e) (headOf f k) (w .0) .1 in
-            let b = after-head f (M .places) e (headOf f k) (w .1) in
-            let c = head-is in
-            omega arith
+        heading-whole = rw (← head-is) (head-whole f (M .places) (M .whole) k)
 
         starts-are : startsAt m (length f) (p + headSize) ≡ member (p + headSize) (instructions f)
         unfolding startsAt

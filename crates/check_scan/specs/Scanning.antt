@@ -8,7 +8,7 @@ use mathlib.Core.Path.{_≡_, refl, ap, sym, _∙_}
 use native.Mathlib.Decide.{ℕ-discrete, decLt}
 use native.Mathlib.Omega.{arith}
 use lib.Dec.{ltb, eqb}
-use lib.ListN.{length, getD, set, replicate, drop, length-set, length-replicate, length-drop}
+use lib.ListN.{length, getD, set, replicate, drop, length-set, length-replicate, length-drop, List·getD-eq-default}
 use lib.Seq.{getD-set-same, getD-set-other, getD-drop, drop-drop}
 use borrow.Author.Tests.{eq-eqb, ne-eqb, lt-ltb, le-ltb}
 use Rattle.model.specs.Choice.{if_then_else_}
@@ -109,14 +109,9 @@ module _ (table hs : List ℕ) (k last : ℕ) (L : Listed table k last hs []) wh
   pub listed-all : (n : ℕ) → n < 64 → getD table n 0 ≡ getD hs n 0
   listed-all n l = L .placed n l ∙ at (decLt n k)
     where
-      beyond : (l : List ℕ) (n : ℕ) → length l ≤ n → getD l n 0 ≡ 0
-      beyond [] n w = refl
-      beyond (x ∷ l) zero w = absurd (omega arith)
-      beyond (x ∷ l) (suc n) w = beyond l n (omega arith)
-
       at : Dec (n < k) → (if ltb n k then getD hs n 0 else 0) ≡ getD hs n 0
       at (yes b) = rw (lt-ltb n k b)
-      at (no b) = let c = listed-count in rw (le-ltb n k (omega arith)) (sym (beyond hs n (omega arith)))
+      at (no b) = let c = listed-count in rw (le-ltb n k (omega arith)) (sym (List·getD-eq-default hs 0 (omega arith)))
 
 -- what a scan comes to
 abbrev pub Comes : List ℕ → List ℕ → List ℕ → List ℕ → RecordsFound → Type 0

@@ -9,8 +9,7 @@ use lib.Dec.{eqb}
 use lib.ListN.{length, getD, drop, replicate}
 use borrow.Author.Tests.{eq-eqb, eqb-true, le-leb, lt-leb}
 use Rattle.model.specs.Choice.{if_then_else_}
-use Rattle.model.specs.File.{byteAt, Records, recordsOf, startsIn, isHead, select, heads, wrong, right, headsOf, headOf, entry, procs, paramsMain}
-use Rattle.model.specs.File.{paramsPtr, headTests, fileMost, procsMost}
+use Rattle.model.specs.File.{byteAt, Records, recordsOf, startsIn, isHead, select, heads, wrong, right, headsOf, headOf, entry, procs, paramsMain, paramsPtr, headTests, fileMost, procsMost}
 use Rattle.model.specs.Checker.{none, Known, stateAt, isSet, firsts, first, mapFrom}
 use Rattle.model.specs.Calls.{overMap, wiped, pass, refuse, scanned, verdictOf, checked, answered, checkOf}
 use Rattle.theory_checker.specs.Flow.{DepthsWithin}
@@ -18,8 +17,8 @@ use Rattle.laws_file.specs.Walk.{HeadsHold, heads-right, entry-proc, file-walk,
 use Rattle.check_scan.specs.Marks.{PartShows, marked, marked-shows}
 use Rattle.check_scan.specs.Scanning.{Comes, Scanned, listed-count, listed-all}
 use Rattle.check_scan.specs.Heading.{ScanMarked, Placed}
-use Rattle.check_flow.specs.Takes.{Fit}
-use Rattle.check_flow.specs.Flowing.{Begun, Flowed}
+use Rattle.check_flow.specs.Alike.{Fit}
+use Rattle.check_flow.specs.Flowing.{Begun, Flowed, refuse-pass}
 use Rattle.check_scan.specs.declared.RecordsFound.{RecordsFound}
 use Rattle.check_scan.specs.declared.RecordsFound.the-variants.{Broken, Whole}
 use Rattle.check_flow.specs.declared.Verdict.{Verdict}
@@ -146,9 +145,6 @@ pub fill-kept : (f m table : List ℕ) (v : Verdict) → ((n p : ℕ) → v ≡ 
 fill-kept f m table (Pass n) h L =
     record { is = λ map. rw (L .1 map, ← L .2); placed = λ k e. let w : n ≡ k = cc in rw w at (L .3) }
 fill-kept f m table (Refuse n p) h L = absurd (h n p refl)
-
-refuse-pass : {A : Type 0} (n p k : ℕ) → Refuse n p ≡ Pass k → A
-refuse-pass n p k z = let v : _≡_ {A = ℕ} 0 1 = cc in absurd (omega arith)
 
 pub fill-refused : (f m m′ table : List ℕ) (v : Verdict) (n p : ℕ) → v ≡ Refuse n p → Looked f m table v → m′ ≡ replicate (length m) none →
     length m ≡ 3 * length f → Filled f m′ table (Refuse n p)

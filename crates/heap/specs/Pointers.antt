@@ -3,10 +3,10 @@ use Prim.Native.Nat.{ℕ}
 use mathlib.Core.Path.{_≡_, refl}
 use mathlib.Core.Bool.{Bool, true, false, _||_}
 use mathlib.Core.List.{List}
-use mathlib.Core.Logic.{inl, inr}
+use mathlib.Core.Logic.{inl, inr, _≢_}
 use lib.Dec.{eqb}
 use borrow.Author.Tests.{eq-eqb, eqb-true}
-use Rattle.model.specs.Choice.{member}
+use Rattle.model.specs.Choice.{member, Mem}
 use Rattle.model.specs.Heap.{Pointer, isPointer}
 use Rattle.laws.specs.Members.{member-in, in-member}
 
@@ -26,3 +26,8 @@ true-pointer os v (inr i) = go (eqb v 0)
     go : (t : Bool) → t || member v os ≡ true
     go true = refl
     go false = in-member v os i
+
+-- one that is not nil
+pub is-object : (os : List ℕ) (v : ℕ) → Pointer os v → v ≢ 0 → Mem v os
+is-object os v (inl e) u = absurd (u e)
+is-object os v (inr o) u = o

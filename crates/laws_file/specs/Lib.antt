@@ -1,4 +1,5 @@
 pub mod Walk
 pub mod Rest
+pub mod Procedures
 pub mod Codes
 pub mod Kinds

@@ -11,10 +11,8 @@ use native.Mathlib.Omega.{arith}
 use lib.Dec.{ltb, leb, eqb}
 use lib.ListN.{length, getD}
 use borrow.Author.Tests.{ltb-true, ltb-false, leb-true, eqb-true, eqb-false, not-true, le-leb, lt-leb, eq-eqb}
-use Rattle.model.specs.Choice.{all, All, all-true, true-all, Mem, if_then_else_, same}
-use Rattle.model.specs.File.{byteAt, headKind, headSize, codes, bodies, bodyIn, bodyOf, unknown, after, whole?, Records, broken, starts, more}
-use Rattle.model.specs.File.{recordsFrom, recordsOf, startsIn, isHead, listed, isInstruction, select, heads, instructions, procs, headOf, entry, upTo}
-use Rattle.model.specs.File.{procAt, headTests, wrong, right, headsFrom, headsOf}
+use Rattle.model.specs.Choice.{all, All, all-true, true-all, Mem, if_then_else_}
+use Rattle.model.specs.File.{byteAt, headKind, headSize, codes, bodies, bodyIn, bodyOf, unknown, after, whole?, Records, broken, starts, more, recordsFrom, recordsOf, startsIn, isHead, listed, isInstruction, select, heads, instructions, procs, headOf, entry, upTo, procAt, headTests, wrong, right, headsFrom, headsOf}
 use Rattle.laws.specs.Choices.{both-true}
 use Rattle.laws.specs.Members.{Rising, getD-in, select-in, member-in, select-rising, has-some, in-select}
 
@@ -33,6 +31,10 @@ records-inv true true p (starts qs) ps e = inr (refl, refl, (qs, refl, cc))
 pub after-above : (f : List ℕ) (p : ℕ) → p < after f p
 unfolding after
 after-above f p = omega arith
+
+pub after-head : (f : List ℕ) (h : ℕ) → byteAt f h ≡ headKind → after f h ≡ h + headSize
+unfolding after bodyOf bodies
+after-head f h b = rw b (omega arith)
 
 pub records-walk : (f : List ℕ) (n p : ℕ) (ps : List ℕ) → length f ≤ p + n → recordsFrom f n p ≡ starts ps → Walk f p ps
 unfolding recordsFrom whole?
@@ -245,10 +247,6 @@ module _ (f ps : List ℕ) (e : recordsOf f ≡ starts ps) where
   unfolding headTests
   entry-in n h = member-in (entry f n) (instructions f) (h .1 .1 .1 .1 .0)
 
-  pub after-head : (h : ℕ) → byteAt f h ≡ headKind → after f h ≡ h + headSize
-  unfolding after bodyOf bodies
-  after-head h b = rw b (omega arith)
-
   pub entry-proc : (n : ℕ) → n < procs f → All (headTests f n) → procAt f (entry f n) ≡ n
   unfolding procAt procs headOf entry
   entry-proc n l h = rw (upTo-at (entry f n) (heads f) n heads-rise l (omega arith) next) (omega arith)
@@ -263,7 +261,7 @@ module _ (f ps : List ℕ) (e : recordsOf f ≡ starts ps) where
           pick (yes z) = absurd (ins-in (entry f n) (entry-in n h) .1 (rw (← z) (head-in g m .1)))
           pick (no z) =
               let a = walk-gap f 0 ps file-walk (headOf f n) g (H .0) (head-in g m .0) b in
-              let c = after-head (headOf f n) (H .1) in
+              let c = after-head f (headOf f n) (H .1) in
               omega arith
 
 -- what is tested of every head

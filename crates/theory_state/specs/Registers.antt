@@ -9,6 +9,7 @@ use mathlib.Core.Logic.{inl, inr}
 use Rattle.model.specs.File.{greatestMain, greatestPtr}
 use Rattle.model.specs.Control.{Machine, registerBytes, wordFrom, regsFrom, regBytes}
 use Rattle.model.specs.declared.Regs.{Regs}
+use Rattle.registers.specs.Registers.{RegsWords}
 use Rattle.theory_state.specs.Stack.{stack-numbers}
 use Rattle.theory_state.specs.Laws.{CodeLaws, small, results-most}
 use Rattle.theory_state.specs.Sound.{Sound}
@@ -16,15 +17,6 @@ use Rattle.theory_state.specs.Keep.{running-here, running-fits}
 
 abbrev words : ℕ
 words = 4294967296
-
-pub record RegsSmall (r : Regs) : Type 0 where
-  pub place : r .place < words
-  pub frame : r .frame < words
-  pub handler : r .handler < words
-  pub mtop : r .mtop < words
-  pub ptop : r .ptop < words
-  pub ctop : r .ctop < words
-  pub state : r .state < words
 
 digits : (w a b c r₀ r₁ r₂ : ℕ) → a * 256 + r₀ ≡ w → b * 256 + r₁ ≡ a → c * 256 + r₂ ≡ b →
     c * 16777216 + r₂ * 65536 + r₁ * 256 + r₀ ≡ w
@@ -45,7 +37,7 @@ pub registers-length : (r : Regs) → length (regBytes r) ≡ registerBytes
 unfolding regBytes
 registers-length r = refl
 
-pub registers-back : (r : Regs) → RegsSmall r → regsFrom (regBytes r) ≡ r
+pub registers-back : (r : Regs) → RegsWords r → regsFrom (regBytes r) ≡ r
 unfolding regsFrom regBytes wordFrom
 registers-back r s =
     let e0 = four-bytes (r .place) (s .place) in
@@ -59,7 +51,7 @@ registers-back r s =
 
 -- where the lists are short enough, with room for procedure 0
 pub sound-small : (f map : List ℕ) (Ptr : ℕ → Type 0) (m : Machine) → CodeLaws f map → length (m .main) < words → length (m .ptr) < words →
-    length (m .ctl) < words → greatestMain f 0 ≤ length (m .main) → greatestPtr f 0 ≤ length (m .ptr) → Sound f map Ptr m → RegsSmall (m .regs)
+    length (m .ctl) < words → greatestMain f 0 ≤ length (m .main) → greatestPtr f 0 ≤ length (m .ptr) → Sound f map Ptr m → RegsWords (m .regs)
 sound-small f map Ptr m L lm lp lc xm yp (inl S) =
     let R = S .3 in
     let N = stack-numbers f map (length (m .main)) (length (m .ptr)) (m .ctl) (S .0) (R .stack) in

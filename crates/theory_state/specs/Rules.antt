@@ -12,16 +12,12 @@ use lib.Dec.{leb, eqb}
 use borrow.Author.Tests.{eqb-false, leb-true, ltb-true}
 use Rattle.model.specs.Choice.{if_then_else_, all, All, all-true, Mem}
 use Rattle.model.specs.Words.{wordAt, truth, operate, operate1}
-use Rattle.model.specs.File.{onMain, onPtr, keepMain, keepPtr, keepNone, Basic, local, assign, field, setField, Maker, form, makerPops, make, literal}
-use Rattle.model.specs.File.{nil, root, setRoot, retract, binary, samePtr, unary, Ins, basic, jump, branch, branchKeep, call, return, enter, exit}
-use Rattle.model.specs.File.{raise, after, insAt}
+use Rattle.model.specs.File.{onMain, onPtr, keepMain, keepPtr, keepNone, Basic, local, assign, field, setField, Maker, form, makerPops, make, literal, nil, root, setRoot, retract, binary, samePtr, unary, Ins, basic, jump, branch, branchKeep, call, return, enter, exit, raise, after, insAt}
 use Rattle.model.specs.Checker.{State, effect, basicEffect, effectOf, moved, innermost, passes, wordTests, depthTests}
 use Rattle.model.specs.Heap.{Heap, Pointer, markOf, viewKind, kinds, kindIn, inPtrs, inPlain, maySetPlain, maySetPtr, made, clean, heapOf}
 use Rattle.model.specs.Control.{Machine, handlerOf, running, records, recordWords, placeReg, mtopReg, ptopReg, setReg, setMain, setPtr, setHeap}
-use Rattle.model.specs.Moves.{mtop, ptop, mainWord, ptrWord, mainWords, ptrWords, goTo, popMain, popPtr, pushMain, pushPtr, storeMain, storePtr}
-use Rattle.model.specs.Moves.{storeHeap, pushNew, closeFrame, finished}
-use Rattle.model.specs.Instructions.{nilObject, noSuchWord, heapFull, Result, done, throws, fails, andGo, onObject, onValue, onRoom, object, newOf}
-use Rattle.model.specs.Instructions.{onNew, makes, calleeTests, basicRule, rule}
+use Rattle.model.specs.Moves.{mtop, ptop, mainWord, ptrWord, mainWords, ptrWords, goTo, popMain, popPtr, pushMain, pushPtr, storeMain, storePtr, storeHeap, pushNew, closeFrame, finished}
+use Rattle.model.specs.Instructions.{nilObject, noSuchWord, heapFull, Result, done, throws, fails, andGo, onObject, onValue, onRoom, object, newOf, onNew, makes, calleeTests, basicRule, rule}
 use Rattle.model.specs.Step.{next, uncaught, outcome, raised, caught, instruct, step}
 use Rattle.model.specs.Sound.{mainAt, innerAt, isIns}
 use Rattle.model.specs.declared.Value.{Value}
@@ -30,6 +26,7 @@ use Rattle.model.specs.Claim.{assigned}
 use Rattle.laws.specs.Choices.{both-true}
 use Rattle.laws.specs.Cuts.{Zero, Each, length-cut, cut-zero, cut-each, set-zero, set-each, slice-each}
 use Rattle.laws.specs.Records.{length-put}
+use Rattle.heap.specs.Pointers.{is-object}
 use Rattle.theory_state.specs.Stack.{stack-frame}
 use Rattle.theory_state.specs.Laws.{CodeLaws, leads-on, pops, rules}
 use Rattle.theory_state.specs.Sound.{Running, Sound}
@@ -282,10 +279,6 @@ module _ (f map : List ℕ) (m : Machine) (os : List ℕ) (i j : ℕ) where
     pointer : (k : ℕ) → Pointer os (wordAt (m .ptr) k)
     pointer k = R .words .pointers k
 
-    is-object : (v : ℕ) → v ≢ 0 → Pointer os v → Mem v os
-    is-object v u (inl e) = absurd (u e)
-    is-object v u (inr o) = o
-
     -- the frame's bases, and the frame words that the instruction names
     pub bases : (running m .mainBase ≡ i) × (running m .ptrBase ≡ j)
     bases = let F = stack-frame f map (length (m .main)) (length (m .ptr)) (m .ctl) n (R .stack) in (F .1 .1 .0, F .1 .1 .1 .0)
@@ -338,15 +331,15 @@ module _ (f map : List ℕ) (m : Machine) (os : List ℕ) (i j : ℕ) where
     basic-fine (field onPtr s) e =
         on-object ahead (ptrWord m 1) (inPtrs (m .heap) (ptrWord m 1) s) _
         (λ u v. let w = both-true _ _ v in
-        let p = K .inside (ptrWord m 1) s (is-object _ u (pointer _)) (leb-true _ _ (w .0)) (ltb-true _ _ (w .1)) in
+        let p = K .inside (ptrWord m 1) s (is-object os _ (pointer _) u) (leb-true _ _ (w .0)) (ltb-true _ _ (w .1)) in
         on (field onPtr s) _ e (push-ptr (pop-ptr start 1) _ p) (omega arith) (omega arith))
     basic-fine (setField onMain s) e =
         on-object ahead (ptrWord m 1) (maySetPlain (m .heap) (ptrWord m 1) s) _
-        (λ u v. let h = H .plain-store (m .heap) os (ptrWord m 1) s _ K (is-object _ u (pointer _)) v in
+        (λ u v. let h = H .plain-store (m .heap) os (ptrWord m 1) s _ K (is-object os _ (pointer _) u) v in
         on (setField onMain s) _ e (store-heap (pop-main (pop-ptr start 1) 1) _ _ h) (omega arith) (omega arith))
     basic-fine (setField onPtr s) e =
         on-object ahead (ptrWord m 1) (maySetPtr (m .heap) (ptrWord m 1) s) _
-        (λ u v. let h = H .ptr-store (m .heap) os (ptrWord m 1) s _ K (is-object _ u (pointer _)) v (pointer _) in
+        (λ u v. let h = H .ptr-store (m .heap) os (ptrWord m 1) s _ K (is-object os _ (pointer _) u) v (pointer _) in
         on (setField onPtr s) _ e (store-heap (pop-ptr start 2) _ _ h) (omega arith) (omega arith))
     basic-fine (make k) e = make-fine k e
     basic-fine (literal w) e = on (literal w) _ e (push-main start _) (omega arith) (omega arith)

@@ -1,21 +1,21 @@
 -- An alive state that is not finished is ready to be planned: `StepReady`, which `plan_at` asks for. The instruction's pops, pushes and frame
 -- words are in its frame by the rules at its place, and the frame lies in the lists.
-use Prim.Native.Nat.{ℕ, zero, suc, _+_, _-_, _<_, _≤_}
+use Prim.Native.Nat.{ℕ, _+_, _-_, _<_, _≤_}
 use mathlib.Core.Path.{_≡_, refl, ap}
 use mathlib.Core.Bool.{true}
-use mathlib.Core.List.{List, [], _∷_}
-use native.Mathlib.Decide.{decLt}
+use mathlib.Core.List.{List}
 use native.Mathlib.Omega.{arith}
-use lib.ListN.{length, getD}
+use lib.ListN.{length}
 use Rattle.model.specs.Choice.{All, Mem}
-use Rattle.model.specs.File.{local, assign, onMain, onPtr, call, heads, headOf, procs, instructions, greatestMain, greatestPtr}
+use Rattle.model.specs.File.{local, assign, onMain, onPtr, call, procs, instructions, greatestMain, greatestPtr}
 use Rattle.model.specs.Checker.{effectOf, depthTests, targetTests}
 use Rattle.model.specs.Heap.{Pointer}
 use Rattle.model.specs.Control.{Machine, running, down}
 use Rattle.model.specs.Moves.{mtop, ptop}
 use Rattle.model.specs.Sound.{isIns, frameTests}
-use Rattle.laws.specs.Members.{member-in, getD-in}
-use Rattle.laws_file.specs.Walk.{file-walk, walk-above, head-in, after-head, instruction-whole}
+use Rattle.laws.specs.Members.{member-in}
+use Rattle.laws_file.specs.Walk.{instruction-whole}
+use Rattle.laws_file.specs.Procedures.{head-whole}
 use Rattle.theory_state.specs.Stack.{stack-frame, stack-numbers}
 use Rattle.theory_state.specs.Laws.{CodeLaws, rules, pops}
 use Rattle.theory_state.specs.Sound.{looking, Running}
@@ -28,35 +28,6 @@ use Rattle.theory_step.specs.Alive.{Alive, alive-laws, alive-running}
 pub instruction-at : (f : List ℕ) (p : ℕ) → isIns f p ≡ true → Mem p (instructions f)
 unfolding isIns
 instruction-at f p h = member-in p (instructions f) h
-
--- the heads of a file in order
-module _ (f map : List ℕ) (L : CodeLaws f map) where
-  room : (g : ℕ) → Mem g (heads f) → g + 6 < length f
-  room g i =
-      let ps = L .formed .places in
-      let e = L .formed .records in
-      let w = head-in f ps e g i in
-      let a = walk-above f 0 ps (file-walk f ps e) g (w .0) .1 in
-      let b = after-head f ps e g (w .1) in
-      omega arith
-
-  pub head-whole : (n : ℕ) → n < procs f → headOf f n + 6 < length f
-  unfolding headOf procs
-  head-whole n l = room (getD (heads f) n 0) (getD-in (heads f) n 0 l)
-
-  beyond : (l : List ℕ) (n : ℕ) → length l ≤ n → getD l n 0 ≡ 0
-  beyond [] n w = refl
-  beyond (x ∷ l) zero w = absurd (omega arith)
-  beyond (x ∷ l) (suc n) w = beyond l n (omega arith)
-
-  -- no procedure, no head: 0
-  pub head-most : (n : ℕ) → headOf f n ≤ length f
-  unfolding headOf procs
-  head-most n = go (decLt n (procs f))
-    where
-      go : Dec (n < procs f) → headOf f n ≤ length f
-      go (yes l) = let w = head-whole n l in omega arith
-      go (no l) = rw (beyond (heads f) n (omega arith)) (omega arith)
 
 module _ {f map table : List ℕ} {m : Machine} (A : Alive f map table m) (n i j : ℕ)
     (R : Running f map (Pointer (A .objects)) m n i j) where
@@ -116,7 +87,7 @@ module _ {f map table : List ℕ} {m : Machine} (A : Alive f map table m) (n i j
         whole = instruction-whole f (L .formed .places) (L .formed .records) (placeOf m) in-file;
         few = A .placed .few;
         heads = A .placed .heads;
-        bytes = head-whole f map L;
+        bytes = λ n l. head-whole f (L .formed .places) (L .formed .records) n;
         callee = callee;
         main-most = z .main-most;
         ptr-most = z .ptr-most;

@@ -20,10 +20,12 @@ use Rattle.plan_meaning.specs.Planned.{planAt}
 use Rattle.plan_meaning.specs.Settled.{settle}
 use Rattle.plan_meaning.specs.Suits.{Suited}
 use Rattle.laws_file.specs.Codes.{enter-after}
+use Rattle.laws_file.specs.Procedures.{head-whole}
 use Rattle.laws_file.specs.Walk.{instruction-below, instruction-whole, proc-below}
 use Rattle.heap.specs.Stores.{read-ptr, read-plain}
 use Rattle.heap.specs.Views.{may-set-plain, may-set-ptr}
 use Rattle.laws.specs.Records.{down-length}
+use Rattle.heap.specs.Pointers.{is-object}
 use Rattle.theory_state.specs.Stack.{Stack, first, frame, handler, stack-here, stack-frame, stack-numbers, HandlerFound, find-handler}
 use Rattle.theory_state.specs.Laws.{CodeLaws, at-exit, depth-most, inner-opens}
 use Rattle.theory_state.specs.Sound.{looking, Running}
@@ -31,7 +33,7 @@ use Rattle.plan.specs.Ready.{placeOf, here}
 use Rattle.apply.specs.Applies.{Stands}
 use Rattle.apply.specs.Ended.{Caught, stands-raises, Settles}
 use Rattle.theory_step.specs.Alive.{Alive, alive-laws, alive-running}
-use Rattle.theory_step.specs.Planning.{instruction-at, head-most, at-place, in-file, running-ready}
+use Rattle.theory_step.specs.Planning.{instruction-at, at-place, in-file, running-ready}
 
 module _ {f map table : List ℕ} {m : Machine} (A : Alive f map table m) (n i j : ℕ)
     (R : Running f map (Pointer (A .objects)) m n i j) where
@@ -121,7 +123,7 @@ module _ {f map table : List ℕ} {m : Machine} (A : Alive f map table m) (n i j
                     rw top
                     (record {
                       heads = A .placed .heads;
-                      head-most = λ h. let x = head-most f map L h in let y = A .short in omega arith;
+                      head-most = λ h. let x = head-whole f (L .formed .places) (L .formed .records) h in let y = A .short in omega arith;
                       operand = omega arith;
                       frame-some = omega arith;
                       frame-fits = omega arith;
@@ -130,11 +132,7 @@ module _ {f map table : List ℕ} {m : Machine} (A : Alive f map table m) (n i j
               }
 
   object : ptrWord m 1 ≢ 0 → Mem (ptrWord m 1) (A .objects)
-  object u = go (R .words .pointers _)
-    where
-      go : Pointer (A .objects) (ptrWord m 1) → Mem (ptrWord m 1) (A .objects)
-      go (inl e) = absurd (u e)
-      go (inr o) = o
+  object = is-object (A .objects) (ptrWord m 1) (R .words .pointers _)
 
   apt : Apt f m (here f m)
   apt =

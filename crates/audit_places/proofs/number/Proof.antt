@@ -1,9 +1,9 @@
 -- The map is read where it has a number, and is 65,535 past its end.
 use mathlib.Core.Path.{sym}
 use native.Mathlib.Omega.{arith}
+use lib.ListN.{List·getD-eq-default}
 use borrow.Author.Needs.{needs}
 use Rattle.laws.specs.Members.{getD-any}
-use Rattle.audit_places.specs.Places.{beyond}
 use Rattle.audit_places.proofs.number.Statement.{statement}
 use Rattle.audit_places.proofs.number.Tie as tie
 use Rattle.model.specs.Checker.{none}
@@ -26,7 +26,7 @@ returns c =
     }
 
 returns-2 : tie.Need-returns-2
-returns-2 c = record { is = sym (beyond (c .before .args .map .now) (c .before .args .i) none (omega arith)); small = omega arith }
+returns-2 c = record { is = sym (List·getD-eq-default (c .before .args .map .now) none {n = c .before .args .i} (omega arith)); small = omega arith }
 
 pub number-spec : {M : Type 1} → statement M
 number-spec =

@@ -10,8 +10,9 @@ use Rattle.model.specs.File.{insAt}
 use Rattle.model.specs.Checker.{effectOf}
 use Rattle.model.specs.Sound.{callerTests}
 use Rattle.laws.specs.Tests.{fails-all, decided}
+use Rattle.laws_file.specs.Codes.{call-after}
 use Rattle.control_stack.specs.Layout.{theFrame}
-use Rattle.audit_records.specs.Records.{call-after, call-pops, is-call, not-call}
+use Rattle.audit_records.specs.Records.{call-pops, is-call, not-call}
 use Rattle.audit_records.proofs.caller_right.Statement.{statement}
 use Rattle.audit_records.proofs.caller_right.Tie as tie
 

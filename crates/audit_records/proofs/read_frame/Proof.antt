@@ -7,7 +7,8 @@ use Rattle.model.specs.File.{insAt}
 use Rattle.model.specs.Checker.{effectOf}
 use Rattle.model.specs.Control.{down}
 use Rattle.audit_places.specs.Places.{in-proc-below}
-use Rattle.audit_records.specs.Records.{down-length, frame-proc, frame-fits, call-below, popped-params, told-frame, told-first, told-call, told-caller}
+use Rattle.laws.specs.Records.{down-length}
+use Rattle.audit_records.specs.Records.{frame-proc, frame-fits, call-below, popped-params, told-frame, told-first, told-call, told-caller}
 use Rattle.audit_records.proofs.read_frame.Statement.{statement}
 use Rattle.audit_records.proofs.read_frame.Tie as tie
 

@@ -3,7 +3,8 @@ use mathlib.Core.Path.{sym, _∙_}
 use borrow.Author.Tests.{not-true, not-false}
 use borrow.Author.Needs.{needs}
 use Rattle.model.specs.Control.{down}
-use Rattle.audit_records.specs.Records.{down-length, told-handler, told-outside}
+use Rattle.laws.specs.Records.{down-length}
+use Rattle.audit_records.specs.Records.{told-handler, told-outside}
 use Rattle.audit_records.proofs.read_handler.Statement.{statement}
 use Rattle.audit_records.proofs.read_handler.Tie as tie
 

@@ -24,16 +24,7 @@ returns : tie.Need-returns
 returns c =
     let at-check-with = c .before .before .before .before in
     let entry = at-check-with .before .before .before .before .before .before .before .before .before .before .before in
-    admit-refused (record {
-      file = entry .args .file .now;
-      map = entry .args .map .now;
-      main = entry .args .main .now;
-      ptr = entry .args .ptr .now;
-      ctl = entry .args .ctl .now;
-      heap = entry
-          .args .heap .now;
-      bytes = entry .args .bytes .now;
-    }) (at-check-with .check-with .last .1 .0) (at-check-with .check-with .last .1 .1 .0) (entry .args .marks .now)
+    admit-refused _ (at-check-with .check-with .last .1 .0) (at-check-with .check-with .last .1 .1 .0) (entry .args .marks .now)
     (at-check-with .check-with .result) (at-check-with .check-with .ensures) (λ k e. omega (arith, rw e at (c .before .match .keys2)))
 
 head-at-requires : tie.Need-head-at-requires
@@ -83,17 +74,7 @@ returns-2 c =
     let at-head-at = at-lengths-right .before in
     let at-v = at-head-at .before .before in
     let at-check-with = at-v .before .before .before .before in
-    let entry = at-check-with .before .before .before .before .before .before .before .before .before .before .before in
-    admit-heap (record {
-      file = entry .args .file .now;
-      map = entry .args .map .now;
-      main = entry .args .main .now;
-      ptr = entry .args .ptr .now;
-      ctl = entry .args .ctl .now;
-      heap = entry
-          .args .heap .now;
-      bytes = entry .args .bytes .now;
-    }) (at-check-with .check-with .last .1 .0) (at-check-with .check-with .last .1 .1 .0)
+    admit-heap _ (at-check-with .check-with .last .1 .0) (at-check-with .check-with .last .1 .1 .0)
     (at-audit-heap .audit-heap .last .1 .0) (at-check-with .check-with .result) (at-check-with .check-with .ensures) _ (at-v .v .given .1)
     (at-head-at .head-at .result) (at-head-at .head-at .ensures) (at-lengths-right .lengths-right .result) (at-lengths-right .lengths-right .ensures)
     (at-if1 .if1 .taken) (at-audit-heap .audit-heap .result) (at-audit-heap .audit-heap .ensures) _ (c .before .audit .given .1)
@@ -112,17 +93,7 @@ returns-3 c =
     let at-head-at = at-lengths-right .before in
     let at-v = at-head-at .before .before in
     let at-check-with = at-v .before .before .before .before in
-    let entry = at-check-with .before .before .before .before .before .before .before .before .before .before .before in
-    admit-all (record {
-      file = entry .args .file .now;
-      map = entry .args .map .now;
-      main = entry .args .main .now;
-      ptr = entry .args .ptr .now;
-      ctl = entry .args .ctl .now;
-      heap = entry
-          .args .heap .now;
-      bytes = entry .args .bytes .now;
-    }) (at-check-with .check-with .last .1 .0) (at-check-with .check-with .last .1 .1 .0)
+    admit-all _ (at-check-with .check-with .last .1 .0) (at-check-with .check-with .last .1 .1 .0)
     (at-audit-heap .audit-heap .last .1 .0) (at-check-with .check-with .result) (at-check-with .check-with .ensures) _ (at-v .v .given .1)
     (at-head-at .head-at .result) (at-head-at .head-at .ensures) (at-lengths-right .lengths-right .result) (at-lengths-right .lengths-right .ensures)
     (at-if1 .if1 .taken) (at-audit-heap .audit-heap .result) (at-audit-heap .audit-heap .ensures) (c .before .enum-told2 .given .1) (c .if2 .taken)
@@ -141,17 +112,7 @@ returns-4 c =
     let at-head-at = at-lengths-right .before in
     let at-v = at-head-at .before .before in
     let at-check-with = at-v .before .before .before .before in
-    let entry = at-check-with .before .before .before .before .before .before .before .before .before .before .before in
-    admit-bytes (record {
-      file = entry .args .file .now;
-      map = entry .args .map .now;
-      main = entry .args .main .now;
-      ptr = entry .args .ptr .now;
-      ctl = entry .args .ctl .now;
-      heap = entry
-          .args .heap .now;
-      bytes = entry .args .bytes .now;
-    }) (at-check-with .check-with .last .1 .0) (at-check-with .check-with .last .1 .1 .0)
+    admit-bytes _ (at-check-with .check-with .last .1 .0) (at-check-with .check-with .last .1 .1 .0)
     (at-audit-heap .audit-heap .last .1 .0) (at-check-with .check-with .result) (at-check-with .check-with .ensures) _ (at-v .v .given .1)
     (at-head-at .head-at .result) (at-head-at .head-at .ensures) (at-lengths-right .lengths-right .result) (at-lengths-right .lengths-right .ensures)
     (at-if1 .if1 .taken) (at-audit-heap .audit-heap .result) (at-audit-heap .audit-heap .ensures) (c .before .enum-told2 .given .1) (c .if2 .left)
@@ -163,16 +124,7 @@ returns-5 : tie.Need-returns-5
 returns-5 c =
     let at-check-with = c .before .before .before .before .before .before .before .before in
     let entry = at-check-with .before .before .before .before .before .before .before .before .before .before .before in
-    admit-lengths (record {
-      file = entry .args .file .now;
-      map = entry .args .map .now;
-      main = entry .args .main .now;
-      ptr = entry .args .ptr .now;
-      ctl = entry .args .ctl .now;
-      heap = entry
-          .args .heap .now;
-      bytes = entry .args .bytes .now;
-    }) (at-check-with .check-with .last .1 .0) (at-check-with .check-with .last .1 .1 .0) (entry .args .marks .now)
+    admit-lengths _ (at-check-with .check-with .last .1 .0) (at-check-with .check-with .last .1 .1 .0) (entry .args .marks .now)
     (at-check-with .check-with .result) (at-check-with .check-with .ensures) _ (c .before .before .before .before .v .given .1) (c .before .before .head-at .result)
     (c .before .before .head-at .ensures) (c .before .lengths-right .result) (c .before .lengths-right .ensures) (c .if1 .left)
 

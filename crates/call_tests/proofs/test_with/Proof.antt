@@ -24,28 +24,9 @@ sound-state-requires c κs =
     let at-v2 = c .before .before .before .before .before in
     let at-admit = at-v2 .before .before .before .before .before .before in
     let at-shared-slice-known = at-admit .before .before .before .before .before .before .before .before .before .before .before in
-    let entry = at-shared-slice-known .before in
-    let w = test-lengths (record {
-      file = entry .args .file .now;
-      map = entry .args .map .now;
-      main = entry .args .main .now;
-      ptr = entry .args .ptr .now;
-      ctl = entry .args .ctl .now;
-      heap =
-          entry .args .heap .now;
-      bytes = entry .args .bytes .now;
-    }) (at-admit .admit-with .last .1 .0) (at-admit .admit-with .last .1 .1 .0) (at-admit .admit-with .last .1 .1 .1 .0)
+    let w = test-lengths _ (at-admit .admit-with .last .1 .0) (at-admit .admit-with .last .1 .1 .0) (at-admit .admit-with .last .1 .1 .1 .0)
     (at-admit .admit-with .result) (at-admit .admit-with .ensures) _ (at-v2 .v2 .given .1) in (
-      test-ready (record {
-        file = entry .args .file .now;
-        map = entry .args .map .now;
-        main = entry .args .main
-            .now;
-        ptr = entry .args .ptr .now;
-        ctl = entry .args .ctl .now;
-        heap = entry .args .heap .now;
-        bytes = entry .args .bytes .now;
-      }) (at-admit .admit-with .last .1 .0)
+      test-ready _ (at-admit .admit-with .last .1 .0)
           (at-admit .admit-with .last .1 .1 .0) (at-admit .admit-with .last .1 .1 .1 .0) (at-admit .admit-with .result) (at-admit .admit-with .ensures) _ (at-v2 .v2 .given .1)
           (λ i. omega (arith, at-shared-slice-known .shared-slice-known .given i)),
       c .before .before .before .regs-from .ensures .1,
@@ -64,17 +45,7 @@ returns c =
     let at-regs-from = c .before .before .before .before .before in
     let at-v2 = at-regs-from .before .before in
     let at-admit = at-v2 .before .before .before .before .before .before in
-    let entry = at-admit .before .before .before .before .before .before .before .before .before .before .before .before in
-    test-sound (record {
-      file = entry .args .file .now;
-      map = entry .args .map .now;
-      main = entry .args .main .now;
-      ptr = entry .args .ptr .now;
-      ctl = entry .args .ctl .now;
-      heap = entry
-          .args .heap .now;
-      bytes = entry .args .bytes .now;
-    }) (at-admit .admit-with .last .1 .0) (at-admit .admit-with .last .1 .1 .0) (at-admit .admit-with .last .1 .1 .1 .0)
+    test-sound _ (at-admit .admit-with .last .1 .0) (at-admit .admit-with .last .1 .1 .0) (at-admit .admit-with .last .1 .1 .1 .0)
     (at-admit .admit-with .result) (at-admit .admit-with .ensures) _ (at-v2 .v2 .given .1) (at-regs-from .regs-from .result) (at-regs-from .regs-from .ensures .0)
     (c .before .sound-state .result) (c .before .sound-state .ensures) (c .if1 .taken)
 
@@ -87,17 +58,7 @@ same-length-4 c = search needs
 returns-2 : tie.Need-returns-2
 returns-2 c =
     let at-admit = c .before .before .before .before .before .before .before in
-    let entry = at-admit .before .before .before .before .before .before .before .before .before .before .before .before in
-    test-refused (record {
-      file = entry .args .file .now;
-      map = entry .args .map .now;
-      main = entry .args .main .now;
-      ptr = entry .args .ptr .now;
-      ctl = entry .args .ctl .now;
-      heap = entry
-          .args .heap .now;
-      bytes = entry .args .bytes .now;
-    }) (at-admit .admit-with .last .1 .0) (at-admit .admit-with .last .1 .1 .0) (at-admit .admit-with .last .1 .1 .1 .0)
+    test-refused _ (at-admit .admit-with .last .1 .0) (at-admit .admit-with .last .1 .1 .0) (at-admit .admit-with .last .1 .1 .1 .0)
     (at-admit .admit-with .result) (at-admit .admit-with .ensures) _ _ (c .before .v .given .1)
 
 same-length-5 : tie.Need-same-length-5
@@ -111,17 +72,7 @@ returns-3 c =
     let at-regs-from = c .before .before .before .before .before in
     let at-v2 = at-regs-from .before .before in
     let at-admit = at-v2 .before .before .before .before .before .before in
-    let entry = at-admit .before .before .before .before .before .before .before .before .before .before .before .before in
-    test-unsound (record {
-      file = entry .args .file .now;
-      map = entry .args .map .now;
-      main = entry .args .main .now;
-      ptr = entry .args .ptr .now;
-      ctl = entry .args .ctl .now;
-      heap = entry
-          .args .heap .now;
-      bytes = entry .args .bytes .now;
-    }) (at-admit .admit-with .last .1 .0) (at-admit .admit-with .last .1 .1 .0) (at-admit .admit-with .last .1 .1 .1 .0)
+    test-unsound _ (at-admit .admit-with .last .1 .0) (at-admit .admit-with .last .1 .1 .0) (at-admit .admit-with .last .1 .1 .1 .0)
     (at-admit .admit-with .result) (at-admit .admit-with .ensures) _ (at-v2 .v2 .given .1) (at-regs-from .regs-from .result) (at-regs-from .regs-from .ensures .0)
     (c .before .sound-state .result) (c .before .sound-state .ensures) (c .if1 .left)
 

@@ -20,15 +20,7 @@ run-on-requires c κs =
     let at-test-for-run = at-t2 .before .before .before .before in
     let at-shared-slice-known = at-test-for-run .before .before .before .before .before .before .before .before .before .before .before .before .before .before in
     let entry = at-shared-slice-known .before in
-    run-runs (record {
-      file = entry .args .file .now;
-      map = entry .args .map .now;
-      main = entry .args .main .now;
-      ptr = entry .args .ptr .now;
-      ctl = entry .args .ctl .now;
-      heap = entry .args .heap .now;
-      bytes = entry .args .bytes .now;
-    }) (at-test-for-run .test-for-run .last .1 .0) (at-test-for-run .test-for-run .last .1 .1 .0)
+    run-runs _ (at-test-for-run .test-for-run .last .1 .0) (at-test-for-run .test-for-run .last .1 .1 .0)
     (at-test-for-run .test-for-run .result) (at-test-for-run .test-for-run .ensures) (entry .args .budget) _ _
     (at-t2 .t2 .given .1) (λ i. omega (arith, at-shared-slice-known .shared-slice-known .given i))
 
@@ -60,16 +52,7 @@ returns : tie.Need-returns
 returns c =
     let at-test-for-run = c .before .before .before .before .before in
     let entry = at-test-for-run .before .before .before .before .before .before .before .before .before .before .before .before .before .before .before in
-    run-refused (record {
-      file = entry .args .file .now;
-      map = entry .args .map .now;
-      main = entry .args .main .now;
-      ptr = entry .args .ptr .now;
-      ctl = entry .args .ctl .now;
-      heap = entry
-          .args .heap .now;
-      bytes = entry .args .bytes .now;
-    }) (at-test-for-run .test-for-run .last .1 .0) (at-test-for-run .test-for-run .last .1 .1 .0)
+    run-refused _ (at-test-for-run .test-for-run .last .1 .0) (at-test-for-run .test-for-run .last .1 .1 .0)
     (at-test-for-run .test-for-run .result) (at-test-for-run .test-for-run .ensures) (entry .args .budget) _ _
     (c .before .t .given .1)
 
@@ -97,15 +80,7 @@ returns-2 c =
     let at-t2 = at-run-on .before .before .before .before .before .before .before in
     let at-test-for-run = at-t2 .before .before .before .before in
     let entry = at-test-for-run .before .before .before .before .before .before .before .before .before .before .before .before .before .before .before in
-    run-ran (record {
-      file = entry .args .file .now;
-      map = entry .args .map .now;
-      main = entry .args .main .now;
-      ptr = entry .args .ptr .now;
-      ctl = entry .args .ctl .now;
-      heap = entry .args .heap .now;
-      bytes = entry .args .bytes .now;
-    }) (at-test-for-run .test-for-run .last .1 .0) (at-test-for-run .test-for-run .last .1 .1 .0)
+    run-ran _ (at-test-for-run .test-for-run .last .1 .0) (at-test-for-run .test-for-run .last .1 .1 .0)
     (at-test-for-run .test-for-run .result) (at-test-for-run .test-for-run .ensures) (entry .args .budget) _ _
     (at-t2 .t2 .given .1) (at-run-on .run-on .result .answer) _ _ (at-run-on .run-on .ensures) (c .before .before .put-regs .ensures)
 

@@ -49,17 +49,7 @@ same-length-5 c = search needs
 returns : tie.Need-returns
 returns c =
     let at-admit = c .before .before .before .before .before in
-    let entry = at-admit .before .before .before .before .before .before .before .before .before .before .before .before .before .before in
-    start-refused (record {
-      file = entry .args .file .now;
-      map = entry .args .map .now;
-      main = entry .args .main .now;
-      ptr = entry .args .ptr .now;
-      ctl = entry .args .ctl .now;
-      heap = entry
-          .args .heap .now;
-      bytes = entry .args .bytes .now;
-    }) (at-admit .admit .last .1 .0) (at-admit .admit .last .1 .1 .0)
+    start-refused _ (at-admit .admit .last .1 .0) (at-admit .admit .last .1 .1 .0)
     (at-admit .admit .result) (at-admit .admit .ensures) _ _ (c .before .v .given .1)
 
 same-length-6 : tie.Need-same-length-6
@@ -84,17 +74,7 @@ returns-2 c =
     let at-clear = at-clear2 .before .before .before .before in
     let at-enum-told = at-clear .before .before in
     let at-admit = at-enum-told .before .before .before .before in
-    let entry = at-admit .before .before .before .before .before .before .before .before .before .before .before .before .before .before in
-    start-ready (record {
-      file = entry .args .file .now;
-      map = entry .args .map .now;
-      main = entry .args .main .now;
-      ptr = entry .args .ptr .now;
-      ctl = entry .args .ctl .now;
-      heap = entry
-          .args .heap .now;
-      bytes = entry .args .bytes .now;
-    }) (at-admit .admit .last .1 .0) (at-admit .admit .last .1 .1 .0)
+    start-ready _ (at-admit .admit .last .1 .0) (at-admit .admit .last .1 .1 .0)
     (at-admit .admit .result) (at-admit .admit .ensures) _ (at-enum-told .enum-told .given .1) _ _ _ _ (at-clear .clear .ensures) (at-clear2 .clear2 .ensures)
     (at-clear3 .clear3 .ensures) (rw (c .before .before .before .first .ensures) at (c .before .before .put-regs .ensures))
 

@@ -3,10 +3,9 @@ use mathlib.Core.Path.{_≡_, refl, sym}
 use Prim.Native.Nat.{_-_}
 use native.Mathlib.Omega.{arith}
 use lib.ListN.{length}
-use Rattle.laws_file.specs.Walk.{after-above}
-use Rattle.check_flow.specs.Ways.{Bounds}
-use Rattle.check_flow.specs.Flowing.{Flowing, begun-whole, begun-table, head-size, flowing-start, flowing-inside, flowing-head, flowing-here}
-use Rattle.check_flow.specs.Flowing.{flowing-fault, flowing-take, flowing-end}
+use Rattle.laws_file.specs.Walk.{after-above, after-head}
+use Rattle.check_ways.specs.Ways.{Bounds}
+use Rattle.check_flow.specs.Flowing.{Flowing, begun-whole, begun-table, flowing-start, flowing-inside, flowing-head, flowing-here, flowing-fault, flowing-take, flowing-end}
 use Rattle.check_flow.proofs.flow.Statement.{statement}
 use Rattle.check_flow.proofs.flow.Tie as tie
 
@@ -45,7 +44,7 @@ limits-of-requires-2 c κs =
     let a = entry .args in
     let o = c .before .before .before .before .loop in
     let w = flowing-inside (a .file .now) (a .m .now) (a .table .now) (a .k) (entry .pre) (o .m) (o .p) (o .c) (o .head) (o .limits .end) (o .inv .1) (omega arith) in
-    let z = head-size (a .file .now) (o .p) (c .before .if1 .taken) in
+    let z = after-head (a .file .now) (o .p) (c .before .if1 .taken) in
     omega arith
 
 add-p : tie.Need-add-p Inv-loop μ-loop
@@ -63,7 +62,7 @@ loop-again c =
     let a = entry .args in
     let o = at-loop .loop in (
       o .inv .0,
-      rw (c .limits-of2 .ensures .0, sym (head-size (a .file .now) (o .p) (c .before .before .if1 .taken)))
+      rw (c .limits-of2 .ensures .0, sym (after-head (a .file .now) (o .p) (c .before .before .if1 .taken)))
           (flowing-head (a .file .now) (a .m .now) (a .table .now) (a .k) (entry .pre) (o .m) (o .p) (o .c) (o .head) (o .limits .end) (o .inv .1)
           (omega arith) (c .before .before .if1 .taken) _ (c .before .end-of .ensures)),
       (c .limits-of2 .ensures .1),

@@ -8,7 +8,7 @@ use Rattle.model.specs.Checker.{handlerAt}
 use Rattle.check_rows.specs.Shape.{Open, Close, Return, shapeOf}
 use Rattle.check_rows.specs.Site.{body-room}
 use Rattle.check_rows.specs.Kinds.{NoJump, body-jumps}
-use Rattle.check_flow.specs.Ways.{leadsTo, led, here-place, took}
+use Rattle.check_ways.specs.Ways.{leadsTo, led, here-place, took}
 use borrow.Author.Needs.{needs}
 use Rattle.check_flow.proofs.take.Statement.{statement}
 use Rattle.check_flow.proofs.take.Tie as tie

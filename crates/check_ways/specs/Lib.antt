@@ -1,0 +1,3 @@
+pub mod Takes
+pub mod Faults
+pub mod Ways
