@@ -13,7 +13,8 @@ use borrow.Author.Tests.{eq-eqb, eqb-true, eqb-false, leb-true, leb-false, le-le
 use Rattle.model.specs.Choice.{if_then_else_, Mem}
 use Rattle.model.specs.Words.{wordAt}
 use Rattle.laws.specs.Members.{mem-append, mem-more, mem-right}
-use Rattle.model.specs.Heap.{markOf, rootOf, firstObject, ptrsAt, sizeAt, kindOf, Object, Objects, Pointer, Heap, Audit, fault, clean, andObject, badHeader, badSize, walk, isPointer, range, pointerWords, zerosFirst, judge, heapOf}
+use Rattle.model.specs.Heap.{markOf, rootOf, firstObject, ptrsAt, sizeAt, kindOf, Object, Objects, Pointer, Heap, Audit, fault, clean, andObject}
+use Rattle.model.specs.Heap.{badHeader, badSize, walk, isPointer, range, pointerWords, zerosFirst, judge, heapOf}
 use Rattle.heap.specs.Pointers.{pointer-true, true-pointer}
 use Rattle.audit_heap.specs.declared.HeapAudit.{HeapAudit}
 use Rattle.audit_heap.specs.declared.HeapAudit.the-variants.{Clean, Fault}

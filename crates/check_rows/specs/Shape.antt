@@ -4,7 +4,8 @@ use Prim.Native.Nat.{ℕ, suc}
 use mathlib.Core.Bool.{Bool, true}
 use mathlib.Core.List.{List}
 use lib.Dec.{leb}
-use Rattle.model.specs.File.{onMain, onPtr, Basic, local, assign, field, setField, make, literal, nil, root, setRoot, retract, binary, samePtr, unary, Ins, basic, jump, branch, branchKeep, call, return, enter, exit, raise, procs}
+use Rattle.model.specs.File.{onMain, onPtr, Basic, local, assign, field, setField, make, literal, nil, root, setRoot, retract, binary, samePtr, unary}
+use Rattle.model.specs.File.{Ins, basic, jump, branch, branchKeep, call, return, enter, exit, raise, procs}
 use Rattle.model.specs.Checker.{Effect, effect, basicEffect, effectOf, handlerAt}
 
 -- where an instruction passes its state

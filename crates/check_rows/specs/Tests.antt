@@ -9,8 +9,11 @@ use native.Mathlib.Nat.{add-zero, sub-zero}
 use native.Mathlib.Numerals.{add-one}
 use native.Mathlib.Omega.{arith}
 use Rattle.model.specs.Choice.{if_then_else_, Test, atMost, yes?, holds, all, if-both}
-use Rattle.model.specs.File.{onMain, onPtr, Basic, local, assign, field, setField, make, literal, nil, root, setRoot, retract, binary, samePtr, unary, Ins, basic, jump, branch, branchKeep, call, return, enter, exit, raise, after, procAt, resultsMain, resultsPtr, greatestMain, greatestPtr}
-use Rattle.model.specs.Checker.{none, State, state, Effect, effect, basicEffect, effectOf, moved, goesOn, passes, own, targetTests, nextTests, wordTests, moreTests, floorTest, depthsMost, depthTests, leaveTests}
+use Rattle.model.specs.File.{onMain, onPtr, Basic, local, assign, field, setField, make, literal, nil, root, setRoot, retract, binary, samePtr, unary}
+use Rattle.model.specs.File.{Ins, basic, jump, branch, branchKeep, call, return, enter, exit, raise, after, procAt, resultsMain, resultsPtr}
+use Rattle.model.specs.File.{greatestMain, greatestPtr}
+use Rattle.model.specs.Checker.{none, State, state, Effect, effect, basicEffect, effectOf, moved, goesOn, passes, own, targetTests, nextTests}
+use Rattle.model.specs.Checker.{wordTests, moreTests, floorTest, depthsMost, depthTests, leaveTests}
 use Rattle.check_rows.specs.declared.State.{State as Words}
 use Rattle.check_rows.specs.Shape.{Way, Next, Jump, Branch, Keep, Open, Close, Return, Raise, Shape, words, shapeOf}
 

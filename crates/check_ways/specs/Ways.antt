@@ -10,7 +10,8 @@ use lib.Dec.{ltb, leb, eqb}
 use lib.ListN.{length}
 use borrow.Author.Tests.{ltb-true}
 use Rattle.model.specs.Choice.{if_then_else_}
-use Rattle.model.specs.File.{Ins, basic, jump, branch, branchKeep, call, return, enter, exit, raise, bodyOf, byteAt, insOf, insAt, after, headOf, procAt, resultsMain, resultsPtr, greatestMain, greatestPtr, fileMost}
+use Rattle.model.specs.File.{Ins, basic, jump, branch, branchKeep, call, return, enter, exit, raise, bodyOf, byteAt, insOf, insAt, after, headOf}
+use Rattle.model.specs.File.{procAt, resultsMain, resultsPtr, greatestMain, greatestPtr, fileMost}
 use Rattle.model.specs.Checker.{none, State, state, effect, moved, innermost, own, Taking, bad, good, need}
 use Rattle.laws_file.specs.Kinds.{NoneOf}
 use Rattle.check_rows.specs.declared.State.{State as Numbers}
@@ -19,7 +20,8 @@ use Rattle.check_rows.specs.declared.Onward.{Onward}
 use Rattle.check_rows.specs.Shape.{Way, Next, Jump, Branch, Keep, Open, Close, Return, Shape, shape, shapeOf}
 use Rattle.check_rows.specs.Site as site
 use Rattle.check_rows.specs.Site.{Site}
-use Rattle.check_rows.specs.Tests.{asState, goesBy, jumpsBy, targetOk, stacksOk, depthOk, leaveOk, effectIn, nextState, targetState, PopsFit, stacks-fit, target-tests, next-tests, depth-tests, leave-tests, passes-are}
+use Rattle.check_rows.specs.Tests.{asState, goesBy, jumpsBy, targetOk, stacksOk, depthOk, leaveOk, effectIn, nextState, targetState, PopsFit}
+use Rattle.check_rows.specs.Tests.{stacks-fit, target-tests, next-tests, depth-tests, leave-tests, passes-are}
 use Rattle.check_rows.specs.Rows.{row, rowShape, isSetIn, onwardBy, plainly, Bounded, still}
 use Rattle.check_rows.specs.Kinds.{NoJump, elsewhere, straight?, straight}
 use Rattle.laws_file.specs.Walk.{after-above}

@@ -11,7 +11,8 @@ use borrow.Author.Tests.{lt-ltb, le-ltb, eq-eqb}
 use Rattle.model.specs.Choice.{if_then_else_, Mem}
 use Rattle.model.specs.File.{byteAt, headKind, isHead, select, instructions, heads, procs, headOf, procAt, upTo, recordsOf, starts}
 use Rattle.laws.specs.Members.{getD-in}
-use Rattle.laws_file.specs.Walk.{Walk, file-walk, walk-above, after-head, first-head, head-in, heads-rise, ins-in, instruction-below, upTo-most, upTo-least, upTo-less, procs-some, proc-below}
+use Rattle.laws_file.specs.Walk.{Walk, file-walk, walk-above, after-head, first-head, head-in, heads-rise, ins-in, instruction-below, upTo-most}
+use Rattle.laws_file.specs.Walk.{upTo-least, upTo-less, procs-some, proc-below}
 
 -- where the procedure behind n heads ends: at the next head, or with the file
 unfoldable pub endOf : List ℕ → ℕ → ℕ

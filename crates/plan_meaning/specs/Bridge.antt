@@ -13,12 +13,15 @@ use borrow.Author.Tests.{eqb-false, leb-true}
 use Rattle.model.specs.Choice.{if_then_else_, all, all-true}
 use Rattle.laws.specs.Cuts.{cut-same}
 use Rattle.model.specs.Words.{wordAt, truth, operate, operate1, cut}
-use Rattle.model.specs.File.{onMain, onPtr, keepMain, keepPtr, keepNone, Basic, local, assign, field, setField, make, form, makerPops, literal, nil, root, setRoot, retract, binary, samePtr, unary, Ins, basic, jump, branch, branchKeep, call, return, enter, exit, raise, after, insAt}
+use Rattle.model.specs.File.{onMain, onPtr, keepMain, keepPtr, keepNone, Basic, local, assign, field, setField, make, form, makerPops, literal, nil}
+use Rattle.model.specs.File.{root, setRoot, retract, binary, samePtr, unary, Ins, basic, jump, branch, branchKeep, call, return, enter, exit, raise}
+use Rattle.model.specs.File.{after, insAt}
 use Rattle.model.specs.Checker.{basicEffect, effectOf}
 use Rattle.model.specs.Heap.{markOf, viewKind, inPtrs, inPlain, maySetPlain, maySetPtr}
 use Rattle.model.specs.Control.{Machine, running, records, recordWords}
 use Rattle.model.specs.Moves.{mtop, ptop, mainWord, ptrWord, mainWords, ptrWords, goTo, inFrame, popMain, popPtr, pushNew, finished}
-use Rattle.model.specs.Instructions.{codeOf, nilObject, noSuchWord, heapFull, noRoom, Result, done, throws, fails, andGo, onValue, onObject, newOf, makes, calleeTests, basicRule, rule}
+use Rattle.model.specs.Instructions.{codeOf, nilObject, noSuchWord, heapFull, noRoom, Result, done, throws, fails, andGo, onValue, onObject, newOf}
+use Rattle.model.specs.Instructions.{makes, calleeTests, basicRule, rule}
 use Rattle.model.specs.Step.{next, outcome, instruct, step}
 use Rattle.model.specs.declared.Value.{Value}
 use Rattle.model.specs.declared.Value.the-variants.{Word, Outside}

@@ -6,7 +6,9 @@ use lib.Dec.{leb, eqb}
 use lib.ListN.{length}
 use Rattle.model.specs.Choice.{if_then_else_, all}
 use Rattle.model.specs.Words.{wordAt, truth, bit, operate, operate1}
-use Rattle.model.specs.File.{onMain, onPtr, keepMain, keepPtr, keepNone, Basic, local, assign, field, setField, make, form, literal, nil, root, setRoot, retract, binary, samePtr, unary, Ins, basic, jump, branch, branchKeep, call, return, enter, exit, raise, after, entry, insOf, insAt, paramsMain, paramsPtr}
+use Rattle.model.specs.File.{onMain, onPtr, keepMain, keepPtr, keepNone, Basic, local, assign, field, setField, make, form, literal, nil, root}
+use Rattle.model.specs.File.{setRoot, retract, binary, samePtr, unary, Ins, basic, jump, branch, branchKeep, call, return, enter, exit, raise, after}
+use Rattle.model.specs.File.{entry, insOf, insAt, paramsMain, paramsPtr}
 use Rattle.model.specs.Heap.{markOf, rootOf, inPtrs, inPlain}
 use Rattle.model.specs.Control.{Machine, running, recordWords}
 use Rattle.model.specs.Moves.{mtop, ptop, mainWord, ptrWord}

@@ -11,12 +11,16 @@ use native.Mathlib.Omega.{arith}
 use lib.Dec.{eqb}
 use borrow.Author.Tests.{eqb-true, eqb-false, ne-eqb}
 use Rattle.model.specs.Choice.{if_then_else_, all, All, all-true, true-all, Mem, member}
-use Rattle.model.specs.File.{byteAt, Ins, basic, jump, branch, branchKeep, call, return, enter, exit, raise, insOf, insAt, starts, recordsOf, procs, headOf, entry, procAt, instructions, paramsMain, greatestMain, greatestPtr, headTests}
-use Rattle.model.specs.Checker.{none, State, state, unset, isSet, Known, stateAt, first, firsts, Effect, effect, basicEffect, effectOf, moved, floorTests, goesOn, passes, own, targetTests, nextTests, depthTests, leaveTests, Taking, good, passed, need, passAll, takeWith, takeOne, takeAll, flow}
+use Rattle.model.specs.File.{byteAt, Ins, basic, jump, branch, branchKeep, call, return, enter, exit, raise, insOf, insAt, starts, recordsOf, procs}
+use Rattle.model.specs.File.{headOf, entry, procAt, instructions, paramsMain, greatestMain, greatestPtr, headTests}
+use Rattle.model.specs.Checker.{none, State, state, unset, isSet, Known, stateAt, first, firsts, Effect, effect, basicEffect, effectOf, moved}
+use Rattle.model.specs.Checker.{floorTests, goesOn, passes, own, targetTests, nextTests, depthTests, leaveTests, Taking, good, passed, need, passAll}
+use Rattle.model.specs.Checker.{takeWith, takeOne, takeAll, flow}
 use Rattle.model.specs.Rules.{Assignment, Opens, Fine, First, Got, Keeps}
 use Rattle.model.specs.Claim.{Bytes}
 use Rattle.theory_checker.specs.Pass as Pass
-use Rattle.theory_checker.specs.Pass.{goOn-inv, Set, Sent, Linked, innermost-none, innermostAt, Places, unset-at, Code, Taken, Laws, PassRan, pass-ran, ran-places, PassFound, pass-found}
+use Rattle.theory_checker.specs.Pass.{goOn-inv, Set, Sent, Linked, innermost-none, innermostAt, Places, unset-at, Code, Taken, Laws, PassRan}
+use Rattle.theory_checker.specs.Pass.{pass-ran, ran-places, PassFound, pass-found}
 use Rattle.laws.specs.Choices.{both-true}
 use Rattle.laws.specs.Members.{member-in}
 use Rattle.laws_file.specs.Walk.{HeadsHold, instructions-rise, entry-in, entry-proc}

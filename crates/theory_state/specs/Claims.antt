@@ -14,7 +14,8 @@ use Rattle.model.specs.Heap.{Heap, Pointer, Audit, fault, clean, heapOf, object
 use Rattle.model.specs.Control.{Machine, setRegs, registerBytes}
 use Rattle.model.specs.Step.{next, uncaught, step}
 use Rattle.model.specs.Sound.{sound?}
-use Rattle.model.specs.Calls.{toldOf, Verdict, pass, refuse, verdictOf, checkOf, Lent, machineOf, leaving, withMap, lengthTests, registerTests, soundTests, After, answers, demand, audited, afterMap, afterCheck, tested, started, startOf, ranFrom, runOf}
+use Rattle.model.specs.Calls.{toldOf, Verdict, pass, refuse, verdictOf, checkOf, Lent, machineOf, leaving, withMap, lengthTests, registerTests}
+use Rattle.model.specs.Calls.{soundTests, After, answers, demand, audited, afterMap, afterCheck, tested, started, startOf, ranFrom, runOf}
 use Rattle.model.specs.Claim.{Call, check, start, run, callOf, NotRefused, Depths, Pointers, Before, Claim, Bytes, CallsHold}
 use Rattle.model.specs.declared.Answer.the-variants as answer
 use Rattle.theory_checker.specs.Exact.{passed-again}

@@ -11,7 +11,8 @@ use lib.Dec.{eqb}
 use borrow.Author.Tests.{eq-eqb, ne-eqb, eqb-true}
 use Rattle.model.specs.Choice.{if_then_else_, All}
 use Rattle.model.specs.Words.{cut}
-use Rattle.model.specs.File.{Ins, call, return, enter, exit, operand, after, headOf, byteAt, insAt, procAt, paramsMain, paramsPtr, resultsMain, resultsPtr, greatestMain, greatestPtr}
+use Rattle.model.specs.File.{Ins, call, return, enter, exit, operand, after, headOf, byteAt, insAt, procAt, paramsMain, paramsPtr, resultsMain}
+use Rattle.model.specs.File.{resultsPtr, greatestMain, greatestPtr}
 use Rattle.model.specs.Checker.{State, state, none, effectOf, handlerAt}
 use Rattle.model.specs.Control.{Machine, Handler, asFrame, asHandler, frameRec, handlerRec, recAt, frameOf, handlerOf, down, recordWords, records, running}
 use Rattle.model.specs.Moves.{mtop, ptop, goTo, openHandler, closeFrame, closeHandler, finished}

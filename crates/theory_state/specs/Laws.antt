@@ -10,7 +10,8 @@ use lib.Dec.{eqb}
 use borrow.Author.Tests.{eqb-false, not-true}
 use Rattle.model.specs.Choice.{Mem}
 use Rattle.laws.specs.Choices.{taken-most}
-use Rattle.model.specs.File.{Ins, call, return, enter, exit, after, procs, procAt, entry, headTests, instructions, operand, insAt, paramsMain, paramsPtr, resultsMain, resultsPtr, greatestMain, greatestPtr}
+use Rattle.model.specs.File.{Ins, call, return, enter, exit, after, procs, procAt, entry, headTests, instructions, operand, insAt, paramsMain}
+use Rattle.model.specs.File.{paramsPtr, resultsMain, resultsPtr, greatestMain, greatestPtr}
 use Rattle.model.specs.Checker.{State, state, none, passes, innermost, effectOf, handlerAt, targetTests, depthTests, leaveTests}
 use Rattle.model.specs.Rules.{Passes, Fine, Keeps}
 use Rattle.model.specs.Calls.{pass, verdictOf}

@@ -2,7 +2,8 @@
 use mathlib.Core.Path.{refl}
 use mathlib.Core.Logic.{inl, inr}
 use Rattle.plan_meaning.specs.Settled.{applied}
-use Rattle.apply.specs.Applied.{to-call, to-open, to-close, to-plain, call-applied, leave-applied, open-applied, close-applied, told-done, told-undone, plain-done, plain-undone, plainly-state}
+use Rattle.apply.specs.Applied.{to-call, to-open, to-close, to-plain, call-applied, leave-applied, open-applied, close-applied, told-done}
+use Rattle.apply.specs.Applied.{told-undone, plain-done, plain-undone, plainly-state}
 use Rattle.apply.proofs.Tags.{plain-write}
 use borrow.Author.Needs.{needs}
 use Rattle.apply.proofs.apply.Statement.{statement}

@@ -7,7 +7,8 @@ use Rattle.model.specs.Checker.{basicEffect, effectOf}
 use Rattle.model.specs.File.{codes, bodies, bodyOf, insOf, insAt}
 use Rattle.laws_file.specs.Kinds.{at-each}
 use Rattle.plan_meaning.specs.Planned.{planOf, planAt, planned}
-use Rattle.plan.specs.Arms.{place-in, place-small, main-within, ptr-within, record-in, body-here, body, pops-main, pops-ptr, on-words, main-word, ptr-word, taken-main, taken-ptr, points, callee, subject, plan-here}
+use Rattle.plan.specs.Arms.{place-in, place-small, main-within, ptr-within, record-in, body-here, body, pops-main, pops-ptr, on-words, main-word}
+use Rattle.plan.specs.Arms.{ptr-word, taken-main, taken-ptr, points, callee, subject, plan-here}
 use Rattle.plan.specs.Kinds.{no-other}
 use Rattle.plan.proofs.plan_at.Statement.{statement}
 use Rattle.plan.proofs.plan_at.Tie as tie
