@@ -148,8 +148,8 @@ going-first f m table h t =
 pub scanned-other : (f m table : List ℕ) → (byteAt f 0 ≡ headKind → ⊥) → Scanned f m m table (Broken 0)
 scanned-other f m table h = record { long = refl; comes = records-other f h }
 
-pub scan-end : {f m₀ m table : List ℕ} {p k last : ℕ} → ScanAt f m₀ m table p k last → length f ≤ p → Scanned f m₀ m table (Whole k last)
-scan-end {f} {m₀} {m} {table} {p} G h =
+pub scanned-end : {f m₀ m table : List ℕ} {p k last : ℕ} → ScanAt f m₀ m table p k last → length f ≤ p → Scanned f m₀ m table (Whole k last)
+scanned-end {f} {m₀} {m} {table} {p} G h =
     let g = G .went [] (rest-end f p h) in
     record { long = G .long; comes = (g .0, G .first ∙ g .1, sym (g .2 ∙ (unfold marked in refl)), g .3) }
 

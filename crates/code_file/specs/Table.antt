@@ -48,13 +48,13 @@ pub at : (f : ℕ → ℕ → Bool) (xs : List ℕ) → T (everyEntry f 0 xs) �
 at f xs t k h = subst (λ (m : ℕ). T (f m (getD xs k 0))) (zero-add k) (from f xs 0 t k h)
 
 -- the rule of the entry x of kind k
-unfoldable pub right : ℕ → ℕ → Bool
-right k x = eqb x (bodyOf k)
+unfoldable pub entryRight : ℕ → ℕ → Bool
+entryRight k x = eqb x (bodyOf k)
 
-right-all : T (everyEntry right 0 lengths)
-unfolding lengths right bodyOf bodies codes
+right-all : T (everyEntry entryRight 0 lengths)
+unfolding lengths entryRight bodyOf bodies codes
 right-all = tt
 
 pub lengths-are : (k : ℕ) → k < 256 → getD lengths k 0 ≡ bodyOf k
-unfolding lengths right
-lengths-are k h = eqb→eq (getD lengths k 0) (bodyOf k) (at right lengths right-all k h)
+unfolding lengths entryRight
+lengths-are k h = eqb→eq (getD lengths k 0) (bodyOf k) (at entryRight lengths right-all k h)

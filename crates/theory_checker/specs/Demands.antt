@@ -6,7 +6,7 @@ use mathlib.Core.List.{List}
 use mathlib.Core.Path.{_≡_, refl, ap, sym, _∙_}
 use native.Mathlib.Omega.{arith}
 use lib.ListN.{length}
-use Rattle.model.specs.Checker.{Known, stateAt, Flow, refused as stops, passed as goes, flow}
+use Rattle.model.specs.Checker.{Known, stateAt, Flow, refused, passed, flow}
 use Rattle.model.specs.Rules.{Assignment, Keeps}
 use Rattle.model.specs.Calls.{mapSize, Verdict, pass, refuse, flowed, verdictOf, answered, checkOf}
 use Rattle.model.specs.Claim.{Bytes, assigned, InOrder, MapKeeps, MapAlone, RefusedExactly, RightCode, PassedExactly}
@@ -35,7 +35,7 @@ module _ (f map : List ℕ) where
   answer-passed B room R =
       let W = R .in-order in
       let F = keeps-flow f (W .places) B (W .records) (W .heads) (R .assignment) (R .keeps) in
-      answer-is W room (goes (F .known)) (F .passes)
+      answer-is W room (passed (F .known)) (F .passes)
 
 -- Manual 5.16.2: the map of a file that passes keeps the rules
 pub map-keeps : MapKeeps
@@ -46,19 +46,19 @@ pub map-alone : MapAlone
 map-alone f map B e = keeps-unique f map B (checkOf f map .map) (passes f map e)
 
 -- Manual 5.16.3: refused exactly when no assignment keeps the rules
-pub refused : RefusedExactly
-refused f map B W room = (
+pub refused-exactly : RefusedExactly
+refused-exactly f map B W room = (
   λ r A K. never (r .0) (r .1) (sym (r .2) ∙ answer-passed f map B room (record { in-order = W; assignment = A; keeps = K })),
   λ w. go w (flow f) refl,
 )
   where
     go : ((A : Assignment) → Keeps f A → ⊥) → (r : Flow Known) → flow f ≡ r → (n : ℕ) × (p : ℕ) × (checkOf f map .answer ≡ Refused n p)
-    go w (stops n p) e = (n, p, answer-is f map W room (stops n p) e)
-    go w (goes k) e = absurd (w (stateAt k) (flow-keeps f (W .places) B (W .records) (W .heads) k e))
+    go w (refused n p) e = (n, p, answer-is f map W room (refused n p) e)
+    go w (passed k) e = absurd (w (stateAt k) (flow-keeps f (W .places) B (W .records) (W .heads) k e))
 
 -- Manual 5.16.1: passed exactly when the rules for code hold of it
-pub passed : PassedExactly
-passed f map B room = (
+pub passed-exactly : PassedExactly
+passed-exactly f map B room = (
   λ e.
       record {
         in-order = passed-as f map (checkOf f map .map) (passes f map e) .formed;

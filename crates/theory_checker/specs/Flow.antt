@@ -259,12 +259,12 @@ laws f B =
     }
 
 -- at q no handler is open, or the one opened at h, a 160 of the procedure below q
-abbrev pub Open : List ℕ → ℕ → ℕ → Type 0
-Open f q h = (h ≡ none) ⊎ (Opens f q h × (h < q))
+abbrev pub OpenHandler : List ℕ → ℕ → ℕ → Type 0
+OpenHandler f q h = (h ≡ none) ⊎ (Opens f q h × (h < q))
 
 pub record StateShape (f : List ℕ) (A : Assignment) (q : ℕ) : Type 0 where
   pub within : DepthsWithin f q (A q)
-  pub third : Open f q (A q .inner)
+  pub third : OpenHandler f q (A q .inner)
 
 -- the states known at the beginning are those of the first instructions
 firsts-inner : (f : List ℕ) (n q : ℕ) → stateAt (firsts f n) q .inner ≡ none
@@ -353,33 +353,33 @@ module _ (f ps : List ℕ) (B : Bytes f) (e : recordsOf f ≡ starts ps) (H : He
           near (inr d) = rw (M .same-proc, d .0, d .1) (P .within)
 
           -- a handler that is open at an earlier place of the procedure
-          still : (i : ℕ) → i < q → procAt f q ≡ procAt f i → StateShape f A i → (h : ℕ) → h ≡ A i .inner → Open f q h
+          still : (i : ℕ) → i < q → procAt f q ≡ procAt f i → StateShape f A i → (h : ℕ) → h ≡ A i .inner → OpenHandler f q h
           still i l s S h e = pick (S .third)
             where
-              pick : Open f i (A i .inner) → Open f q h
+              pick : OpenHandler f i (A i .inner) → OpenHandler f q h
               pick (inl z) = inl (e ∙ z)
               pick (inr z) =
                   rw e
                   (inr (record { there = z .0 .there; opens = z .0 .opens; same-proc = z .0 .same-proc ∙ sym s }, omega (arith, z .1)))
 
-          opened : InnerFrom f (g .from) (A (g .from)) (innermostAt A (g .from)) (A q) → Open f q (A q .inner)
+          opened : InnerFrom f (g .from) (A (g .from)) (innermostAt A (g .from)) (A q) → OpenHandler f q (A q .inner)
           opened (inl z) = still p (g .earlier) (M .same-proc) P (A q .inner) z
           opened (inr (inl z)) =
               rw (z .0) (inr (record { there = g .there; opens = z .1; same-proc = sym (M .same-proc) }, g .earlier))
           opened (inr (inr z)) = outside (P .third)
             where
-              none-open : A p .inner ≡ none → Open f q (A q .inner)
+              none-open : A p .inner ≡ none → OpenHandler f q (A q .inner)
               none-open w = inl (z ∙ ap (λ (x : State). x .inner) (innermost-none A (A p) w))
 
-              outside : Open f p (A p .inner) →
-                  Open f q (A q .inner)
+              outside : OpenHandler f p (A p .inner) →
+                  OpenHandler f q (A q .inner)
               outside (inl w) = none-open w
               outside (inr w) = pick (ℕ-discrete (A p .inner) none)
                 where
                   below : A p .inner < q
                   below = omega (arith, w .1, g .earlier)
 
-                  pick : Dec (A p .inner ≡ none) → Open f q (A q .inner)
+                  pick : Dec (A p .inner ≡ none) → OpenHandler f q (A q .inner)
                   pick (yes x) = none-open x
                   pick (no x) =
                       still (A p .inner) below (M .same-proc ∙ sym (w .0 .same-proc)) (r (A p .inner) below (w .0 .there)) (A q .inner)
@@ -394,7 +394,7 @@ module _ (f ps : List ℕ) (B : Bytes f) (e : recordsOf f ≡ starts ps) (H : He
         got = R .got;
       }
     where
-      opens : {p h : ℕ} → Open f p h → (h ≡ none) ⊎ Opens f p h
+      opens : {p h : ℕ} → OpenHandler f p h → (h ≡ none) ⊎ Opens f p h
       opens (inl z) = inl z
       opens (inr z) = inr (z .0)
 

@@ -20,7 +20,7 @@ use Rattle.model.specs.Sound.{mainAt, ptrAt, innerAt, isIns}
 use Rattle.laws_file.specs.Codes.{byte-enter}
 use Rattle.laws.specs.Members.{member-in, in-member}
 use Rattle.laws_file.specs.Walk.{instruction-below, procs-some, entry-proc}
-use Rattle.theory_checker.specs.Flow.{Open, StateShape, moves}
+use Rattle.theory_checker.specs.Flow.{OpenHandler, StateShape, moves}
 use Rattle.theory_checker.specs.Exact.{passed-as, passed-keeps, passed-shape}
 
 -- an instruction stands at q, of procedure n, and the map has this state there
@@ -167,7 +167,7 @@ module _ (f map : List ℕ) (L : CodeLaws f map) where
   unfolding isIns
   inner-opens p h n = go (L .shape p (there p h) .third)
     where
-      go : Open f p (innerAt map p) → InnerSite p
+      go : OpenHandler f p (innerAt map p) → InnerSite p
       go (inl e) = absurd (n e)
       go (inr O) =
           let k = in-member (innerAt map p) (instructions f) (O .0 .there) in

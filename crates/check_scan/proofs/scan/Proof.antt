@@ -5,7 +5,7 @@ use Prim.Native.Nat.{_-_}
 use native.Mathlib.Omega.{arith}
 use lib.ListN.{length}
 use borrow.Author.Needs.{needs}
-use Rattle.check_scan.specs.Scanning.{Behind, behind-first, scan-end, head-body, scan-unknown, scan-short, scan-mark, scan-head, scanned-other}
+use Rattle.check_scan.specs.Scanning.{Behind, behind-first, scanned-end, head-body, scan-unknown, scan-short, scan-mark, scan-head, scanned-other}
 use Rattle.check_scan.proofs.scan.Statement.{statement}
 use Rattle.check_scan.proofs.scan.Tie as tie
 
@@ -142,7 +142,7 @@ same-length-3 : tie.Need-same-length-3 Inv-loop μ-loop
 same-length-3 c = c .before .before .loop .inv .1 .long
 
 returns-4 : tie.Need-returns-4 Inv-loop μ-loop
-returns-4 c = scan-end (c .before .before .loop .inv .1 .here (omega arith)) (omega arith)
+returns-4 c = scanned-end (c .before .before .loop .inv .1 .here (omega arith)) (omega arith)
 
 pub scan-spec : {M : Type 1} → statement M
 scan-spec =
