@@ -11,7 +11,8 @@ use Rattle.model.specs.Choice.{if_then_else_, Test, atMost, all, All, all-true}
 use Rattle.model.specs.File.{headOf, procsMost}
 use Rattle.model.specs.Heap.{clean, heapOf, objectsOf}
 use Rattle.model.specs.Control.{registerBytes, recordWords}
-use Rattle.model.specs.Calls.{pass, refuse, verdictOf, Checked, checked, answered, checkOf, Lent, withMap, After, answers, lengthTests, afterMap, afterCheck, tested, mainMost, ptrMost, ctlMost, heapMost}
+use Rattle.model.specs.Calls.{pass, refuse, verdictOf, Checked, checked, answered, checkOf, Lent, withMap, After, answers, lengthTests, afterMap}
+use Rattle.model.specs.Calls.{afterCheck, tested, mainMost, ptrMost, ctlMost, heapMost}
 use Rattle.model.specs.Calls as model
 use Rattle.theory_checker.specs.Exact.{passed-as}
 use Rattle.laws_file.specs.Procedures.{head-zero, head-whole}
