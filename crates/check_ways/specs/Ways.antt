@@ -23,7 +23,7 @@ use Rattle.check_rows.specs.Site.{Site}
 use Rattle.check_rows.specs.Tests.{asState, goesBy, jumpsBy, targetOk, stacksOk, depthOk, leaveOk, effectIn, nextState, targetState, PopsFit}
 use Rattle.check_rows.specs.Tests.{stacks-fit, target-tests, next-tests, depth-tests, leave-tests, passes-are}
 use Rattle.check_rows.specs.Rows.{row, rowShape, isSetIn, onwardBy, plainly, Bounded, still}
-use Rattle.check_rows.specs.Kinds.{NoJump, elsewhere, straight?, straight}
+use Rattle.check_rows.specs.Kinds.{NoJump, elsewhere, straight?, straight, body-jumps}
 use Rattle.laws_file.specs.Walk.{after-above}
 use Rattle.check_scan.specs.Marks.{stateIn}
 use Rattle.check_ways.specs.declared.Taken.{Taken}
@@ -410,6 +410,10 @@ led {f} {m} {h} {p} A k n sh e b i =
       shape-is = rw (A .kind-is, e) i;
       size = rw (A .kind-is, e) (omega (arith, b));
     }
+
+-- 1 to 6 have a body of two bytes
+pub target-room : {f m : List ℕ} {h p kind : ℕ} {l : Limits} → Among f m h p l kind × (1 ≤ kind) × (kind ≤ 6) → p + 2 < length f
+target-room W = site.body-room (W .0 .here .site) 2 (ap bodyOf (W .0 .kind-is) ∙ body-jumps _ (W .1) (W .2))
 
 module _ {f m : List ℕ} {h p : ℕ} {l : Limits} {s : Numbers} where
   pub on-jump : {t : ℕ} → Led f m h p 3 l (leadsTo Jump 0 t) → StateIs m p s →

@@ -37,8 +37,8 @@ returns-3 : tie.Need-returns-3
 returns-3 c =
     let at-state-in = c .before .before .before .before .before .before in
     let entry = at-state-in .before .before .before .before in
-    let J = test-passes (test-passes (on-close (entry .pre) (at-state-in .state-in .ensures)) (lt-ltb _ _ (c .before .before .before .before .if1 .left))) (lt-ltb _ _ (c .before .before .if2 .left)) in
-    stops J (ap not (eq-eqb _ _ (c .if3 .taken)))
+    let J = test-passes (on-close (entry .pre) (at-state-in .state-in .ensures)) (lt-ltb _ _ (c .before .before .before .before .if1 .left)) in
+    stops (test-passes J (lt-ltb _ _ (c .before .before .if2 .left))) (ap not (eq-eqb _ _ (c .if3 .taken)))
 
 outer-of-requires : tie.Need-outer-of-requires
 outer-of-requires c κs =

@@ -4,17 +4,14 @@ use mathlib.Core.Path.{_≡_, _∙_, ap, refl, sym}
 use native.Mathlib.Omega.{arith}
 use Rattle.model.specs.File.{codes, bodies, bodyOf, forwards, insOf}
 use Rattle.check_rows.specs.Shape.{Jump, Branch, Keep, shapeOf}
-use Rattle.check_rows.specs.Site.{body-room}
-use Rattle.check_rows.specs.Kinds.{body-jumps, each-from}
-use Rattle.check_ways.specs.Ways.{leadsTo, led}
+use Rattle.check_rows.specs.Kinds.{each-from}
+use Rattle.check_ways.specs.Ways.{leadsTo, led, target-room}
 use borrow.Author.Needs.{needs}
 use Rattle.check_ways.proofs.jumps.Statement.{statement}
 use Rattle.check_ways.proofs.jumps.Tie as tie
 
 forwards-requires : tie.Need-forwards-requires
-forwards-requires c κs =
-    let entry = c .before .before .before .before in
-    body-room (entry .pre .0 .here .site) 2 (ap bodyOf (entry .pre .0 .kind-is) ∙ body-jumps _ (entry .pre .1) (entry .pre .2))
+forwards-requires c κs = target-room (c .before .before .before .before .pre)
 
 jump-requires : tie.Need-jump-requires
 unfolding insOf shapeOf bodyOf bodies codes
@@ -23,9 +20,7 @@ jump-requires c κs =
     led (entry .pre .0) 1 3 (leadsTo Jump 0 _) (c .before .before .match .keys1) refl (ap (leadsTo Jump 0) (sym (c .forwards .ensures .is)))
 
 backwards-requires : tie.Need-backwards-requires
-backwards-requires c κs =
-    let entry = c .before .before .before .before in
-    body-room (entry .pre .0 .here .site) 2 (ap bodyOf (entry .pre .0 .kind-is) ∙ body-jumps _ (entry .pre .1) (entry .pre .2))
+backwards-requires c κs = target-room (c .before .before .before .before .pre)
 
 jump-requires-2 : tie.Need-jump-requires-2
 unfolding insOf shapeOf bodyOf bodies codes
@@ -34,9 +29,7 @@ jump-requires-2 c κs =
     led (entry .pre .0) 3 3 (leadsTo Jump 0 _) (c .before .before .match .keys2) refl (ap (leadsTo Jump 0) (sym (c .backwards .ensures .is)))
 
 forwards-requires-2 : tie.Need-forwards-requires-2
-forwards-requires-2 c κs =
-    let entry = c .before .before .before .before in
-    body-room (entry .pre .0 .here .site) 2 (ap bodyOf (entry .pre .0 .kind-is) ∙ body-jumps _ (entry .pre .1) (entry .pre .2))
+forwards-requires-2 c κs = target-room (c .before .before .before .before .pre)
 
 branch-requires : tie.Need-branch-requires
 unfolding insOf shapeOf bodyOf bodies codes
@@ -45,9 +38,7 @@ branch-requires c κs =
     led (entry .pre .0) 2 3 (leadsTo Branch 1 _) (c .before .before .match .keys3) refl (ap (leadsTo Branch 1) (sym (c .forwards2 .ensures .is)))
 
 backwards-requires-2 : tie.Need-backwards-requires-2
-backwards-requires-2 c κs =
-    let entry = c .before .before .before .before in
-    body-room (entry .pre .0 .here .site) 2 (ap bodyOf (entry .pre .0 .kind-is) ∙ body-jumps _ (entry .pre .1) (entry .pre .2))
+backwards-requires-2 c κs = target-room (c .before .before .before .before .pre)
 
 branch-requires-2 : tie.Need-branch-requires-2
 unfolding insOf shapeOf bodyOf bodies codes
@@ -56,9 +47,7 @@ branch-requires-2 c κs =
     led (entry .pre .0) 4 3 (leadsTo Branch 1 _) (c .before .before .match .keys4) refl (ap (leadsTo Branch 1) (sym (c .backwards2 .ensures .is)))
 
 forwards-requires-3 : tie.Need-forwards-requires-3
-forwards-requires-3 c κs =
-    let entry = c .before .before .before .before in
-    body-room (entry .pre .0 .here .site) 2 (ap bodyOf (entry .pre .0 .kind-is) ∙ body-jumps _ (entry .pre .1) (entry .pre .2))
+forwards-requires-3 c κs = target-room (c .before .before .before .before .pre)
 
 branch-requires-3 : tie.Need-branch-requires-3
 unfolding insOf shapeOf bodyOf bodies codes

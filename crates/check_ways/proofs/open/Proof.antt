@@ -49,7 +49,8 @@ returns-3 c =
     let at-own = at-if1 .before in
     let entry = at-own .before .before .before .before in
     let J = test-passes (on-open (entry .pre) (c .before .before .before .before .state-in .ensures)) (sym (at-own .own .ensures) ∙ at-if1 .if1 .taken) in
-    stops (test-passes (test-passes J (le-leb (suc (entry .args .p)) (entry .args .target) (omega (arith, at-if2 .if2 .left)))) (lt-ltb _ _ (c .before .before .if3 .left))) (le-ltb _ _ (c .if4 .taken))
+    let K = test-passes J (le-leb (suc (entry .args .p)) (entry .args .target) (omega (arith, at-if2 .if2 .left))) in
+    stops (test-passes K (lt-ltb _ _ (c .before .before .if3 .left))) (le-ltb _ _ (c .if4 .taken))
 
 same-length-4 : tie.Need-same-length-4
 same-length-4 c = search needs
@@ -99,8 +100,9 @@ returns-5 c =
     let at-own = at-if1 .before in
     let entry = at-own .before .before .before .before in
     let J = test-passes (on-open (entry .pre) (at-state-in .state-in .ensures)) (sym (at-own .own .ensures) ∙ at-if1 .if1 .taken) in
-    let K = test-passes (test-passes (test-passes J (le-leb (suc (entry .args .p)) (entry .args .target) (omega (arith, at-if2 .if2 .left)))) (lt-ltb _ _ (at-if3 .if3 .left))) (lt-ltb _ _ (at-if4 .if4 .left)) in
-    c .before .before .pass-both .ensures ∙ sym (all-passed (test-passes K (le-leb (suc (at-state-in .state-in .result .main)) (entry .args .limits .x) (omega (arith, at-if5 .if5 .left)))))
+    let K = test-passes J (le-leb (suc (entry .args .p)) (entry .args .target) (omega (arith, at-if2 .if2 .left))) in
+    let L = test-passes (test-passes K (lt-ltb _ _ (at-if3 .if3 .left))) (lt-ltb _ _ (at-if4 .if4 .left)) in
+    c .before .before .pass-both .ensures ∙ sym (all-passed (test-passes L (le-leb (suc (at-state-in .state-in .result .main)) (entry .args .limits .x) (omega (arith, at-if5 .if5 .left)))))
 
 same-length-6 : tie.Need-same-length-6
 same-length-6 c = search needs
