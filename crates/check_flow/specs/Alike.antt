@@ -16,7 +16,8 @@ use Rattle.model.specs.Checker.{leaveTests, Taking, bad, good, need, meet, andT
 use Rattle.model.specs.Claim.{Bytes}
 use Rattle.laws.specs.Members.{in-member, member-in}
 use Rattle.laws_file.specs.Walk.{instruction-below}
-use Rattle.theory_checker.specs.Flow.{DepthsWithin, DepthsFrom, InnerFrom, Moves, moves}
+use Rattle.laws_file.specs.Procedures.{DepthsWithin}
+use Rattle.theory_checker.specs.Flow.{DepthsFrom, InnerFrom, Moves, moves}
 use Rattle.check_scan.specs.Marks.{unreached, stateIn, putIn, PartShows, put-shows}
 use Rattle.check_rows.specs.Rows.{isSetIn}
 use Rattle.check_ways.specs.Takes.{passAllIn, takeInWith, takeIn}

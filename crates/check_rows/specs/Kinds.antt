@@ -8,8 +8,8 @@ use mathlib.Core.Bool.{Bool, true, false}
 use mathlib.Core.Path.{_≡_, refl, subst}
 use lib.Dec.{eqb}
 use borrow.Author.Tests.{ne-eqb}
-use Rattle.model.specs.Choice.{if_then_else_}
 use Rattle.model.specs.File.{codes, bodies, unknown, bodyOf, Ins, basic, jump, branch, branchKeep, call, return, enter, exit, raise, insOf, headKind}
+use Rattle.laws_file.specs.Codes.{ins-if, if-same}
 use Rattle.laws_file.specs.Kinds.{OneOf, NoneOf, at-each, ins-other, body-other}
 
 -- what holds at each of n numbers from a on
@@ -102,21 +102,13 @@ straight? (enter s) = false
 straight? exit = false
 straight? raise = true
 
-straight-if : (t : Bool) (a b : Ins) → straight? (if t then a else b) ≡ (if t then straight? a else straight? b)
-straight-if true a b = refl
-straight-if false a b = refl
-
-if-same : (t b : Bool) → (if t then b else b) ≡ b
-if-same true b = refl
-if-same false b = refl
-
 pub straight : (k : ℕ) → NoJump k → NoneOf elsewhere k → (f : List ℕ) (p : ℕ) → straight? (insOf f p k) ≡ true
 unfolding insOf
 straight k a e f p =
     let no : (n : ℕ) → 1 ≤ n → n ≤ 6 → eqb k n ≡ false =
     λ n l h. ne-eqb k n (λ z. ⊎-elim (λ t. omega arith) (λ t. omega arith) a) in
     simp (
-      straight-if,
+      ins-if straight?,
       if-same,
       no 1 (omega arith) (omega arith),
       no 2 (omega arith) (omega arith),

@@ -13,7 +13,7 @@ use Rattle.model.specs.File.{byteAt, Records, recordsOf, startsIn, isHead, sele
 use Rattle.model.specs.File.{paramsPtr, headTests, fileMost, procsMost}
 use Rattle.model.specs.Checker.{none, Known, stateAt, isSet, firsts, first, mapFrom}
 use Rattle.model.specs.Calls.{overMap, wiped, pass, refuse, scanned, verdictOf, checked, answered, checkOf}
-use Rattle.theory_checker.specs.Flow.{DepthsWithin}
+use Rattle.laws_file.specs.Procedures.{DepthsWithin}
 use Rattle.laws_file.specs.Walk.{HeadsHold, heads-right, entry-proc, file-walk, walk-above, after-above}
 use Rattle.check_scan.specs.Marks.{PartShows, marked, marked-shows}
 use Rattle.check_scan.specs.Scanning.{Comes, Scanned, listed-count, listed-all}

@@ -9,7 +9,16 @@ use borrow.Author.Tests.{eqb-true}
 use Rattle.model.specs.File.{Ins, basic, jump, branch, branchKeep, call, return, enter, exit, raise, byteAt, codes, bodyOf, bodies, after, operand, insOf, insAt}
 use Rattle.model.specs.Choice.{if_then_else_}
 
--- whether an instruction is a call
+-- a property of an instruction that is chosen by a test
+pub ins-if : (is? : Ins → Bool) (t : Bool) (i j : Ins) → is? (if t then i else j) ≡ (if t then is? i else is? j)
+ins-if is? true i j = refl
+ins-if is? false i j = refl
+
+pub if-same : (t b : Bool) → (if t then b else b) ≡ b
+if-same true b = refl
+if-same false b = refl
+
+-- whether an instruction is a call; opens a handler
 calls? : Ins → Bool
 calls? (basic b) = false
 calls? (jump q) = false
@@ -21,26 +30,42 @@ calls? (enter s) = false
 calls? exit = false
 calls? raise = false
 
-calls-if : (t : Bool) (a b : Ins) → calls? (if t then a else b) ≡ (if t then calls? a else calls? b)
-calls-if true a b = refl
-calls-if false a b = refl
-
-if-same : (t : Bool) → (if t then false else false) ≡ false
-if-same true = refl
-if-same false = refl
+opens? : Ins → Bool
+opens? (basic b) = false
+opens? (jump q) = false
+opens? (branch t q) = false
+opens? (branchKeep t q) = false
+opens? (call n) = false
+opens? return = false
+opens? (enter s) = true
+opens? exit = false
+opens? raise = false
 
 not-call : (f : List ℕ) (p k : ℕ) → eqb k 72 ≡ false → calls? (insOf f p k) ≡ false
 unfolding insOf calls?
-not-call f p k e = rw e (simp (calls-if, if-same))
+not-call f p k e = rw e (simp (ins-if calls?, if-same))
+
+not-enter : (f : List ℕ) (p k : ℕ) → eqb k 160 ≡ false → opens? (insOf f p k) ≡ false
+unfolding insOf opens?
+not-enter f p k e = rw e (simp (ins-if opens?, if-same))
 
 module _ (f : List ℕ) (p : ℕ) where
-  pub call-byte : (n : ℕ) → insAt f p ≡ call n → byteAt f p ≡ 72
-  unfolding insAt calls?
-  call-byte n e = go (eqb (byteAt f p) 72) refl
+  -- a property that the instructions of all codes but k lack tells the code
+  code-byte : (is? : Ins → Bool) (k : ℕ) → ((j : ℕ) → eqb j k ≡ false → is? (insOf f p j) ≡ false) → is? (insAt f p) ≡ true → byteAt f p ≡ k
+  unfolding insAt
+  code-byte is? k others e = go (eqb (byteAt f p) k) refl
     where
-      go : (t : Bool) → eqb (byteAt f p) 72 ≡ t → byteAt f p ≡ 72
-      go true u = eqb-true (byteAt f p) 72 u
-      go false u = absurd (true≢false (sym (ap calls? e) ∙ not-call f p (byteAt f p) u))
+      go : (t : Bool) → eqb (byteAt f p) k ≡ t → byteAt f p ≡ k
+      go true u = eqb-true (byteAt f p) k u
+      go false u = absurd (true≢false (sym e ∙ others (byteAt f p) u))
+
+  pub call-byte : (n : ℕ) → insAt f p ≡ call n → byteAt f p ≡ 72
+  unfolding calls?
+  call-byte n e = code-byte calls? 72 (not-call f p) (ap calls? e)
+
+  pub enter-byte : (n : ℕ) → insAt f p ≡ enter n → byteAt f p ≡ 160
+  unfolding opens?
+  enter-byte n e = code-byte opens? 160 (not-enter f p) (ap opens? e)
 
   pub byte-call : byteAt f p ≡ 72 → insAt f p ≡ call (operand f p)
   unfolding insAt insOf

@@ -9,7 +9,8 @@ use lib.Dec.{ltb}
 use lib.ListN.{length, getD, List·getD-eq-default}
 use borrow.Author.Tests.{lt-ltb, le-ltb, eq-eqb}
 use Rattle.model.specs.Choice.{if_then_else_, Mem}
-use Rattle.model.specs.File.{byteAt, headKind, isHead, select, instructions, heads, procs, headOf, procAt, upTo, recordsOf, starts}
+use Rattle.model.specs.File.{byteAt, headKind, isHead, select, instructions, heads, procs, headOf, procAt, upTo, recordsOf, starts, greatestMain, greatestPtr}
+use Rattle.model.specs.Checker.{State}
 use Rattle.laws.specs.Members.{getD-in}
 use Rattle.laws_file.specs.Walk.{Walk, file-walk, walk-above, after-head, first-head, head-in, heads-rise, ins-in, instruction-below, upTo-most}
 use Rattle.laws_file.specs.Walk.{upTo-least, upTo-less, procs-some, proc-below}
@@ -17,6 +18,10 @@ use Rattle.laws_file.specs.Walk.{upTo-least, upTo-less, procs-some, proc
 -- where the procedure behind n heads ends: at the next head, or with the file
 unfoldable pub endOf : List ℕ → ℕ → ℕ
 endOf f n = if ltb n (procs f) then headOf f n else length f
+
+-- depths within the greatest of the procedure that p lies in
+abbrev pub DepthsWithin : List ℕ → ℕ → State → Type 0
+DepthsWithin f p u = (u .main ≤ greatestMain f (procAt f p)) × (u .ptr ≤ greatestPtr f (procAt f p))
 
 module _ (f ps : List ℕ) (e : recordsOf f ≡ starts ps) where
   pub head-zero : headOf f 0 ≡ 0

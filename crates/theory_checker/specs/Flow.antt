@@ -23,39 +23,9 @@ use Rattle.theory_checker.specs.Pass.{goOn-inv, Set, Sent, Linked, inner
 use Rattle.theory_checker.specs.Pass.{pass-ran, ran-places, PassFound, pass-found}
 use Rattle.laws.specs.Choices.{both-true}
 use Rattle.laws.specs.Members.{member-in}
+use Rattle.laws_file.specs.Codes.{enter-byte}
+use Rattle.laws_file.specs.Procedures.{DepthsWithin}
 use Rattle.laws_file.specs.Walk.{HeadsHold, instructions-rise, entry-in, entry-proc}
-
--- only code 160 opens a handler
-abbrev isEnter : Ins → Bool
-isEnter (basic b) = false
-isEnter (jump q) = false
-isEnter (branch t q) = false
-isEnter (branchKeep t q) = false
-isEnter (call n) = false
-isEnter return = false
-isEnter (enter s) = true
-isEnter exit = false
-isEnter raise = false
-
-enter-if : (t : Bool) (a b : Ins) → isEnter (if t then a else b) ≡ (if t then isEnter a else isEnter b)
-enter-if true a b = refl
-enter-if false a b = refl
-
-if-same : (t b : Bool) → (if t then b else b) ≡ b
-if-same true b = refl
-if-same false b = refl
-
-other-code : (f : List ℕ) (p k : ℕ) → eqb k 160 ≡ false → isEnter (insOf f p k) ≡ false
-unfolding insOf
-other-code f p k e = simp (enter-if, if-same, e)
-
-pub enter-code : (f : List ℕ) (p n : ℕ) → insAt f p ≡ enter n → byteAt f p ≡ 160
-unfolding insAt
-enter-code f p n e = go (eqb (byteAt f p) 160) refl
-  where
-    go : (t : Bool) → eqb (byteAt f p) 160 ≡ t → byteAt f p ≡ 160
-    go true h = eqb-true (byteAt f p) 160 h
-    go false h = absurd (true≢false (sym (ap isEnter e) ∙ other-code f p (byteAt f p) h))
 
 -- what the tests of refusals 5 to 8 say of the instruction at p, with its state and its handler's
 pub record TestsHold (f : List ℕ) (p : ℕ) (s o : State) : Type 0 where
@@ -63,10 +33,6 @@ pub record TestsHold (f : List ℕ) (p : ℕ) (s o : State) : Type 0 where
   pub nexts : All (nextTests f p (insAt f p))
   pub depths : All (depthTests f p (insAt f p) s o)
   pub leaves : All (leaveTests f p (insAt f p) s)
-
--- depths within those of the procedure that p lies in
-abbrev pub DepthsWithin : List ℕ → ℕ → State → Type 0
-DepthsWithin f p u = (u .main ≤ greatestMain f (procAt f p)) × (u .ptr ≤ greatestPtr f (procAt f p))
 
 -- a passed state has depths within the procedure's, or those of the state that it comes from
 abbrev pub DepthsFrom : List ℕ → ℕ → State → State → Type 0
@@ -138,7 +104,7 @@ module _ (f : List ℕ) (p : ℕ) (s o : State) where
       moves-to q _ u _ (n .0) (inl (d .1 .1 .0, d .1 .1 .1 .0)) (inl refl) (moved-high (effectOf f (call m)) s o (d .0, (d .1 .0, tt))) h
   moves-by return e t n d q u h = absurd h
   moves-by (enter m) e t n d q u (inl h) =
-      moves-to q _ u _ (n .0) (inr (refl, refl)) (inr (inl (refl, enter-code f p m e))) (same-high s o p) h
+      moves-to q _ u _ (n .0) (inr (refl, refl)) (inr (inl (refl, enter-byte f p m e))) (same-high s o p) h
   moves-by (enter m) e t n d q u (inr (inl h)) =
       let y = d .1 .1 .1 .0 in
       moves-to q _ u _ (t .0) (inl (d .1 .1 .1 .1 .0, omega arith)) (inl refl)
