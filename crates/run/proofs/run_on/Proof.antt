@@ -108,17 +108,11 @@ returns-2 c =
     let S = at-go-on .before .before .before .before .before .before .before .before .before .before .before .before in
     let L = at-loop .loop in
     rw (c .answered2 .ensures)
-    (going-uncaught (S .args .file .now) (S .args .table .now) (L .left) (record { regs = L .r; main = L .main; ptr = L .ptr; ctl = L .ctl; heap = L .heap })
+    (going-uncaught (S .args .file .now) (S .args .table .now) (L .left) _
     (L .inv .going .runs) (at-loop-test .loop-test .taken) (L .inv .on?) (L .plan)
     (L .inv .stopped (at-loop-test .loop-test .taken) .is) (at-step-with .step-with .result) _ (at-step-with .step-with .ensures) (S .args .budget)
     (record { regs = S .args .regs; main = S .args .main .now; ptr = S .args .ptr .now; ctl = S .args .ctl .now; heap = S .args .heap .now })
-    (going-trans (S .args .file .now) (S .args .table .now) (S .args .budget) (record {
-      regs = S .args .regs;
-      main = S .args .main .now;
-      ptr = S .args .ptr .now;
-      ctl = S .args .ctl .now;
-      heap = S .args .heap .now;
-    }) _ _ (L .left) (record { regs = L .r; main = L .main; ptr = L .ptr; ctl = L .ctl; heap = L .heap }) (at-go-on .go-on .ensures .going)
+    (going-trans (S .args .file .now) (S .args .table .now) (S .args .budget) _ _ _ (L .left) _ (at-go-on .go-on .ensures .going)
     (L .inv .going)) (went-off? _ (c .before .before .if2 .taken)))
 
 sub-done-2 : tie.Need-sub-done-2 Inv-loop μ-loop
@@ -167,30 +161,10 @@ returns-3 c =
     let S = at-go-on .before .before .before .before .before .before .before .before .before .before .before .before in
     let L = at-loop .loop in
     rw (c .answered3 .ensures)
-    (going-finished (S .args .file .now) (S .args .table .now) (S .args .budget) (record {
-      regs = S .args .regs;
-      main = S .args .main .now;
-      ptr = S .args .ptr .now;
-      ctl = S .args .ctl .now;
-      heap = S .args .heap .now;
-    }) (L .left - 1) _
-    (going-on (S .args .file .now) (S .args .table .now) (L .left) (record { regs = L .r; main = L .main; ptr = L .ptr; ctl = L .ctl; heap = L .heap })
+    (going-finished (S .args .file .now) (S .args .table .now) (S .args .budget) _ (L .left - 1) _
+    (going-on (S .args .file .now) (S .args .table .now) (L .left) _
     (L .inv .going .runs) (at-loop-test .loop-test .taken) (L .inv .on?) (L .plan) (L .inv .stopped (at-loop-test .loop-test .taken) .is)
-    (at-step-with .step-with .result) _ (at-step-with .step-with .ensures) (S .args .budget) (record {
-      regs = S .args .regs;
-      main = S .args .main .now;
-      ptr = S .args .ptr .now;
-      ctl = S .args
-          .ctl .now;
-      heap = S .args .heap .now;
-    }) (going-trans (S .args .file .now) (S .args .table .now) (S .args .budget) (record {
-      regs = S .args .regs;
-      main = S .args .main .now;
-      ptr = S .args
-          .ptr .now;
-      ctl = S .args .ctl .now;
-      heap = S .args .heap .now;
-    }) _ _ (L .left) (record { regs = L .r; main = L .main; ptr = L .ptr; ctl = L .ctl; heap = L .heap })
+    (at-step-with .step-with .result) _ (at-step-with .step-with .ensures) (S .args .budget) _ (going-trans (S .args .file .now) (S .args .table .now) (S .args .budget) _ _ _ (L .left) _
     (at-go-on .go-on .ensures .going) (L .inv .going)) (went-on? _ (c .before .before .before .before .if2 .left)) (record {
       main = at-step-with .step-with .kept .1 .1 .0;
       ptr = at-step-with
@@ -208,23 +182,9 @@ go-on-requires-2 c κs =
     let at-go-on = at-loop .before .before .before .before .before .before .before .before .before .before in
     let S = at-go-on .before .before .before .before .before .before .before .before .before .before .before .before in
     let L = at-loop .loop in (
-      going-on (S .args .file .now) (S .args .table .now) (L .left) (record { regs = L .r; main = L .main; ptr = L .ptr; ctl = L .ctl; heap = L .heap })
+      going-on (S .args .file .now) (S .args .table .now) (L .left) _
           (L .inv .going .runs) (at-loop-test .loop-test .taken) (L .inv .on?) (L .plan) (L .inv .stopped (at-loop-test .loop-test .taken) .is)
-          (at-step-with .step-with .result) _ (at-step-with .step-with .ensures) (S .args .budget) (record {
-            regs = S .args .regs;
-            main = S .args .main .now;
-            ptr = S .args .ptr .now;
-            ctl = S .args
-                .ctl .now;
-            heap = S .args .heap .now;
-          }) (going-trans (S .args .file .now) (S .args .table .now) (S .args .budget) (record {
-            regs = S .args .regs;
-            main = S .args .main .now;
-            ptr = S .args
-                .ptr .now;
-            ctl = S .args .ctl .now;
-            heap = S .args .heap .now;
-          }) _ _ (L .left) (record { regs = L .r; main = L .main; ptr = L .ptr; ctl = L .ctl; heap = L .heap })
+          (at-step-with .step-with .result) _ (at-step-with .step-with .ensures) (S .args .budget) _ (going-trans (S .args .file .now) (S .args .table .now) (S .args .budget) _ _ _ (L .left) _
           (at-go-on .go-on .ensures .going) (L .inv .going)) (went-on? _ (at-if2 .if2 .left)) (record {
             main = at-step-with .step-with .kept .1 .1 .0;
             ptr = at-step-with .step-with .kept .1 .1 .1
@@ -257,7 +217,7 @@ loop-again c =
     record {
       going =
           going-trans (S .args .file .now) (S .args .table .now) _ _ _ _ _ _
-          (going-on (S .args .file .now) (S .args .table .now) (L .left) (record { regs = L .r; main = L .main; ptr = L .ptr; ctl = L .ctl; heap = L .heap })
+          (going-on (S .args .file .now) (S .args .table .now) (L .left) _
           (L .inv .going .runs) t (L .inv .on?) (L .plan) (L .inv .stopped t .is) (at-step-with .step-with .result)
           _ (at-step-with .step-with .ensures) _ _ (L .inv .going) (went-on? _ (at-if2 .if2 .left)) (record {
             main = at-step-with .step-with .kept .1 .1 .0;
@@ -299,15 +259,9 @@ returns-4 c =
     let S = at-go-on .before .before .before .before .before .before .before .before .before .before .before .before in
     let L = c .before .before .loop in
     rw (c .answered4 .ensures)
-    (going-spent (S .args .file .now) (S .args .table .now) (S .args .budget) (record {
-      regs = S .args .regs;
-      main = S .args .main .now;
-      ptr = S .args .ptr .now;
-      ctl = S .args .ctl .now;
-      heap = S .args .heap .now;
-    }) (L .left) (record { regs = L .r; main = L .main; ptr = L .ptr; ctl = L .ctl; heap = L .heap }) (going-trans (S .args .file .now)
+    (going-spent (S .args .file .now) (S .args .table .now) (S .args .budget) _ (L .left) _ (going-trans (S .args .file .now)
     (S .args .table .now) (S .args .budget) (record { regs = S .args .regs; main = S .args .main .now; ptr = S .args .ptr .now; ctl = S .args .ctl .now; heap = S .args .heap .now }) _ _
-    (L .left) (record { regs = L .r; main = L .main; ptr = L .ptr; ctl = L .ctl; heap = L .heap }) (at-go-on .go-on .ensures .going) (L .inv .going))
+    (L .left) _ (at-go-on .go-on .ensures .going) (L .inv .going))
     (omega (arith, c .before .loop-test .left)) (L .inv .on?))
 
 pub run-on-spec : {M : Type 1} → statement M
