@@ -5,6 +5,7 @@ ghost use Prim.Native.Nat.{ℕ, _+_, _-_, _*_, _<_, _≤_};
 ghost use lib.ListN.{length};
 ghost use lib.Seq.{sets, slice};
 ghost use Rattle.model.specs.File.{after, fileMost};
+ghost use Rattle.model.specs.Control.{recordWords};
 ghost use Rattle.model.specs.Heap.{viewKind, made};
 ghost use Rattle.plan_meaning.specs.Settled.{calledBy, returned, opened, closed};
 ghost use Rattle.laws.specs.Cuts.{Topped};
@@ -61,7 +62,7 @@ pub fn call(file: &[u8], ctl: &mut [u32], regs: Regs, put: Put) -> Regs
 
 // 73: the frame's record goes.
 pub fn leave(ctl: &mut [u32], regs: Regs, put: Put) -> Regs
-    requires { ⌜ Topped (regs .ctop) (now ctl) × (1 ≤ regs .frame) × (5 * regs .frame ≤ regs .ctop) ⌝ }
+    requires { ⌜ Topped (regs .ctop) (now ctl) × (1 ≤ regs .frame) × (recordWords * regs .frame ≤ regs .ctop) ⌝ }
     ensures { λ r. ⌜ ((main ptr heap : List ℕ) → record { regs = r; main = main; ptr = ptr; ctl = now (ctl .exit); heap = heap }
         ≡ returned put (record { regs = regs; main = main; ptr = ptr; ctl = now (ctl .entry); heap = heap })) ⌝ }
 {
@@ -108,7 +109,7 @@ pub fn open(ctl: &mut [u32], regs: Regs, put: Put) -> Regs
 
 // 161: the innermost handler's record goes.
 pub fn close(ctl: &mut [u32], regs: Regs, put: Put) -> Regs
-    requires { ⌜ Topped (regs .ctop) (now ctl) × (1 ≤ regs .handler) × (5 * regs .handler ≤ regs .ctop) ⌝ }
+    requires { ⌜ Topped (regs .ctop) (now ctl) × (1 ≤ regs .handler) × (recordWords * regs .handler ≤ regs .ctop) ⌝ }
     ensures { λ r. ⌜ ((main ptr heap : List ℕ) → record { regs = r; main = main; ptr = ptr; ctl = now (ctl .exit); heap = heap }
         ≡ closed put (record { regs = regs; main = main; ptr = ptr; ctl = now (ctl .entry); heap = heap })) ⌝ }
 {

@@ -19,7 +19,7 @@ use Rattle.laws_file.specs.Procedures.{endOf, head-zero, head-none, head-whole,
 use Rattle.laws.specs.Members.{member-in, in-member, select-in, in-select}
 use Rattle.theory_checker.specs.Flow.{own-in, keeps-shape, flow-keeps, flow-rest}
 use Rattle.laws_file.specs.Rest.{restOf, rest-end, rest-inv, whole-inside, records-first}
-use Rattle.check_scan.specs.Marks.{stateIn}
+use Rattle.check_scan.specs.Marks.{unreached, stateIn}
 use Rattle.check_scan.specs.Heading.{Placed}
 use Rattle.check_rows.specs.Site.{Table}
 use Rattle.check_ways.specs.Takes.{ownIn, takeIn}
@@ -320,7 +320,7 @@ module _ (f m₀ table : List ℕ) (k : ℕ) (B : Begun f m₀ table k) where
               (T .main-above, T .ptr-above)
           go false z = rw (in-unset f (F .known) m (F .good) p in? below z) (omega arith, omega arith)
 
-      within : stateIn m p .main < 65534 → (stateIn m p .main ≤ byteAt f (h + 5)) × (stateIn m p .ptr ≤ byteAt f (h + 6))
+      within : stateIn m p .main < unreached → (stateIn m p .main ≤ byteAt f (h + 5)) × (stateIn m p .ptr ≤ byteAt f (h + 6))
       within l = go (isSet (stateAt (F .known) p)) refl
         where
           in? : member p (instructions f) ≡ true
@@ -331,7 +331,7 @@ module _ (f m₀ table : List ℕ) (k : ℕ) (B : Begun f m₀ table k) where
               let head-is : h ≡ headOf f (procAt f p) = in-proc .head ∙ ap (headOf f) (sym proc-is) in
               rw (in-set f (F .known) m (F .good) p in? below z, head-is) (unfold greatestMain greatestPtr in F .good .within p z)
           go false z =
-              let w : stateIn m p .main ≡ 65534 = ap (λ (u : State). u .main) (in-unset f (F .known) m (F .good) p in? below z) in absurd (omega arith)
+              let w : stateIn m p .main ≡ unreached = ap (λ (u : State). u .main) (in-unset f (F .known) m (F .good) p in? below z) in absurd (omega arith)
 
       pub flowing-here : Here f m h e p
       flowing-here =

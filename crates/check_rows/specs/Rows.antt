@@ -10,15 +10,16 @@ use borrow.Author.Tests.{lt-ltb, le-ltb, le-leb}
 use Rattle.model.specs.Choice.{if_then_else_}
 use Rattle.model.specs.File.{bodyOf, byteAt, after, insOf, insAt}
 use Rattle.model.specs.Checker.{State, effect, moved}
+use Rattle.check_scan.specs.Marks.{unreached}
 use Rattle.check_rows.specs.declared.Row.{Row}
 use Rattle.check_rows.specs.declared.Limits.{Limits}
 use Rattle.check_rows.specs.declared.Onward.{Onward}
 use Rattle.check_rows.specs.Shape.{Way, Shape, shape, shapeOf}
 use Rattle.check_rows.specs.Tests.{goesBy, stackOk, stacksOk, effectIn}
 
--- a state is known where the first number is below 65,534
+-- a state is known where the first number is below `unreached`
 abbrev pub isSetIn : State → Bool
-isSetIn s = ltb (s .main) 65534
+isSetIn s = ltb (s .main) unreached
 
 abbrev pub row : ℕ → ℕ → ℕ → ℕ → ℕ → ℕ → Row
 row a b c d wm wp = record { popm = a; popp = b; pushm = c; pushp = d; wordm = wm; wordp = wp }
@@ -44,8 +45,8 @@ plainly s o l q sh =
 pub record Bounded (s o : State) (l : Limits) : Type 0 where
   pub main-floor : o .main ≤ s .main
   pub ptr-floor : o .ptr ≤ s .ptr
-  pub main-within : s .main < 65534 → s .main ≤ l .x
-  pub ptr-within : s .main < 65534 → s .ptr ≤ l .y
+  pub main-within : s .main < unreached → s .main ≤ l .x
+  pub ptr-within : s .main < unreached → s .ptr ≤ l .y
   pub x-byte : l .x < 256
   pub y-byte : l .y < 256
 
@@ -53,7 +54,7 @@ abbrev pub PushesFew : Row → Type 0
 PushesFew r = (r .pushm < 256) × (r .pushp < 256)
 
 -- depths that stay as they are pass the tests
-pub still : (w : Way) (t : ℕ) (s o : State) (l : Limits) → Bounded s o l → s .main < 65534 →
+pub still : (w : Way) (t : ℕ) (s o : State) (l : Limits) → Bounded s o l → s .main < unreached →
     stacksOk (shape w (effect 0 0 0 0) 0 0 t true) s o (l .x) (l .y) ≡ true
 unfolding stacksOk stackOk
 still w t s o l B a =
@@ -77,22 +78,22 @@ at-row f p k n s o l sh r e b i w =
 
 -- the ways out of a row
 module _ (w : Way) (r : Row) (s o : State) (l : Limits) (q : ℕ) where
-  pub unreached-refused : 65534 ≤ s .main → refusal 6 ≡ plainly s o l q (rowShape w r)
+  pub unreached-refused : unreached ≤ s .main → refusal 6 ≡ plainly s o l q (rowShape w r)
   unfolding plainly
-  unreached-refused a = rw (le-ltb (s .main) 65534 a)
+  unreached-refused a = rw (le-ltb (s .main) unreached a)
 
-  module _ (a : s .main < 65534) where
+  module _ (a : s .main < unreached) where
     pub past : goesBy w ≡ true → l .end ≤ q → refusal 6 ≡ plainly s o l q (rowShape w r)
     unfolding plainly
-    past g e = rw (lt-ltb (s .main) 65534 a, g, le-ltb q (l .end) e)
+    past g e = rw (lt-ltb (s .main) unreached a, g, le-ltb q (l .end) e)
 
     module _ (on : (if goesBy w then ltb q (l .end) else true) ≡ true) (ok : Bool) (ok-is : ok ≡ stacksOk (rowShape w r) s o (l .x) (l .y)) where
       pub deep : ok ≡ false → refusal 7 ≡ plainly s o l q (rowShape w r)
       unfolding plainly
-      deep z = rw (lt-ltb (s .main) 65534 a, on, ← ok-is, z)
+      deep z = rw (lt-ltb (s .main) unreached a, on, ← ok-is, z)
 
       pub onward : ok ≡ true →
           record { fault = 0; goes = goesBy w; next = q; main = moved (effectIn (rowShape w r)) s .main; ptr = moved (effectIn (rowShape w r)) s .ptr }
           ≡ plainly s o l q (rowShape w r)
       unfolding plainly
-      onward z = rw (lt-ltb (s .main) 65534 a, on, ← ok-is, z)
+      onward z = rw (lt-ltb (s .main) unreached a, on, ← ok-is, z)

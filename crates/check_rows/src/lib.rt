@@ -11,11 +11,10 @@ ghost use Rattle.check_rows.specs.Site.{Table, Site};
 ghost use Rattle.check_rows.specs.Kinds.{NoJump, elsewhere};
 ghost use Rattle.check_rows.specs.Tests.{asState, stackOk, stacksOk};
 ghost use Rattle.check_rows.specs.Rows.{row, rowShape, refusal, plainly, Bounded, PushesFew};
+use check_scan::UNREACHED_DEPTH;
 use model::PROCS_MOST;
 ghost use Rattle.model.specs.File.{fileMost};
-
-// No state has reached an instruction whose main depth is this; depths are at most 255.
-pub const UNREACHED: usize = 65534;
+ghost use Rattle.check_scan.specs.Marks.{unreached};
 
 // The depths before an instruction, and the place of the innermost open 160 or 65,535.
 pub struct State {
@@ -109,7 +108,7 @@ fn stack_ok(have: usize, floor: usize, pop: usize, push: usize, word: usize, mos
 
 // Refusal 7: the state s at the instruction, the state o at the innermost open 160.
 pub fn depths_ok(s: State, o: State, row: Row, limits: Limits) -> bool
-    requires { ⌜ Bounded (asState s) (asState o) limits × PushesFew row × (s .main < 65534) ⌝ }
+    requires { ⌜ Bounded (asState s) (asState o) limits × PushesFew row × (s .main < unreached) ⌝ }
     ensures { λ r. ⌜ r ≡ stacksOk (rowShape Next row) (asState s) (asState o) (limits .x) (limits .y) ⌝ }
 {
     if stack_ok(s.main, o.main, row.popm, row.pushm, row.wordm, limits.x) {
@@ -123,7 +122,7 @@ fn moves(s: State, o: State, limits: Limits, next: usize, row: Row) -> Onward
     requires { ⌜ Bounded (asState s) (asState o) limits × PushesFew row ⌝ }
     ensures { λ r. ⌜ r ≡ plainly (asState s) (asState o) limits next (rowShape Next row) ⌝ }
 {
-    if UNREACHED <= s.main {
+    if UNREACHED_DEPTH <= s.main {
         return refuse(6);
     }
     if limits.end <= next {
@@ -170,7 +169,7 @@ fn raises(s: State, o: State, limits: Limits, p: usize) -> Onward
     ensures { λ r. ⌜ r ≡ plainly (asState s) (asState o) limits (p + 1) (rowShape Raise (row 1 0 0 0 0 0)) ⌝ }
 {
     let next = p + 1;
-    if UNREACHED <= s.main {
+    if UNREACHED_DEPTH <= s.main {
         return refuse(6);
     }
     if depths_ok(s, o, effect(1, 0, 0, 0), limits) {

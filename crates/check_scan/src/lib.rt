@@ -4,7 +4,7 @@ ghost use Prim.Native.Nat.{_+_, _*_, _<_, _≤_};
 ghost use lib.ListN.{length, replicate, set};
 ghost use Rattle.model.specs.File as model;
 ghost use Rattle.model.specs.Checker.{state, none};
-ghost use Rattle.check_scan.specs.Marks.{putIn};
+ghost use Rattle.check_scan.specs.Marks.{unreached, putIn};
 ghost use Rattle.check_scan.specs.Scanning.{Scanned, listIn, lastIn};
 ghost use Rattle.check_scan.specs.Heading.{headOk, numberOk, startsAt, ScanMarked, Headed};
 use code_file::Head;
@@ -16,6 +16,8 @@ ghost use Rattle.model.specs.File.{fileMost, headSize, procsMost};
 
 // An instruction starts here that no state has reached yet; depths are at most 255.
 const UNREACHED: u16 = 65534;
+
+pub const UNREACHED_DEPTH: usize = 65534; // the same, as a number
 
 const UNKNOWN: usize = 255;
 
@@ -39,7 +41,7 @@ pub fn fill(m: &mut [u16])
 // An instruction with b bytes behind its kind starts at p: it is marked. The place behind it.
 fn mark(m: &mut [u16], p: usize, b: usize) -> usize
     requires { ⌜ (3 * p < length (now m)) × (p < fileMost) × (b < 256) ⌝ }
-    ensures map { λ _. ⌜ now (m .exit) ≡ set (now (m .entry)) (3 * p) 65534 ⌝ }
+    ensures map { λ _. ⌜ now (m .exit) ≡ set (now (m .entry)) (3 * p) unreached ⌝ }
     ensures place { λ r. ⌜ r ≡ p + 1 + b ⌝ }
 {
     m[3 * p] = UNREACHED;

@@ -70,16 +70,16 @@ module _ (m : List ℕ) (s : State) where
   outer-some u z e = rw (ne-eqb (s .inner) none z) e
 
 module _ (m : List ℕ) (q : ℕ) (t s : State) (is : t ≡ stateIn m q) where
-  pub pass-new : (m′ : List ℕ) → 65534 ≤ t .main → m′ ≡ putIn m q s → passAns true m′ ≡ passOneIn m q s
+  pub pass-new : (m′ : List ℕ) → unreached ≤ t .main → m′ ≡ putIn m q s → passAns true m′ ≡ passOneIn m q s
   pass-new m′ l e = rw (← is, le-ltb (t .main) unreached l, e)
 
-  pub pass-main : t .main < 65534 → (t .main ≡ s .main → ⊥) → passAns false m ≡ passOneIn m q s
+  pub pass-main : t .main < unreached → (t .main ≡ s .main → ⊥) → passAns false m ≡ passOneIn m q s
   pass-main l n = rw (← is, lt-ltb (t .main) unreached l, ne-eqb (t .main) (s .main) n)
 
-  pub pass-ptr : t .main < 65534 → t .main ≡ s .main → (t .ptr ≡ s .ptr → ⊥) → passAns false m ≡ passOneIn m q s
+  pub pass-ptr : t .main < unreached → t .main ≡ s .main → (t .ptr ≡ s .ptr → ⊥) → passAns false m ≡ passOneIn m q s
   pass-ptr l e n = rw (← is, lt-ltb (t .main) unreached l, eq-eqb (t .main) (s .main) e, ne-eqb (t .ptr) (s .ptr) n)
 
-  pub pass-inner : t .main < 65534 → t .main ≡ s .main → t .ptr ≡ s .ptr → passAns (eqb (t .inner) (s .inner)) m ≡ passOneIn m q s
+  pub pass-inner : t .main < unreached → t .main ≡ s .main → t .ptr ≡ s .ptr → passAns (eqb (t .inner) (s .inner)) m ≡ passOneIn m q s
   pass-inner l e n =
       rw (← is, lt-ltb (t .main) unreached l, eq-eqb (t .main) (s .main) e, eq-eqb (t .ptr) (s .ptr) n) (go (eqb (t .inner) (s .inner)))
     where

@@ -25,7 +25,7 @@ use Rattle.check_rows.specs.Tests.{stacks-fit, target-tests, next-tests, depth-
 use Rattle.check_rows.specs.Rows.{row, rowShape, isSetIn, onwardBy, plainly, Bounded, still}
 use Rattle.check_rows.specs.Kinds.{NoJump, elsewhere, straight?, straight, body-jumps}
 use Rattle.laws_file.specs.Walk.{after-above}
-use Rattle.check_scan.specs.Marks.{stateIn}
+use Rattle.check_scan.specs.Marks.{unreached, stateIn}
 use Rattle.check_ways.specs.declared.Taken.{Taken}
 use Rattle.check_ways.specs.Takes.{ownIn, passOneIn, passAllIn, takeIn, takeInWith}
 use Rattle.check_ways.specs.Faults.{takeAns, passAns, StateIs, OuterIs, HandlerIn, held-as, and-end}
@@ -43,7 +43,7 @@ pub record Here (f m : List ℕ) (h e p : ℕ) : Type 0 where
   pub held : HandlerIn m (stateIn m p .inner)
   pub main-floor : innermost (stateIn m) (stateIn m p) .main ≤ stateIn m p .main
   pub ptr-floor : innermost (stateIn m) (stateIn m p) .ptr ≤ stateIn m p .ptr
-  pub within : stateIn m p .main < 65534 → (stateIn m p .main ≤ byteAt f (h + 5)) × (stateIn m p .ptr ≤ byteAt f (h + 6))
+  pub within : stateIn m p .main < unreached → (stateIn m p .main ≤ byteAt f (h + 5)) × (stateIn m p .ptr ≤ byteAt f (h + 6))
   pub bytes : (i : ℕ) → byteAt f i < 256
 
 -- the limits are those of the procedure with head h
@@ -179,7 +179,7 @@ module _ (f m : List ℕ) (h p : ℕ) (l : Limits) (H : Here f m h (l .end) p) (
   -- where a state is known, depths that stay pass
   stays : (w : Way) (t : ℕ) → isSetIn s ≡ true →
       stacksOk (leadsTo w 0 t) s o (l .x) (l .y) ≡ true
-  stays w t z = still w t s o l bounded (ltb-true (s .main) 65534 z)
+  stays w t z = still w t s o l bounded (ltb-true (s .main) unreached z)
 
   -- 1 and 3
   pub takes-jump : (t : ℕ) → shapeOf f p (insAt f p) ≡ leadsTo Jump 0 t →

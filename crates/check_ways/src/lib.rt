@@ -14,7 +14,7 @@ ghost use Rattle.check_ways.specs.Faults.{passAns, takeAns, StateIs, Out
 ghost use Rattle.check_ways.specs.Ways.{leadsTo, branchWay, Led, Among, takenBy, Took};
 use check_rows::Limits;
 use check_rows::State;
-use check_rows::UNREACHED;
+use check_scan::UNREACHED_DEPTH;
 use model::NONE;
 use model::NONE_OPEN;
 use model::PROCS_MOST;
@@ -68,7 +68,7 @@ fn pass_one(m: &mut [u16], q: usize, s: State) -> bool
     ensures { λ r. ⌜ passAns r (now (m .exit)) ≡ passOneIn (now (m .entry)) q (asState s) ⌝ }
 {
     let t = state_in(m, q);
-    if UNREACHED <= t.main {
+    if UNREACHED_DEPTH <= t.main {
         check_scan::put(m, q, s.main as u16, s.ptr as u16, s.inner as u16);
         return true;
     }
@@ -102,7 +102,7 @@ fn jump(file: &[u8], m: &mut [u16], head: usize, limits: Limits, p: usize, targe
 {
     if own(m, head, limits.end, target) {
         let s = state_in(m, p);
-        if UNREACHED <= s.main {
+        if UNREACHED_DEPTH <= s.main {
             return 6;
         }
         if pass_one(m, target, s) {
@@ -129,7 +129,7 @@ fn branch(
     let next = p + 3;
     if own(m, head, limits.end, target) {
         let s = state_in(m, p);
-        if UNREACHED <= s.main {
+        if UNREACHED_DEPTH <= s.main {
             return 6;
         }
         if limits.end <= next {
@@ -164,7 +164,7 @@ pub fn open(file: &[u8], m: &mut [u16], head: usize, limits: Limits, p: usize, t
             return 5;
         }
         let s = state_in(m, p);
-        if UNREACHED <= s.main {
+        if UNREACHED_DEPTH <= s.main {
             return 6;
         }
         if limits.end <= next {
@@ -196,7 +196,7 @@ pub fn close(file: &[u8], m: &mut [u16], head: usize, limits: Limits, p: usize) 
 {
     let next = p + 1;
     let s = state_in(m, p);
-    if UNREACHED <= s.main {
+    if UNREACHED_DEPTH <= s.main {
         return 6;
     }
     if limits.end <= next {
@@ -224,7 +224,7 @@ pub fn leave(file: &[u8], m: &[u16], head: usize, limits: Limits, p: usize) -> u
 {
     let h = code_file::head_at(file, head);
     let s = state_in(m, p);
-    if UNREACHED <= s.main {
+    if UNREACHED_DEPTH <= s.main {
         return 6;
     }
     if s.main != h.r {
