@@ -21,55 +21,41 @@ use Rattle.check_rows.specs.Shape.{Way, Next, Jump, Branch, Keep, Open, 
 abbrev pub asState : Words → State
 asState s = state (s .main) (s .ptr) (s .inner)
 
+-- what an instruction does by its way: it goes on to the next place, jumps, opens a handler, closes one, leaves the procedure
+record Does : Type 0 where
+  goes : Bool
+  jumps : Bool
+  opens : Bool
+  closes : Bool
+  leaves : Bool
+
+abbrev does : Bool → Bool → Bool → Bool → Bool → Does
+does g j o c l = record { goes = g; jumps = j; opens = o; closes = c; leaves = l }
+
+abbrev doesBy : Way → Does
+doesBy Next = does true false false false false
+doesBy Jump = does false true false false false
+doesBy Branch = does true true false false false
+doesBy Keep = does true true false false false
+doesBy Open = does true true true false false
+doesBy Close = does true false false true false
+doesBy Return = does false false false false true
+doesBy Raise = does false false false false false
+
 abbrev pub goesBy : Way → Bool
-goesBy Next = true
-goesBy Jump = false
-goesBy Branch = true
-goesBy Keep = true
-goesBy Open = true
-goesBy Close = true
-goesBy Return = false
-goesBy Raise = false
+goesBy w = doesBy w .goes
 
 abbrev pub jumpsBy : Way → Bool
-jumpsBy Next = false
-jumpsBy Jump = true
-jumpsBy Branch = true
-jumpsBy Keep = true
-jumpsBy Open = true
-jumpsBy Close = false
-jumpsBy Return = false
-jumpsBy Raise = false
+jumpsBy w = doesBy w .jumps
 
 abbrev pub opensBy : Way → Bool
-opensBy Next = false
-opensBy Jump = false
-opensBy Branch = false
-opensBy Keep = false
-opensBy Open = true
-opensBy Close = false
-opensBy Return = false
-opensBy Raise = false
+opensBy w = doesBy w .opens
 
 abbrev pub closesBy : Way → Bool
-closesBy Next = false
-closesBy Jump = false
-closesBy Branch = false
-closesBy Keep = false
-closesBy Open = false
-closesBy Close = true
-closesBy Return = false
-closesBy Raise = false
+closesBy w = doesBy w .closes
 
 abbrev pub leavesBy : Way → Bool
-leavesBy Next = false
-leavesBy Jump = false
-leavesBy Branch = false
-leavesBy Keep = false
-leavesBy Open = false
-leavesBy Close = false
-leavesBy Return = true
-leavesBy Raise = false
+leavesBy w = doesBy w .leaves
 
 abbrev pub and : Bool → Bool → Bool
 and a b = (if a then b else false)
@@ -126,14 +112,7 @@ effectIn sh = effect (sh .popm) (sh .popp) (sh .pushm) (sh .pushp)
 
 -- the innermost open handler behind the instruction at p
 abbrev pub innerBy : Way → ℕ → ℕ → ℕ → ℕ
-innerBy Next p h o = h
-innerBy Jump p h o = h
-innerBy Branch p h o = h
-innerBy Keep p h o = h
-innerBy Open p h o = p
-innerBy Close p h o = o
-innerBy Return p h o = h
-innerBy Raise p h o = h
+innerBy w p h o = (if opensBy w then p else (if closesBy w then o else h))
 
 -- the main depth at the target: before the instruction, after it, or with a raised word
 abbrev pub targetMain : Way → ℕ → ℕ → ℕ → ℕ
