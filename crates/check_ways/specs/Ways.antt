@@ -28,7 +28,7 @@ use Rattle.laws_file.specs.Walk.{after-above}
 use Rattle.check_scan.specs.Marks.{unreached, stateIn}
 use Rattle.check_ways.specs.declared.Taken.{Taken}
 use Rattle.check_ways.specs.Takes.{ownIn, passOneIn, passAllIn, takeIn, takeInWith}
-use Rattle.check_ways.specs.Faults.{takeAns, passAns, StateIs, OuterIs, HandlerIn, held-as, and-end}
+use Rattle.check_ways.specs.Faults.{takeAns, StateIs, OuterIs, HandlerIn, held-as, and-end}
 
 -- what is known of the instruction at p of the procedure between h and e
 pub record Here (f m : List ℕ) (h e p : ℕ) : Type 0 where
@@ -474,11 +474,9 @@ module _ {f m : List ℕ} {p : ℕ} {l : Limits} {r : Onward} (W : Onwards f m p
     here-inner : s .inner ≡ stateIn m p .inner
     here-inner = ap (λ (u : State). u .inner) (S .is)
 
-    pub plain-passed : {m′ : List ℕ} → passAns true m′ ≡ passOneIn m (r .next) (state (r .main) (r .ptr) (s .inner)) → Took f p m m′ (takenBy 0 (r .next))
+    pub plain-passed : {n : ℕ} {m′ : List ℕ} → takeAns n m′ ≡ passOneIn m (r .next) (state (r .main) (r .ptr) (s .inner)) →
+        Took f p m m′ (takenBy n (r .next))
     plain-passed e = let w = W .pass g in record { is = (rw (w .0, here-inner) at e) ∙ sym (w .1); on = λ z. w .0 }
-
-    pub plain-refused : {m′ : List ℕ} → passAns false m′ ≡ passOneIn m (r .next) (state (r .main) (r .ptr) (s .inner)) → Took f p m m′ (takenBy 9 (r .next))
-    plain-refused e = let w = W .pass g in record { is = (rw (w .0, here-inner) at e) ∙ sym (w .1); on = λ z. w .0 }
 
   pub plain-stopped : r .goes ≡ false → Took f p m m (takenBy (r .fault) (r .next))
   plain-stopped g = let w = W .stop g in record { is = w .0; on = w .1 }

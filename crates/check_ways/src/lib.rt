@@ -3,6 +3,7 @@ ghost use mathlib.Core.Path.{_≡_};
 ghost use Prim.Native.Nat.{_+_, _*_, _<_, _≤_};
 ghost use mathlib.Core.List.{_∷_, []};
 ghost use lib.ListN.{length};
+ghost use Rattle.model.specs.Choice.{if_then_else_};
 ghost use Rattle.model.specs.File.{fileMost};
 ghost use Rattle.laws_file.specs.Kinds.{NoneOf};
 ghost use Rattle.check_rows.specs.Shape.{Jump, Open, Close, Return};
@@ -10,7 +11,7 @@ ghost use Rattle.check_rows.specs.Site.{Table};
 ghost use Rattle.check_rows.specs.Kinds.{NoJump, elsewhere};
 ghost use Rattle.check_rows.specs.Tests.{asState};
 ghost use Rattle.check_ways.specs.Takes.{ownIn, passOneIn, passAllIn, takeIn};
-ghost use Rattle.check_ways.specs.Faults.{passAns, takeAns, StateIs, OuterIs, HandlerIn, Fitting};
+ghost use Rattle.check_ways.specs.Faults.{takeAns, StateIs, OuterIs, HandlerIn, Fitting};
 ghost use Rattle.check_ways.specs.Ways.{leadsTo, branchWay, Led, Among, takenBy, Took};
 use check_rows::Limits;
 use check_rows::State;
@@ -62,37 +63,38 @@ fn outer_of(m: &[u16], s: State) -> State
     state_in(m, inner)
 }
 
-// A state passed to q: it is the first there, or the same as the one there.
-fn pass_one(m: &mut [u16], q: usize, s: State) -> bool
-    requires { ⌜ (3 * q + 2 < length (now m)) × (q < fileMost) × (s .main < 65536) × (s .ptr < 65536) × (s .inner < 65536) ⌝ }
-    ensures { λ r. ⌜ passAns r (now (m .exit)) ≡ passOneIn (now (m .entry)) q (asState s) ⌝ }
+// A state passed to q: it is the first there, or the same as the one there. 9 or 0.
+fn pass_one(m: &mut [u16], q: usize, s: State) -> u32
+    requires { ⌜ Fitting (now m) q (asState s) ⌝ }
+    ensures { λ r. ⌜ takeAns r (now (m .exit)) ≡ passOneIn (now (m .entry)) q (asState s) ⌝ }
 {
     let t = state_in(m, q);
     if UNREACHED_DEPTH <= t.main {
         check_scan::put(m, q, s.main as u16, s.ptr as u16, s.inner as u16);
-        return true;
+        return 0;
     }
     if t.main != s.main {
-        return false;
+        return 9;
     }
     if t.ptr != s.ptr {
-        return false;
+        return 9;
     }
-    t.inner == s.inner
+    if t.inner != s.inner {
+        return 9;
+    }
+    0
 }
 
-// A state passed to the next instruction, then one to a target: 9 or 0.
+// A state passed to the next instruction, then one to a target.
 fn pass_both(m: &mut [u16], next: usize, s: State, target: usize, t: State) -> u32
     requires { ⌜ Fitting (now m) next (asState s) × Fitting (now m) target (asState t) ⌝ }
     ensures { λ r. ⌜ takeAns r (now (m .exit)) ≡ passAllIn ((next, asState s) ∷ (target, asState t) ∷ []) (now (m .entry)) ⌝ }
 {
-    if pass_one(m, next, s) {
-        if pass_one(m, target, t) {
-            return 0;
-        }
-        return 9;
+    let first = pass_one(m, next, s);
+    if first != 0 {
+        return first;
     }
-    9
+    pass_one(m, target, t)
 }
 
 // 1 and 3: to the target alone. The depths stay, so that nothing is asked of them.
@@ -105,15 +107,22 @@ fn jump(file: &[u8], m: &mut [u16], head: usize, limits: Limits, p: usize, targe
         if UNREACHED_DEPTH <= s.main {
             return 6;
         }
-        if pass_one(m, target, s) {
-            return 0;
-        }
-        return 9;
+        return pass_one(m, target, s);
     }
     5
 }
 
-// 2, 4, 5 and 6: a word is popped, and the state passes to the next instruction and to the target; 5 and 6 keep the word there.
+// The state at the target of a branch: 5 and 6 keep the word there.
+fn at_target(keep: bool, before: State, popped: State) -> State
+    ensures { λ r. ⌜ asState r ≡ (if keep then asState before else asState popped) ⌝ }
+{
+    if keep {
+        return before;
+    }
+    popped
+}
+
+// 2, 4, 5 and 6: a word is popped, and the state passes to the next instruction and to the target.
 fn branch(
     file: &[u8],
     m: &mut [u16],
@@ -143,10 +152,7 @@ fn branch(
                 ptr: s.ptr,
                 inner: s.inner,
             };
-            if keep {
-                return pass_both(m, next, then, target, s);
-            }
-            return pass_both(m, next, then, target, then);
+            return pass_both(m, next, then, target, at_target(keep, s, then));
         }
         return 7;
     }
@@ -211,10 +217,7 @@ pub fn close(file: &[u8], m: &mut [u16], head: usize, limits: Limits, p: usize) 
         ptr: s.ptr,
         inner: o.inner,
     };
-    if pass_one(m, next, then) {
-        return 0;
-    }
-    9
+    pass_one(m, next, then)
 }
 
 // 73: the state passes nowhere.
@@ -305,10 +308,7 @@ pub fn plain(
             ptr: to.ptr,
             inner: s.inner,
         };
-        if pass_one(m, next, then) {
-            return done(0, next);
-        }
-        return done(9, next);
+        return done(pass_one(m, next, then), next);
     }
     done(to.fault, next)
 }

@@ -1,8 +1,11 @@
 -- `check_ways::branch`: the tests in their order (`on-branch`), then the states passed on.
+use Prim.Native.Nat.{_+_, _-_, _<_}
 use mathlib.Core.Path.{sym, _∙_}
 use native.Mathlib.Omega.{arith}
 use borrow.Author.Tests.{lt-ltb, le-ltb}
+use Rattle.model.specs.Checker.{state}
 use Rattle.check_rows.specs.Tests.{stacks-fit}
+use Rattle.check_ways.specs.Faults.{fitting, fits-either, second-as}
 use Rattle.check_ways.specs.Ways.{stops, test-passes, all-passed, own-place, next-place, here-place, ends-low, held-here, bounded-here, takes-branch, on-branch}
 use borrow.Author.Needs.{needs}
 use Rattle.check_ways.proofs.branch.Statement.{statement}
@@ -12,7 +15,9 @@ add-next : tie.Need-add-next
 add-next c = search needs
 
 own-requires : tie.Need-own-requires
-own-requires c κs = ends-low (c .before .before .before .pre .here)
+own-requires c κs =
+    let entry = c .before .before .before in
+    ends-low (entry .pre .here)
 
 state-in-requires : tie.Need-state-in-requires
 state-in-requires c κs =
@@ -24,21 +29,25 @@ same-length c = search needs
 
 returns : tie.Need-returns
 returns c =
-    let at-own = c .before .before .before .before .before in
+    let at-state-in = c .before .before in
+    let at-if1 = at-state-in .before .before in
+    let at-own = at-if1 .before in
     let entry = at-own .before .before .before .before in
-    let J = on-branch (entry .args .keep) _ (entry .pre) (c .before .before .state-in .ensures) in
-    stops (test-passes J (sym (at-own .own .ensures) ∙ c .before .before .before .before .if1 .taken)) (le-ltb _ _ (c .if2 .taken))
+    let J = test-passes (on-branch (entry .args .keep) _ (entry .pre) (at-state-in .state-in .ensures)) (sym (at-own .own .ensures) ∙ at-if1 .if1 .taken) in
+    stops J (le-ltb _ _ (c .if2 .taken))
 
 same-length-2 : tie.Need-same-length-2
 same-length-2 c = search needs
 
 returns-2 : tie.Need-returns-2
 returns-2 c =
-    let at-if1 = c .before .before .before .before .before .before in
+    let at-if2 = c .before .before in
+    let at-state-in = at-if2 .before .before in
+    let at-if1 = at-state-in .before .before in
     let at-own = at-if1 .before in
     let entry = at-own .before .before .before .before in
-    let J = test-passes (on-branch (entry .args .keep) _ (entry .pre) (c .before .before .before .before .state-in .ensures)) (sym (at-own .own .ensures) ∙ at-if1 .if1 .taken) in
-    stops (test-passes J (lt-ltb _ _ (c .before .before .if2 .left))) (le-ltb _ _ (c .if3 .taken))
+    let J = test-passes (on-branch (entry .args .keep) _ (entry .pre) (at-state-in .state-in .ensures)) (sym (at-own .own .ensures) ∙ at-if1 .if1 .taken) in
+    stops (test-passes J (lt-ltb _ _ (at-if2 .if2 .left))) (le-ltb _ _ (c .if3 .taken))
 
 outer-of-requires : tie.Need-outer-of-requires
 outer-of-requires c κs =
@@ -51,13 +60,26 @@ effect-requires c κs = search needs
 
 depths-ok-requires : tie.Need-depths-ok-requires
 depths-ok-requires c κs =
-    let at-if2 = c .before .before .before .before .before in
+    let at-outer-of = c .before in
+    let at-if2 = at-outer-of .before .before .before .before in
     let at-state-in = at-if2 .before .before in
     let entry = at-state-in .before .before .before .before .before .before .before in
-    rw (c .effect .ensures) (bounded-here (entry .pre .here) (entry .pre .bounds) (at-state-in .state-in .ensures) (c .before .outer-of .ensures), (omega arith, omega arith), at-if2 .if2 .left)
+    rw (c .effect .ensures) (
+      bounded-here (entry .pre .here) (entry .pre .bounds) (at-state-in .state-in .ensures) (at-outer-of .outer-of .ensures),
+      (omega arith, omega arith),
+      at-if2 .if2 .left,
+    )
 
 sub-rest : tie.Need-sub-rest
-sub-rest c = let w = stacks-fit _ _ _ _ _ (sym (c .before .before .depths-ok .ensures) ∙ c .before .if4 .taken) .main in rw (c .before .before .before .effect .ensures) at w
+sub-rest c =
+    let at-if4 = c .before in
+    let at-depths-ok = at-if4 .before in
+    let at-effect = at-depths-ok .before in
+    let w = stacks-fit _ _ _ _ _ (sym (at-depths-ok .depths-ok .ensures) ∙ at-if4 .if4 .taken) .main in
+    rw (at-effect .effect .ensures) at w
+
+at-target-requires : tie.Need-at-target-requires
+at-target-requires c κs = search needs
 
 pass-both-requires : tie.Need-pass-both-requires
 pass-both-requires c κs =
@@ -68,10 +90,10 @@ pass-both-requires c κs =
     let entry = at-own .before .before .before .before in
     let S = at-state-in .state-in .ensures in
     let a = S .main-small in
-    let v = next-place (entry .pre .here) _ (at-if3 .if3 .left) in
-    let w = own-place (entry .pre .here) _ (sym (at-own .own .ensures) ∙ at-if1 .if1 .taken) in (
-      record { inside = v .0; low = v .1; main-small = omega arith; ptr-small = S .ptr-small; inner-small = S .inner-small },
-      record { inside = w .0; low = w .1; main-small = a; ptr-small = S .ptr-small; inner-small = S .inner-small },
+    let w = own-place (entry .pre .here) _ (sym (at-own .own .ensures) ∙ at-if1 .if1 .taken) in
+    let b : at-state-in .state-in .result .main - 1 < 65536 = omega (arith, a) in (
+      fitting (next-place (entry .pre .here) _ (at-if3 .if3 .left)) b (S .ptr-small) (S .inner-small),
+      rw (c .at-target .ensures) (fits-either (entry .args .keep) (fitting w a (S .ptr-small) (S .inner-small)) (fitting w b (S .ptr-small) (S .inner-small))),
     )
 
 same-length-3 : tie.Need-same-length-3
@@ -79,7 +101,9 @@ same-length-3 c = search needs
 
 returns-3 : tie.Need-returns-3
 returns-3 c =
-    let at-if4 = c .before .before .before .before .before .before in
+    let at-pass-both = c .before .before in
+    let at-kept = at-pass-both .before in
+    let at-if4 = at-kept .before .before .before in
     let at-depths-ok = at-if4 .before in
     let at-effect = at-depths-ok .before in
     let at-outer-of = at-effect .before in
@@ -92,30 +116,18 @@ returns-3 c =
     let J = test-passes (on-branch (entry .args .keep) _ (entry .pre) (at-state-in .state-in .ensures)) (sym (at-own .own .ensures) ∙ at-if1 .if1 .taken) in
     let K = test-passes (test-passes J (lt-ltb _ _ (at-if2 .if2 .left))) (lt-ltb _ _ (at-if3 .if3 .left)) in
     let d = rw (at-effect .effect .ensures, at-outer-of .outer-of .ensures .is) at (at-depths-ok .depths-ok .ensures) in
-    c .before .before .pass-both .ensures ∙ sym (rw (c .before .before .before .before .if5 .taken) at (all-passed (test-passes K (sym d ∙ at-if4 .if4 .taken))))
-
-pass-both-requires-2 : tie.Need-pass-both-requires-2
-pass-both-requires-2 c κs =
-    let at-if3 = c .before .before .before .before .before .before .before .before in
-    let at-state-in = at-if3 .before .before .before .before in
-    let at-if1 = at-state-in .before .before in
-    let at-own = at-if1 .before in
-    let entry = at-own .before .before .before .before in
-    let S = at-state-in .state-in .ensures in
-    let a = S .main-small in
-    let v = next-place (entry .pre .here) _ (at-if3 .if3 .left) in
-    let w = own-place (entry .pre .here) _ (sym (at-own .own .ensures) ∙ at-if1 .if1 .taken) in (
-      record { inside = v .0; low = v .1; main-small = omega arith; ptr-small = S .ptr-small; inner-small = S .inner-small },
-      record { inside = w .0; low = w .1; main-small = omega arith; ptr-small = S .ptr-small; inner-small = S .inner-small },
-    )
+    let a = entry .args in
+    let s = at-state-in .state-in .result in
+    at-pass-both .pass-both .ensures
+    ∙ second-as (a .m .now) (a .p + 3) (a .target) (state (s .main - 1) (s .ptr) (s .inner)) (at-kept .at-target .ensures)
+    ∙ sym (all-passed (test-passes K (sym d ∙ at-if4 .if4 .taken)))
 
 same-length-4 : tie.Need-same-length-4
 same-length-4 c = search needs
 
 returns-4 : tie.Need-returns-4
 returns-4 c =
-    let at-if4 = c .before .before .before .before .before .before in
-    let at-depths-ok = at-if4 .before in
+    let at-depths-ok = c .before in
     let at-effect = at-depths-ok .before in
     let at-outer-of = at-effect .before in
     let at-if3 = at-outer-of .before .before in
@@ -127,31 +139,16 @@ returns-4 c =
     let J = test-passes (on-branch (entry .args .keep) _ (entry .pre) (at-state-in .state-in .ensures)) (sym (at-own .own .ensures) ∙ at-if1 .if1 .taken) in
     let K = test-passes (test-passes J (lt-ltb _ _ (at-if2 .if2 .left))) (lt-ltb _ _ (at-if3 .if3 .left)) in
     let d = rw (at-effect .effect .ensures, at-outer-of .outer-of .ensures .is) at (at-depths-ok .depths-ok .ensures) in
-    c .before .before .pass-both2 .ensures ∙ sym (rw (c .before .before .before .before .if5 .left) at (all-passed (test-passes K (sym d ∙ at-if4 .if4 .taken))))
+    stops K (sym d ∙ c .if4 .left)
 
 same-length-5 : tie.Need-same-length-5
 same-length-5 c = search needs
 
 returns-5 : tie.Need-returns-5
 returns-5 c =
-    let at-if3 = c .before .before .before .before .before in
-    let at-if2 = at-if3 .before .before in
-    let at-state-in = at-if2 .before .before in
-    let at-if1 = at-state-in .before .before in
-    let at-own = at-if1 .before in
+    let at-own = c .before in
     let entry = at-own .before .before .before .before in
-    let J = test-passes (on-branch (entry .args .keep) _ (entry .pre) (at-state-in .state-in .ensures)) (sym (at-own .own .ensures) ∙ at-if1 .if1 .taken) in
-    let K = test-passes (test-passes J (lt-ltb _ _ (at-if2 .if2 .left))) (lt-ltb _ _ (at-if3 .if3 .left)) in
-    let d = rw (c .before .before .effect .ensures, c .before .before .before .outer-of .ensures .is) at (c .before .depths-ok .ensures) in
-    stops K (sym d ∙ c .if4 .left)
-
-same-length-6 : tie.Need-same-length-6
-same-length-6 c = search needs
-
-returns-6 : tie.Need-returns-6
-returns-6 c =
-    let entry = c .before .before .before .before .before in
-    stops (takes-branch _ _ _ _ _ (entry .pre .here) (entry .pre .bounds) (entry .args .keep) _ (entry .pre .shape-is)) (sym (c .before .own .ensures) ∙ c .if1 .left)
+    stops (takes-branch _ _ _ _ _ (entry .pre .here) (entry .pre .bounds) (entry .args .keep) _ (entry .pre .shape-is)) (sym (at-own .own .ensures) ∙ c .if1 .left)
 
 pub branch-spec : {M : Type 1} → statement M
 branch-spec =
@@ -168,13 +165,11 @@ branch-spec =
     effect-requires
     depths-ok-requires
     sub-rest
+    at-target-requires
     pass-both-requires
     same-length-3
     returns-3
-    pass-both-requires-2
     same-length-4
     returns-4
     same-length-5
-    returns-5
-    same-length-6
-    returns-6)
+    returns-5)

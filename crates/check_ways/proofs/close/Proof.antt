@@ -3,6 +3,7 @@ use mathlib.Core.Bool.{not}
 use mathlib.Core.Path.{sym, _∙_, ap}
 use borrow.Author.Tests.{lt-ltb, le-ltb, eq-eqb, ne-eqb}
 use Rattle.model.specs.Checker.{State}
+use Rattle.check_ways.specs.Faults.{fitting}
 use Rattle.check_ways.specs.Ways.{stops, test-passes, all-passed, here-place, next-place, held-here, on-close}
 use borrow.Author.Needs.{needs}
 use Rattle.check_ways.proofs.close.Statement.{statement}
@@ -12,33 +13,40 @@ add-next : tie.Need-add-next
 add-next c = search needs
 
 state-in-requires : tie.Need-state-in-requires
-state-in-requires c κs = here-place (c .before .before .before .pre .here)
+state-in-requires c κs =
+    let entry = c .before .before .before in
+    here-place (entry .pre .here)
 
 same-length : tie.Need-same-length
 same-length c = search needs
 
 returns : tie.Need-returns
 returns c =
-    let entry = c .before .before .before .before .before .before in
-    stops (on-close (entry .pre) (c .before .before .state-in .ensures)) (le-ltb _ _ (c .if1 .taken))
+    let at-state-in = c .before .before in
+    let entry = at-state-in .before .before .before .before in
+    stops (on-close (entry .pre) (at-state-in .state-in .ensures)) (le-ltb _ _ (c .if1 .taken))
 
 same-length-2 : tie.Need-same-length-2
 same-length-2 c = search needs
 
 returns-2 : tie.Need-returns-2
 returns-2 c =
-    let entry = c .before .before .before .before .before .before .before .before in
-    stops (test-passes (on-close (entry .pre) (c .before .before .before .before .state-in .ensures)) (lt-ltb _ _ (c .before .before .if1 .left))) (le-ltb _ _ (c .if2 .taken))
+    let at-if1 = c .before .before in
+    let at-state-in = at-if1 .before .before in
+    let entry = at-state-in .before .before .before .before in
+    stops (test-passes (on-close (entry .pre) (at-state-in .state-in .ensures)) (lt-ltb _ _ (at-if1 .if1 .left))) (le-ltb _ _ (c .if2 .taken))
 
 same-length-3 : tie.Need-same-length-3
 same-length-3 c = search needs
 
 returns-3 : tie.Need-returns-3
 returns-3 c =
-    let at-state-in = c .before .before .before .before .before .before in
+    let at-if2 = c .before .before in
+    let at-if1 = at-if2 .before .before in
+    let at-state-in = at-if1 .before .before in
     let entry = at-state-in .before .before .before .before in
-    let J = test-passes (on-close (entry .pre) (at-state-in .state-in .ensures)) (lt-ltb _ _ (c .before .before .before .before .if1 .left)) in
-    stops (test-passes J (lt-ltb _ _ (c .before .before .if2 .left))) (ap not (eq-eqb _ _ (c .if3 .taken)))
+    let J = test-passes (on-close (entry .pre) (at-state-in .state-in .ensures)) (lt-ltb _ _ (at-if1 .if1 .left)) in
+    stops (test-passes J (lt-ltb _ _ (at-if2 .if2 .left))) (ap not (eq-eqb _ _ (c .if3 .taken)))
 
 outer-of-requires : tie.Need-outer-of-requires
 outer-of-requires c κs =
@@ -48,18 +56,20 @@ outer-of-requires c κs =
 
 pass-one-requires : tie.Need-pass-one-requires
 pass-one-requires c κs =
-    let at-if2 = c .before .before .before .before .before in
+    let at-outer-of = c .before in
+    let at-if2 = at-outer-of .before .before .before .before in
     let at-state-in = at-if2 .before .before .before .before in
     let entry = at-state-in .before .before .before .before in
     let S = at-state-in .state-in .ensures in
-    let w = next-place (entry .pre .here) _ (at-if2 .if2 .left) in (w .0, w .1, S .main-small, S .ptr-small, c .before .outer-of .ensures .inner-small)
+    fitting (next-place (entry .pre .here) _ (at-if2 .if2 .left)) (S .main-small) (S .ptr-small) (at-outer-of .outer-of .ensures .inner-small)
 
 same-length-4 : tie.Need-same-length-4
 same-length-4 c = search needs
 
 returns-4 : tie.Need-returns-4
 returns-4 c =
-    let at-outer-of = c .before .before .before .before .before in
+    let at-pass-one = c .before .before in
+    let at-outer-of = at-pass-one .before .before in
     let at-if3 = at-outer-of .before .before in
     let at-if2 = at-if3 .before .before in
     let at-if1 = at-if2 .before .before in
@@ -67,22 +77,7 @@ returns-4 c =
     let entry = at-state-in .before .before .before .before in
     let J = test-passes (test-passes (on-close (entry .pre) (at-state-in .state-in .ensures)) (lt-ltb _ _ (at-if1 .if1 .left))) (lt-ltb _ _ (at-if2 .if2 .left)) in
     let o = ap (λ (u : State). u .inner) (at-outer-of .outer-of .ensures .is) in
-    (rw (c .if4 .taken, o) at (c .before .before .before .pass-one .ensures)) ∙ sym (all-passed (test-passes J (ap not (ne-eqb _ _ (at-if3 .if3 .left)))))
-
-same-length-5 : tie.Need-same-length-5
-same-length-5 c = search needs
-
-returns-5 : tie.Need-returns-5
-returns-5 c =
-    let at-outer-of = c .before .before .before .before .before in
-    let at-if3 = at-outer-of .before .before in
-    let at-if2 = at-if3 .before .before in
-    let at-if1 = at-if2 .before .before in
-    let at-state-in = at-if1 .before .before in
-    let entry = at-state-in .before .before .before .before in
-    let J = test-passes (test-passes (on-close (entry .pre) (at-state-in .state-in .ensures)) (lt-ltb _ _ (at-if1 .if1 .left))) (lt-ltb _ _ (at-if2 .if2 .left)) in
-    let o = ap (λ (u : State). u .inner) (at-outer-of .outer-of .ensures .is) in
-    (rw (c .if4 .left, o) at (c .before .before .before .pass-one .ensures)) ∙ sym (all-passed (test-passes J (ap not (ne-eqb _ _ (at-if3 .if3 .left)))))
+    (rw o at (at-pass-one .pass-one .ensures)) ∙ sym (all-passed (test-passes J (ap not (ne-eqb _ _ (at-if3 .if3 .left)))))
 
 pub close-spec : {M : Type 1} → statement M
 close-spec =
@@ -99,6 +94,4 @@ close-spec =
     outer-of-requires
     pass-one-requires
     same-length-4
-    returns-4
-    same-length-5
-    returns-5)
+    returns-4)
