@@ -90,11 +90,11 @@ fn digit(c: u8) -> u32 {
     10
 }
 
-// The number read so far, with one more digit; NONE where there is no number.
-const NONE: u32 = 256;
+// The number read so far, with one more digit; NO_NUMBER where there is no number.
+const NO_NUMBER: u32 = 256;
 
 fn append(value: u32, d: u32) -> u32 {
-    if d < 10 { value % NONE * 10 + d } else { NONE }
+    if d < 10 { value % NO_NUMBER * 10 + d } else { NO_NUMBER }
 }
 
 // Behind the last digit of a number of 0 to 255, writes it at n.
@@ -102,7 +102,7 @@ fn end(out: &mut [u8], n: usize, value: u32, d: u32) -> usize
     requires { ⌜ n ≤ length (now out) ⌝ }
     ensures { λ r. ⌜ r ≤ length (now (out .exit)) ⌝ }
 {
-    if d == 10 && value < NONE && n < out.len() {
+    if d == 10 && value < NO_NUMBER && n < out.len() {
         out[n] = value as u8;
         return n + 1;
     }
@@ -114,7 +114,7 @@ fn numbers(text: &[u8], out: &mut [u8]) -> usize
     ensures { λ r. ⌜ Counts r (now (out .exit)) ⌝ }
 {
     let mut n = 0;
-    let mut value = NONE;
+    let mut value = NO_NUMBER;
     let mut i = 0;
     while i < text.len() {
         let d = digit(text[i]);
@@ -125,14 +125,14 @@ fn numbers(text: &[u8], out: &mut [u8]) -> usize
     n
 }
 
-fn wide(x: u8) -> u32 {
+fn budget(x: u8) -> u32 {
     x as u32
 }
 
 // A file for the bench, or, with two budgets, a cut run.
 fn play(text: &[u8], file: &[u8], budgets: &[u8]) {
     if budgets.len() == 2 {
-        cut(text, file, wide(budgets[0]), wide(budgets[1]));
+        cut(text, file, budget(budgets[0]), budget(budgets[1]));
     } else if file.len() > 0 {
         sample(text, file);
     }
