@@ -26,7 +26,8 @@ returns-2 c =
     let at-pass-one2 = c .before .before in
     let at-if1 = at-pass-one2 .before .before in
     let at-pass-one = at-if1 .before .before .before in
-    both-second _ _ _ _ _ (at-pass-one2 .pass-one2 .result) (at-pass-one .pass-one .last .0) (at-pass-one2 .pass-one2 .last .0) (rw (at-if1 .if1 .left) at (at-pass-one .pass-one .ensures)) (at-pass-one2 .pass-one2 .ensures)
+    both-second _ _ _ _ _ (at-pass-one2 .pass-one2 .result) (at-pass-one .pass-one .last .0) (at-pass-one2 .pass-one2 .last .0)
+    (rw (at-if1 .if1 .left) at (at-pass-one .pass-one .ensures)) (at-pass-one2 .pass-one2 .ensures)
 
 pub pass-both-spec : {M : Type 1} → statement M
 pass-both-spec =
