@@ -94,7 +94,11 @@ fn digit(c: u8) -> u32 {
 const NO_NUMBER: u32 = 256;
 
 fn append(value: u32, d: u32) -> u32 {
-    if d < 10 { value % NO_NUMBER * 10 + d } else { NO_NUMBER }
+    if d < 10 {
+        value % NO_NUMBER * 10 + d
+    } else {
+        NO_NUMBER
+    }
 }
 
 // Behind the last digit of a number of 0 to 255, writes it at n.
