@@ -1,5 +1,4 @@
 -- `apply_words::drop_all` meets its contract: both stacks are cut, then the word set aside is put back.
-
 use Rattle.laws.specs.Cuts.{length-cut}
 use borrow.Author.Needs.{needs}
 use Rattle.apply_words.proofs.drop_all.Statement.{statement}
@@ -29,10 +28,9 @@ same-length-2 c = search needs
 
 returns : tie.Need-returns
 returns c ctl heap =
-    let S = c .before .before .before .before .before .before .before .before .before .before .before .before .before .before .before .before .before in
-    c .before .before .before .before .put-back .ensures (record { regs = S .args .regs; main = S .args .main .now; ptr = S .args .ptr .now; ctl = ctl; heap = heap })
-    (c .before .before .before .before .before .before .before .before .before .before .before .before .before .cut-to .ensures) (c .before .before .before .before .before .before
-    .before .before .before .cut-to2 .ensures)
+    let at-back = c .before .before .before .before in
+    let at-cut = at-back .before .before .before .before .before in
+    at-back .put-back .ensures _ (at-cut .before .before .before .before .cut-to .ensures) (at-cut .cut-to2 .ensures)
 
 pub drop-all-spec : {M : Type 1} → statement M
 drop-all-spec =

@@ -1,5 +1,4 @@
 -- `apply_words::drop_few` meets its contract: both stacks are cut, then the word set aside is put back; or nothing is done.
-
 use Rattle.laws.specs.Cuts.{length-cut}
 use borrow.Author.Needs.{needs}
 use Rattle.apply_words.proofs.drop_few.Statement.{statement}
@@ -41,11 +40,9 @@ same-length-2 c = search needs
 
 returns-3 : tie.Need-returns-3
 returns-3 c ctl heap =
-    let S = c .before .before .before .before .before .before .before .before .before .before .before .before .before .before .before .before .before .before .before .before .before .before
-    .before in
-    c .before .before .before .before .put-back .ensures (record { regs = S .args .regs; main = S .args .main .now; ptr = S .args .ptr .now; ctl = ctl; heap = heap })
-    (c .before .before .before .before .before .before .before .before .before .before .before .before .before .pop-four .ensures) (c .before .before .before .before .before .before
-    .before .before .before .pop-four2 .ensures)
+    let at-back = c .before .before .before .before in
+    let at-cut = at-back .before .before .before .before .before in
+    at-back .put-back .ensures _ (at-cut .before .before .before .before .pop-four .ensures) (at-cut .pop-four2 .ensures)
 
 pub drop-few-spec : {M : Type 1} → statement M
 drop-few-spec =
