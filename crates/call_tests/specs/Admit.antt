@@ -136,34 +136,40 @@ module _ {l : Lent} {map table : List ℕ} {k : ℕ} {right? : Bool} (M : Measur
   go-on : (rest : Lent → After) → tested l rest ≡ afterMap (withMap map l) (rest (withMap map l))
   go-on rest = rw (M .passes)
 
+  right : right? ≡ true → all (lengthTests (withMap map l)) ≡ true
+  right w = sym (M .tests) ∙ w
+
+  pub heap-measured : right? ≡ true → (2 ≤ length (l .heap)) × (length (l .heap) ≤ heapMost)
+  unfolding lengthTests
+  heap-measured w =
+      let T = all-true (lengthTests (withMap map l)) (right w) in
+      (T .1 .1 .1 .1 .1 .1 .0, T .1 .1 .1 .1 .1 .1 .1 .0)
+
   pub admit-lengths : {marks : List Bool} → right? ≡ false → AdmittedMarks l map table marks (Refuse 10 0)
   admit-lengths w = refused 10 0 (λ rest. go-on rest ∙ rw (sym (M .tests) ∙ w))
 
   module _ (w : right? ≡ true) {h : HeapAudit} {marks : List Bool} (h-is : Audited (l .heap) h marks) where
-    right : all (lengthTests (withMap map l)) ≡ true
-    right = sym (M .tests) ∙ w
-
     pub admit-heap : {q : ℕ} → h ≡ Fault q → AdmittedMarks l map table marks (Refuse 11 q)
-    admit-heap {q = q} e = refused 11 q (λ rest. go-on rest ∙ rw (right, audited-fault q h-is e))
+    admit-heap {q = q} e = refused 11 q (λ rest. go-on rest ∙ rw (right w, audited-fault q h-is e))
 
     module _ (e : h ≡ Clean) where
       clean-is : heapOf (l .heap) ≡ clean (objectsOf (l .heap))
       clean-is = audited-clean h-is e
 
       pub admit-bytes : (length (l .bytes) ≡ 28 → ⊥) → AdmittedMarks l map table marks (Refuse 12 0)
-      admit-bytes n = refused 12 0 (λ rest. go-on rest ∙ rw (right, clean-is, ne-eqb (length (l .bytes)) 28 n))
+      admit-bytes n = refused 12 0 (λ rest. go-on rest ∙ rw (right w, clean-is, ne-eqb (length (l .bytes)) 28 n))
 
       pub admit-all : length (l .bytes) ≡ 28 → AdmittedMarks l map table marks (Pass k)
       admit-all n =
           record {
             found = record {
-              is = λ rest. go-on rest ∙ rw (right, clean-is, eq-eqb (length (l .bytes)) 28 n);
+              is = λ rest. go-on rest ∙ rw (right w, clean-is, eq-eqb (length (l .bytes)) 28 n);
               shown = λ j y.
                   let x : k ≡ j = cc in
                   record {
                     passes = M .passes;
                     placed = rw x at (M .placed);
-                    lengths = all-true (lengthTests (withMap map l)) right;
+                    lengths = all-true (lengthTests (withMap map l)) (right w);
                     heap-clean = clean-is;
                     registers = n;
                   };
