@@ -12,9 +12,9 @@ use Rattle.plan_meaning.specs.declared.Into.{Into}
 use Rattle.plan_meaning.specs.declared.Into.the-variants as into
 use Rattle.plan_meaning.specs.declared.Put.{Put}
 use Rattle.plan_meaning.specs.Settled.{cutOnly, mainSet, ptrSet, heapSet}
-use Rattle.laws.specs.Cuts.{cut-above}
+use Rattle.laws.specs.Cuts.{cut-above, length-cut}
 use Rattle.plan_meaning.specs.Suits.{Pops, WriteFits}
-use Rattle.apply_words.specs.Asks.{Plain, Retract, onwards, plainWrite}
+use Rattle.apply_words.specs.Asks.{Plain, Retract, InMain, InPtr, Dropping, onwards, plainWrite}
 
 module _ {lh : ℕ} {main ptr : List ℕ} {r : Regs} {put : Put} (P : Plain lh main ptr r put) where
   -- what is asked of a write, where it goes being known
@@ -51,3 +51,8 @@ module _ {lh : ℕ} {main ptr : List ℕ} {r : Regs} {put : Put} (P : Plain lh m
 
     pub plainly-heap : plainWrite i ≡ heapSet → (heap : List ℕ) → Done main′ ptr′ (set heap (put .at) (put .word)) heap
     plainly-heap w heap = (λ ctl. rw (em, ep) (write w _), λ u. absurd (true≢false u))
+
+-- a word that is put back lies in its stack, cut or not
+pub cut-drops : {main ptr : List ℕ} {r : Regs} {put : Put} {main′ ptr′ : List ℕ} → Dropping main ptr r put → main′ ≡ cut (put .mtop) main →
+    ptr′ ≡ cut (put .ptop) ptr → Retract (put .into) × InMain (length main′) put × InPtr (length ptr′) put
+cut-drops D em ep = (D .retract, λ e. rw (em, length-cut) (D .in-main e), λ e. rw (ep, length-cut) (D .in-ptr e))

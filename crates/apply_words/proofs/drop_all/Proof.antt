@@ -1,5 +1,5 @@
 -- `apply_words::drop_all` meets its contract: both stacks are cut, then the word set aside is put back.
-use Rattle.laws.specs.Cuts.{length-cut}
+use Rattle.apply_words.specs.Laws.{cut-drops}
 use borrow.Author.Needs.{needs}
 use Rattle.apply_words.proofs.drop_all.Statement.{statement}
 use Rattle.apply_words.proofs.drop_all.Tie as tie
@@ -12,13 +12,8 @@ cut-to-requires-2 c κs = search needs
 
 put-back-requires : tie.Need-put-back-requires
 put-back-requires c κs =
-    let at-cut-to = c .before .before .before .before .before .before .before .before in
-    let back12 = at-cut-to .before .before .before .before in
-    let S = back12 in (
-      S .pre .retract,
-      λ e. rw (at-cut-to .cut-to .ensures, length-cut) (S .pre .in-main e),
-      λ e. rw (c .before .before .before .before .cut-to2 .ensures, length-cut) (S .pre .in-ptr e),
-    )
+    let at-cut = c .before .before .before .before .before .before .before .before in
+    cut-drops (at-cut .before .before .before .before .pre) (at-cut .cut-to .ensures) (c .before .before .before .before .cut-to2 .ensures)
 
 same-length : tie.Need-same-length
 same-length c = search needs

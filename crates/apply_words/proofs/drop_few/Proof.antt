@@ -1,5 +1,5 @@
 -- `apply_words::drop_few` meets its contract: both stacks are cut, then the word set aside is put back; or nothing is done.
-use Rattle.laws.specs.Cuts.{length-cut}
+use Rattle.apply_words.specs.Laws.{cut-drops}
 use borrow.Author.Needs.{needs}
 use Rattle.apply_words.proofs.drop_few.Statement.{statement}
 use Rattle.apply_words.proofs.drop_few.Tie as tie
@@ -24,13 +24,8 @@ pop-four-requires-2 c κs = search needs
 
 put-back-requires : tie.Need-put-back-requires
 put-back-requires c κs =
-    let at-pop-four = c .before .before .before .before .before .before .before .before in
-    let back18 = at-pop-four .before .before .before .before .before .before .before .before .before .before in
-    let S = back18 in (
-      S .pre .retract,
-      λ e. rw (at-pop-four .pop-four .ensures, length-cut) (S .pre .in-main e),
-      λ e. rw (c .before .before .before .before .pop-four2 .ensures, length-cut) (S .pre .in-ptr e),
-    )
+    let at-pop = c .before .before .before .before .before .before .before .before in
+    cut-drops (at-pop .before .before .before .before .before .before .before .before .before .before .pre) (at-pop .pop-four .ensures) (c .before .before .before .before .pop-four2 .ensures)
 
 same-length : tie.Need-same-length
 same-length c = search needs
