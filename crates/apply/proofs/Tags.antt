@@ -9,16 +9,15 @@ use denote.Enum.Declared.{tagOf}
 use Rattle.plan_meaning.proofs.Into as made
 use Rattle.plan_meaning.proofs.Plan as planned
 use Rattle.model.specs.Control.{Machine}
-use Rattle.plan_meaning.specs.Settled.{applyInto}
+use Rattle.plan_meaning.specs.Settled.{applyInto, applied}
 use Rattle.plan_meaning.specs.declared.Into.{Into}
 use Rattle.plan_meaning.specs.declared.Into.the-variants as into
 use Rattle.plan_meaning.specs.declared.Put.{Put}
 use Rattle.plan_meaning.specs.declared.Plan.{Plan}
 use Rattle.plan_meaning.specs.declared.Plan.the-variants.{Write}
-use Rattle.model.specs.declared.Regs.{Regs}
 use Rattle.apply_words.specs.Asks.{Retract, plainWrite}
 use Rattle.plan_meaning.specs.Suits.{FitsIn, Suits}
-use Rattle.apply.specs.Applies.{Late}
+use Rattle.apply.specs.Applies.{Applies, Late, Lately}
 
 -- no position is another's
 apart : (i j : Into) → (tagOf made.the-type i ≡ tagOf made.the-type j → ⊥) → i ≡ j → ⊥
@@ -28,7 +27,7 @@ apart i j u e = u (ap (tagOf made.the-type) e)
 abbrev noRecord : List ℕ
 noRecord = 0 ∷ 1 ∷ 2 ∷ 3 ∷ 4 ∷ 5 ∷ 6 ∷ 7 ∷ 8 ∷ 9 ∷ []
 
-pub plain-write : (f : List ℕ) (i : Into) (put : Put) (m : Machine) → OneOf noRecord (tagOf made.the-type i) → Suits f i put m →
+plain-write : (f : List ℕ) (i : Into) (put : Put) (m : Machine) → OneOf noRecord (tagOf made.the-type i) → Suits f i put m →
     FitsIn i put m × (plainWrite i put m ≡ applyInto f i put m)
 unfolding applyInto
 plain-write f into.Nothing put m k s = (s, refl)
@@ -47,21 +46,33 @@ plain-write f into.Return put m k s = absurd (miss noRecord 12 tt k)
 plain-write f into.Handler put m k s = absurd (miss noRecord 13 tt k)
 plain-write f into.Close put m k s = absurd (miss noRecord 14 tt k)
 
+pub plainly : {f : List ℕ} {put : Put} {m : Machine} → Applies f put m → OneOf noRecord (tagOf made.the-type (put .into)) →
+    FitsIn (put .into) put m × (plainWrite (put .into) put m ≡ applied f put m)
+unfolding applied
+plainly {f = f} {put = put} {m = m} A k = plain-write f (put .into) put m k (A .suits)
+
 -- of the late ones: a return is the first frame's; all but a view and a return are retracts
 abbrev noReturn : List ℕ
 noReturn = 0 ∷ 1 ∷ 2 ∷ 3 ∷ 4 ∷ 5 ∷ 6 ∷ 7 ∷ 8 ∷ 9 ∷ 11 ∷ 13 ∷ 14 ∷ []
 
-pub late-return : (i : Into) (r : Regs) → Late i r → i ≡ into.Return → r .frame ≡ 1
-late-return i r (inl (inl e)) u = absurd (apart into.Drop into.Return (λ t. omega arith) (sym e ∙ u))
-late-return i r (inl (inr (inl e))) u = absurd (apart into.DropMain into.Return (λ t. omega arith) (sym e ∙ u))
-late-return i r (inl (inr (inr e))) u = absurd (apart into.DropPointer into.Return (λ t. omega arith) (sym e ∙ u))
-late-return i r (inr (inl e)) u = absurd (apart into.View into.Return (λ t. omega arith) (sym e ∙ u))
-late-return i r (inr (inr e)) u = e .1
+module _ {put : Put} {m : Machine} (L : Lately put m) where
+  pub late-return : put .into ≡ into.Return → m .regs .frame ≡ 1
+  late-return u = first (L .late)
+    where
+      first : Late (put .into) (m .regs) → m .regs .frame ≡ 1
+      first (inl (inl e)) = absurd (apart into.Drop into.Return (λ t. omega arith) (sym e ∙ u))
+      first (inl (inr (inl e))) = absurd (apart into.DropMain into.Return (λ t. omega arith) (sym e ∙ u))
+      first (inl (inr (inr e))) = absurd (apart into.DropPointer into.Return (λ t. omega arith) (sym e ∙ u))
+      first (inr (inl e)) = absurd (apart into.View into.Return (λ t. omega arith) (sym e ∙ u))
+      first (inr (inr e)) = e .1
 
-pub late-retract : (i : Into) (r : Regs) → Late i r → OneOf noReturn (tagOf made.the-type i) → Retract i
-late-retract i r (inl e) k = e
-late-retract i r (inr (inl e)) k = absurd (miss noReturn 10 tt (rw e at k))
-late-retract i r (inr (inr e)) k = absurd (miss noReturn 12 tt (rw (e .0) at k))
+  pub late-retract : OneOf noReturn (tagOf made.the-type (put .into)) → Retract (put .into)
+  late-retract k = some (L .late)
+    where
+      some : Late (put .into) (m .regs) → Retract (put .into)
+      some (inl e) = e
+      some (inr (inl e)) = absurd (miss noReturn 10 tt (rw e at k))
+      some (inr (inr e)) = absurd (miss noReturn 12 tt (rw (e .0) at k))
 
 -- all plans but writes
 abbrev raising : List ℕ

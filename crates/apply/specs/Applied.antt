@@ -1,6 +1,6 @@
 -- A plan that may be applied gives what the functions for its lists ask for, and what they leave is what the model applies.
 use Prim.Native.Nat.{ℕ, _+_, _*_, _<_, _≤_}
-use mathlib.Core.Path.{_≡_, refl, ap, sym, subst, _∙_}
+use mathlib.Core.Path.{_≡_, refl, ap, subst, _∙_}
 use mathlib.Core.Bool.{Bool, true, false, true≢false}
 use mathlib.Core.List.{List}
 use mathlib.Core.Logic.{⊎-elim}
@@ -24,8 +24,12 @@ use Rattle.plan_meaning.specs.Suits.{FitsIn, Forms, CallSuits, Suits}
 use Rattle.apply.specs.Applies.{Applies, Late, Lately, tried, appliedIf}
 use Rattle.model.specs.Calls.{mainMost, ptrMost}
 
+-- the registers and what is left of the lists
+abbrev left : List ℕ → List ℕ → List ℕ → List ℕ → Regs → Machine
+left main ptr ctl heap r = record { regs = r; main = main; ptr = ptr; ctl = ctl; heap = heap }
+
 -- by where it writes
-module _ (f : List ℕ) (put : Put) (m : Machine) (A : Applies f put m) where
+module _ {f : List ℕ} {put : Put} {m : Machine} (A : Applies f put m) where
   suits : {i : Into} → put .into ≡ i → Suits f i put m
   suits e = subst (λ (i : Into). Suits f i put m) e (A .suits)
 
@@ -103,16 +107,48 @@ module _ (f : List ℕ) (put : Put) (m : Machine) (A : Applies f put m) where
         retract = to-drop;
       }
 
--- what each of them leaves
-module _ (f : List ℕ) (put : Put) (m : Machine) where
-  pub call-applied : put .into ≡ into.Frame → calledBy f put m ≡ applied f put m
-  unfolding applied applyInto
-  call-applied e = rw e
+  -- what `apply` tells of the state that it leaves: it is done, or left for later and all is as before
+  abbrev Told : List ℕ → List ℕ → List ℕ → List ℕ → Tried → Type 0
+  Told main ptr ctl heap t =
+      (left main ptr ctl heap (t .regs) ≡ appliedIf (t .done) f put m)
+      × ((t .regs .state ≡ m .regs .state)
+      × (t .done ≡ false → Late (put .into) (m .regs)))
 
-  pub leave-applied : put .into ≡ into.Return → (m .regs .frame ≡ 1 → ⊥) → returned put m ≡ applied f put m
-  unfolding applied applyInto
-  leave-applied e u = rw (e, ne-eqb (m .regs .frame) 1 u)
+  module _ {main ptr ctl heap : List ℕ} {t : Tried} where
+    pub told-undone : t ≡ tried false (m .regs) → left main ptr ctl heap (m .regs) ≡ m → Late (put .into) (m .regs) → Told main ptr ctl heap t
+    told-undone e d L = rw e (d, (refl, λ u. L))
 
+    module _ {r : Regs} (e : t ≡ tried true r) where
+      told : {m′ : Machine} → left main ptr ctl heap r ≡ m′ → m′ .regs .state ≡ m .regs .state → m′ ≡ applied f put m → Told main ptr ctl heap t
+      told d k a = rw e (d ∙ a, (ap (λ (x : Machine). x .regs .state) d ∙ k, λ u. absurd (true≢false u)))
+
+      pub told-called : left main ptr ctl heap r ≡ calledBy f put m → put .into ≡ into.Frame → Told main ptr ctl heap t
+      unfolding applied applyInto
+      told-called d i = told d refl (rw i)
+
+      pub told-returned : left main ptr ctl heap r ≡ returned put m → put .into ≡ into.Return → (m .regs .frame ≡ 1 → ⊥) → Told main ptr ctl heap t
+      unfolding applied applyInto
+      told-returned d i u = told d refl (rw (i, ne-eqb (m .regs .frame) 1 u))
+
+      pub told-opened : left main ptr ctl heap r ≡ opened put m → put .into ≡ into.Handler → Told main ptr ctl heap t
+      unfolding applied applyInto
+      told-opened d i = told d refl (rw i)
+
+      pub told-closed : left main ptr ctl heap r ≡ closed put m → put .into ≡ into.Close → Told main ptr ctl heap t
+      unfolding applied applyInto
+      told-closed d i = told d refl (rw i)
+
+  -- a plain write that is done, or left
+  module _ {main ptr heap : List ℕ} {b : Bool} (w : left main ptr (m .ctl) heap (triedOn b put (m .regs)) ≡ triedWrite b (put .into) put m) {t : Tried} where
+    pub told-plain : {r : Regs} → t ≡ tried true r → r ≡ onwards put (m .regs) → b ≡ true → plainWrite (put .into) put m ≡ applied f put m →
+        Told main ptr (m .ctl) heap t
+    told-plain e q y a = rw (e, q) (rw y at w ∙ a, (refl, λ u. absurd (true≢false u)))
+
+    pub told-left : t ≡ tried false (m .regs) → b ≡ false → Late (put .into) (m .regs) → Told main ptr (m .ctl) heap t
+    told-left e n L = told-undone e (rw n at w) L
+
+-- what the late ones leave
+module _ {put : Put} {m : Machine} (L : Lately put m) (f : List ℕ) where
   pub finish-applied : put .into ≡ into.Return → m .regs .frame ≡ 1 → finished m ≡ applied f put m
   unfolding applied applyInto
   finish-applied e u = rw (e, eq-eqb (m .regs .frame) 1 u)
@@ -121,62 +157,9 @@ module _ (f : List ℕ) (put : Put) (m : Machine) where
   unfolding applied applyInto
   drop-applied R = ⊎-elim (λ e. rw e) (⊎-elim (λ e. rw e) (λ e. rw e)) R
 
-  pub open-applied : put .into ≡ into.Handler → opened put m ≡ applied f put m
-  unfolding applied applyInto
-  open-applied e = rw e
-
-  pub close-applied : put .into ≡ into.Close → closed put m ≡ applied f put m
-  unfolding applied applyInto
-  close-applied e = rw e
-
-  pub view-applied : (r : Regs) (main ptr heap : List ℕ) → put .into ≡ into.View → r ≡ onwards put (m .regs) → main ≡ cut (put .mtop) (m .main) →
+  pub view-applied : {r : Regs} {main ptr heap : List ℕ} → put .into ≡ into.View → r ≡ onwards put (m .regs) → main ≡ cut (put .mtop) (m .main) →
       ptr ≡ cut (put .ptop) (m .ptr) →
       heap ≡ formedFrom put m →
       record { regs = r; main = main; ptr = set ptr (put .at) (put .word); ctl = m .ctl; heap = heap } ≡ applied f put m
   unfolding applied applyInto
-  view-applied r main ptr heap e er em ep eh = rw (e, er, em, ep, eh)
-
--- what `apply` tells of the state that it leaves: it is done, or left for later and all is as before
-module _ (f : List ℕ) (put : Put) (m : Machine) (main ptr ctl heap : List ℕ) where
-  abbrev Told : Tried → Type 0
-  Told t =
-      (record { regs = t .regs; main = main; ptr = ptr; ctl = ctl; heap = heap } ≡ appliedIf (t .done) f put m)
-      × ((t .regs .state ≡ m .regs .state)
-      × (t .done ≡ false → Late (put .into) (m .regs)))
-
-  pub told-done : (t : Tried) (r : Regs) (m′ : Machine) → t ≡ tried true r → record { regs = r; main = main; ptr = ptr; ctl = ctl; heap = heap } ≡ m′ →
-      m′ .regs .state ≡ m .regs .state → m′ ≡ applied f put m → Told t
-  told-done t r m′ e d k a = rw e (d ∙ a, (ap (λ (x : Machine). x .regs .state) d ∙ k, λ u. absurd (true≢false u)))
-
-  pub told-undone : (t : Tried) → t ≡ tried false (m .regs) → record { regs = m .regs; main = main; ptr = ptr; ctl = ctl; heap = heap } ≡ m → Late (put .into) (m .regs) → Told t
-  told-undone t e d L = rw e (d, (refl, λ u. L))
-
--- a plain write that is done, or left
-module _ (put : Put) (m : Machine) (main ptr heap : List ℕ) where
-  pub plain-done : (r : Bool) → record { regs = triedOn r put (m .regs); main = main; ptr = ptr; ctl = m .ctl; heap = heap } ≡ triedWrite r (put .into) put m → r ≡ true →
-      record { regs = onwards put (m .regs); main = main; ptr = ptr; ctl = m .ctl; heap = heap } ≡ plainWrite (put .into) put m
-  plain-done true e t = e
-  plain-done false e t = absurd (true≢false (sym t))
-
-  pub plain-undone : (r : Bool) → record { regs = triedOn r put (m .regs); main = main; ptr = ptr; ctl = m .ctl; heap = heap } ≡ triedWrite r (put .into) put m → r ≡ false →
-      record { regs = m .regs; main = main; ptr = ptr; ctl = m .ctl; heap = heap } ≡ m
-  plain-undone true e t = absurd (true≢false t)
-  plain-undone false e t = e
-
--- a plain write leaves the registers on
-pub plainly-state : (i : Into) (put : Put) (m : Machine) → plainWrite i put m .regs .state ≡ m .regs .state
-plainly-state into.Nothing put m = refl
-plainly-state into.Pop put m = refl
-plainly-state into.Push put m = refl
-plainly-state into.Main put m = refl
-plainly-state into.Pointer put m = refl
-plainly-state into.Heap put m = refl
-plainly-state into.Read put m = refl
-plainly-state into.Drop put m = refl
-plainly-state into.DropMain put m = refl
-plainly-state into.DropPointer put m = refl
-plainly-state into.View put m = refl
-plainly-state into.Frame put m = refl
-plainly-state into.Return put m = refl
-plainly-state into.Handler put m = refl
-plainly-state into.Close put m = refl
+  view-applied e er em ep eh = rw (e, er, em, ep, eh)

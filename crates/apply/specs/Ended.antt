@@ -58,7 +58,7 @@ raisedBy main t HeapFull = codeOf heapFull
 raisedBy main t NoRoom = codeOf noRoom
 raisedBy main t Thrown = wordAt main (t - 1)
 
-pub settle-raised : (f : List ℕ) (m : Machine) (plan : Plan) → ((put : Put) → plan ≡ Write put → ⊥) →
+settle-raised : (f : List ℕ) (m : Machine) (plan : Plan) → ((put : Put) → plan ≡ Write put → ⊥) →
     settle f m plan ≡ raised f m (raisedBy (m .main) (mtop m) plan)
 unfolding settle raisedBy
 settle-raised f m (Write put) never = absurd (never put refl)
@@ -129,7 +129,7 @@ module _ (f : List ℕ) (m : Machine) (code : ℕ) where
   unfolding endedOf raised
   uncaught-ends h = rw (eq-eqb (m .regs .handler) 0 h)
 
-  pub caught-ends : (g : Handler) (place : ℕ) (r : Regs) (main ptr ctl : List ℕ) → (m .regs .handler ≡ 0 → ⊥) → theHandler g ≡ handlerOf (m .ctl) (m .regs .handler) →
+  pub caught-ends : {g : Handler} {place : ℕ} {r : Regs} {main ptr ctl : List ℕ} → (m .regs .handler ≡ 0 → ⊥) → theHandler g ≡ handlerOf (m .ctl) (m .regs .handler) →
       place ≡ headOf f (frameOf (m .ctl) (g .frame) .proc) + operand f (g .opened) →
       r ≡ resumed g place (m .regs .handler) (m .regs .state) →
       main ≡ cut (g .«main_top») (m .main) →
@@ -142,7 +142,7 @@ module _ (f : List ℕ) (m : Machine) (code : ℕ) where
       }
       ≡ endedOf (raised f m code)
   unfolding endedOf raised caught
-  caught-ends g place r main ptr ctl h eg e er em ep ec =
+  caught-ends h eg e er em ep ec =
       rw (
         ne-eqb (m .regs .handler) 0 h,
         er,
@@ -158,7 +158,7 @@ module _ (f : List ℕ) (m : Machine) (code : ℕ) where
       )
 
 -- its main top has a word, and its 160 leads to a place
-module _ (f table : List ℕ) (r : Regs) (main ptr ctl : List ℕ) (g : Handler) (R : Raises f table r main ptr ctl)
+module _ {f table : List ℕ} {r : Regs} {main ptr ctl : List ℕ} {g : Handler} (R : Raises f table r main ptr ctl)
     (h : r .handler ≡ 0 → ⊥) (e : theHandler g ≡ handlerOf ctl (r .handler)) where
   pub guard-top : g .«main_top» < length main
   guard-top = rw (ap (λ x. x .mainTop) e) (R .caught h .main-top)
@@ -172,3 +172,8 @@ pub record Settles (f table : List ℕ) (m : Machine) (plan : Plan) : Type 0 whe
   pub raises : ((put : Put) → plan ≡ Write put → ⊥) → Raises f table (m .regs) (m .main) (m .ptr) (m .ctl)
   -- 162 pops a word
   pub thrown : plan ≡ Thrown → 1 ≤ mtop m
+
+-- a plan that does not write: its exception is raised
+pub ends-raised : {f table : List ℕ} {m : Machine} {plan : Plan} {code : ℕ} {x : Ended} → Settles f table m plan → ((put : Put) → plan ≡ Write put → ⊥) →
+    code ≡ raisedBy (m .main) (mtop m) plan → x ≡ endedOf (raised f m code) → x ≡ endedOf (settle f m plan)
+ends-raised {f = f} {m = m} {plan = plan} S never e d = rw (settle-raised f m plan never, ← e) d

@@ -75,9 +75,9 @@ drop into.Return lm lp lh r put k F = absurd F
 drop into.Handler lm lp lh r put k F = absurd F
 drop into.Close lm lp lh r put k F = absurd F
 
-pub dropping : (lh : ℕ) (main ptr : List ℕ) (r : Regs) (put : Put) → Plain lh main ptr r put → OneOf others (tagOf made.the-type (put .into)) →
+pub dropping : {lh : ℕ} {main ptr : List ℕ} {r : Regs} {put : Put} → Plain lh main ptr r put → OneOf others (tagOf made.the-type (put .into)) →
     Dropping main ptr r put
-dropping lh main ptr r put P k =
+dropping {lh = lh} {main = main} {ptr = ptr} {r = r} {put = put} P k =
     let D = drop (put .into) (length main) (length ptr) lh r put k (P .fits) in
     record {
       retract = D .retract;

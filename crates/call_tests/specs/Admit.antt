@@ -89,78 +89,93 @@ not-passed l map (refuse j q new) (Refuse k p) e n rest =
     let b : map ≡ new = ap (λ (c : Checked). c .map) e in
     rw (a, b)
 
-module _ (l : Lent) (map table : List ℕ) (marks : List Bool) (v : Verdict) (C : Checks (l .file) (l .map) map table v) where
-  pub admit-refused : ((k : ℕ) → v ≡ Pass k → ⊥) → AdmittedMarks l map table marks v
-  unfolding checkOf
-  admit-refused n =
-      record {
-        found = record {
-          is = not-passed l map (verdictOf (l .file) (l .map)) v (C .is) n;
-          shown = λ k e. absurd (n k e);
-        };
-        marks-are = λ k e. absurd (n k e);
-      }
+pub admit-refused : {l : Lent} {map table : List ℕ} {marks : List Bool} {v : Verdict} → Checks (l .file) (l .map) map table v →
+    ((k : ℕ) → v ≡ Pass k → ⊥) → AdmittedMarks l map table marks v
+unfolding checkOf
+admit-refused {l = l} {map = map} {v = v} C n =
+    record {
+      found = record { is = not-passed l map (verdictOf (l .file) (l .map)) v (C .is) n; shown = λ k e. absurd (n k e) };
+      marks-are = λ k e. absurd (n k e);
+    }
 
-  module _ (k : ℕ) (z : v ≡ Pass k) where
-    passes-with : (w : model.Verdict) → checked Passed map ≡ answered w → w ≡ pass map
-    passes-with (pass new) e = ap pass (sym (ap (λ (c : Checked). c .map) e))
-    passes-with (refuse j p new) e =
-        let w : Passed ≡ Refused j p = ap (λ (c : Checked). c .answer) e in
-        let y : _≡_ {A = ℕ} 0 1 = cc in absurd (omega arith)
+-- the check passed the file
+passes-with : (map : List ℕ) (w : model.Verdict) → checked Passed map ≡ answered w → w ≡ pass map
+passes-with map (pass new) e = ap pass (sym (ap (λ (c : Checked). c .map) e))
+passes-with map (refuse j p new) e =
+    let w : Passed ≡ Refused j p = ap (λ (c : Checked). c .answer) e in
+    let y : _≡_ {A = ℕ} 0 1 = cc in absurd (omega arith)
 
-    pub admit-passes : verdictOf (l .file) (l .map) ≡ pass map
-    unfolding checkOf
-    admit-passes = passes-with (verdictOf (l .file) (l .map)) (sym (ap (λ (x : Verdict). checked (answerOf x) map) z) ∙ C .is)
+pub admit-passes : {f map₀ map table : List ℕ} {v : Verdict} {k : ℕ} → Checks f map₀ map table v → v ≡ Pass k → verdictOf f map₀ ≡ pass map
+unfolding checkOf
+admit-passes {f = f} {map₀ = map₀} {map = map} C z = passes-with map (verdictOf f map₀) (sym (ap (λ (x : Verdict). checked (answerOf x) map) z) ∙ C .is)
 
-    refused : (n p : ℕ) → ((rest : Lent → After) → tested l rest ≡ answers (Refused n p) (withMap map l)) → AdmittedMarks l map table marks (Refuse n p)
-    refused n p e =
-        record { found = record { is = e; shown = λ j z. refuse-pass n p j z }; marks-are = λ j z. refuse-pass n p j z }
+-- what is known of a passed file before its heap is looked at
+pub record Measured (l : Lent) (map table : List ℕ) (k : ℕ) (right? : Bool) : Type 0 where
+  pub passes : verdictOf (l .file) (l .map) ≡ pass map
+  pub placed : Placed (l .file) table k
+  pub tests : right? ≡ all (lengthTests (withMap map l))
 
-    go-on : (rest : Lent → After) → tested l rest ≡ afterMap (withMap map l) (rest (withMap map l))
-    go-on rest = rw admit-passes
+pub measured : {l : Lent} {map table : List ℕ} {v : Verdict} {k : ℕ} {head : Head} {right? : Bool} → Checks (l .file) (l .map) map table v → v ≡ Pass k →
+    HeadIs (l .file) 0 head → right? ≡ all (lengthList head (length (l .main)) (length (l .ptr)) (length (l .ctl)) (length (l .heap))) →
+    Measured l map table k right?
+unfolding lengthTests procHead
+measured {l = l} {map = map} {k = k} C z H r =
+    let p = admit-passes C z in
+    let e : _ ≡ procHead (l .file) 0 = H .is ∙ head-of (l .file) 0 0 (sym (first-whole (l .file) (l .map) map p .0)) in
+    record {
+      passes = p;
+      placed = C .placed k z;
+      tests = r ∙ ap (λ (w : Head). all (lengthList w (length (l .main)) (length (l .ptr)) (length (l .ctl)) (length (l .heap)))) e;
+    }
 
-    module _ (head : Head) (head-is : HeadIs (l .file) 0 head) (right? : Bool)
-        (right-is : right? ≡ all (lengthList head (length (l .main)) (length (l .ptr)) (length (l .ctl)) (length (l .heap)))) where
-      list-is : lengthList head (length (l .main)) (length (l .ptr)) (length (l .ctl)) (length (l .heap)) ≡ lengthTests (withMap map l)
-      unfolding lengthTests procHead
-      list-is =
-          let e : head ≡ procHead (l .file) 0 = head-is .is ∙ head-of (l .file) 0 0 (sym (first-whole (l .file) (l .map) map admit-passes .0)) in
-          ap (λ (w : Head). lengthList w (length (l .main)) (length (l .ptr)) (length (l .ctl)) (length (l .heap))) e
+module _ {l : Lent} {map table : List ℕ} {k : ℕ} {right? : Bool} (M : Measured l map table k right?) where
+  refused : {marks : List Bool} (n p : ℕ) → ((rest : Lent → After) → tested l rest ≡ answers (Refused n p) (withMap map l)) → AdmittedMarks l map table marks (Refuse n p)
+  refused n p e =
+      record { found = record { is = e; shown = λ j z. refuse-pass n p j z }; marks-are = λ j z. refuse-pass n p j z }
 
-      tests-are : right? ≡ all (lengthTests (withMap map l))
-      tests-are = right-is ∙ ap all list-is
+  go-on : (rest : Lent → After) → tested l rest ≡ afterMap (withMap map l) (rest (withMap map l))
+  go-on rest = rw (M .passes)
 
-      pub admit-lengths : right? ≡ false → AdmittedMarks l map table marks (Refuse 10 0)
-      admit-lengths w = refused 10 0 (λ rest. go-on rest ∙ rw (sym tests-are ∙ w))
+  right : right? ≡ true → all (lengthTests (withMap map l)) ≡ true
+  right w = sym (M .tests) ∙ w
 
-      module _ (w : right? ≡ true) (h : HeapAudit) (h-is : Audited (l .heap) h marks) where
-        pub admit-heap : (q : ℕ) → h ≡ Fault q → AdmittedMarks l map table marks (Refuse 11 q)
-        admit-heap q e = refused 11 q (λ rest. go-on rest ∙ rw (sym tests-are ∙ w, audited-fault q h-is e))
+  pub heap-measured : right? ≡ true → (2 ≤ length (l .heap)) × (length (l .heap) ≤ heapMost)
+  unfolding lengthTests
+  heap-measured w =
+      let T = all-true (lengthTests (withMap map l)) (right w) in
+      (T .1 .1 .1 .1 .1 .1 .0, T .1 .1 .1 .1 .1 .1 .1 .0)
 
-        module _ (e : h ≡ Clean) where
-          clean-is : heapOf (l .heap) ≡ clean (objectsOf (l .heap))
-          clean-is = audited-clean h-is e
+  pub admit-lengths : {marks : List Bool} → right? ≡ false → AdmittedMarks l map table marks (Refuse 10 0)
+  admit-lengths w = refused 10 0 (λ rest. go-on rest ∙ rw (sym (M .tests) ∙ w))
 
-          pub admit-bytes : (length (l .bytes) ≡ 28 → ⊥) → AdmittedMarks l map table marks (Refuse 12 0)
-          admit-bytes n = refused 12 0 (λ rest. go-on rest ∙ rw (sym tests-are ∙ w, clean-is, ne-eqb (length (l .bytes)) 28 n))
+  module _ (w : right? ≡ true) {h : HeapAudit} {marks : List Bool} (h-is : Audited (l .heap) h marks) where
+    pub admit-heap : {q : ℕ} → h ≡ Fault q → AdmittedMarks l map table marks (Refuse 11 q)
+    admit-heap {q = q} e = refused 11 q (λ rest. go-on rest ∙ rw (right w, audited-fault q h-is e))
 
-          pub admit-all : length (l .bytes) ≡ 28 → AdmittedMarks l map table marks (Pass k)
-          admit-all n =
-              record {
-                found = record {
-                  is = λ rest. go-on rest ∙ rw (sym tests-are ∙ w, clean-is, eq-eqb (length (l .bytes)) 28 n);
-                  shown = λ j y.
-                      let x : k ≡ j = cc in
-                      record {
-                        passes = admit-passes;
-                        placed = rw x at (C .placed k z);
-                        lengths = all-true (lengthTests (withMap map l)) (sym tests-are ∙ w);
-                        heap-clean = clean-is;
-                        registers = n;
-                      };
-                };
-                marks-are = λ j y. h-is .marks e;
-              }
+    module _ (e : h ≡ Clean) where
+      clean-is : heapOf (l .heap) ≡ clean (objectsOf (l .heap))
+      clean-is = audited-clean h-is e
+
+      pub admit-bytes : (length (l .bytes) ≡ 28 → ⊥) → AdmittedMarks l map table marks (Refuse 12 0)
+      admit-bytes n = refused 12 0 (λ rest. go-on rest ∙ rw (right w, clean-is, ne-eqb (length (l .bytes)) 28 n))
+
+      pub admit-all : length (l .bytes) ≡ 28 → AdmittedMarks l map table marks (Pass k)
+      admit-all n =
+          record {
+            found = record {
+              is = λ rest. go-on rest ∙ rw (right w, clean-is, eq-eqb (length (l .bytes)) 28 n);
+              shown = λ j y.
+                  let x : k ≡ j = cc in
+                  record {
+                    passes = M .passes;
+                    placed = rw x at (M .placed);
+                    lengths = all-true (lengthTests (withMap map l)) (right w);
+                    heap-clean = clean-is;
+                    registers = n;
+                  };
+            };
+            marks-are = λ j y. h-is .marks e;
+          }
 
 pub test-self : (t : Bool) → t ≡ (if t then true else false)
 test-self true = refl

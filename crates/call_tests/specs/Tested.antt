@@ -38,16 +38,16 @@ pub record TestedAs (l : Lent) (map table : List ℕ) (t : Tested) : Type 0 wher
 unfit-sound : {A : Type 0} (n p k : ℕ) (r : Regs) → Unfit n p ≡ Sound k r → A
 unfit-sound n p k r e = let y : _≡_ {A = ℕ} 0 1 = cc in absurd (omega arith)
 
-module _ (l : Lent) (map table : List ℕ) (marks : List Bool) (v : Verdict) (A : AdmittedMarks l map table marks v) where
-  -- the tests on the state, then the rest
-  abbrev then : (Lent → After) → Lent → After
-  then rest l′ = demand (soundTests l′) 12 l′ (rest l′)
+-- the tests on the state, then the rest
+abbrev then : (Lent → After) → Lent → After
+then rest l = demand (soundTests l) 12 l (rest l)
 
-  pub test-refused : (n p : ℕ) → v ≡ Refuse n p → TestedAs l map table (Unfit n p)
-  test-refused n p e =
+module _ {l : Lent} {map table : List ℕ} {marks : List Bool} {v : Verdict} (A : AdmittedMarks l map table marks v) where
+  pub test-refused : {n p : ℕ} → v ≡ Refuse n p → TestedAs l map table (Unfit n p)
+  test-refused {n = n} {p = p} e =
       record { is = λ rest. sym (tested-refused l map table v (A .found) (then rest) n p e); through = λ k r z. unfit-sound n p k r z }
 
-  module _ (k : ℕ) (e : v ≡ Pass k) where
+  module _ {k : ℕ} (e : v ≡ Pass k) where
     S : AdmitShows l map table k
     S = A .found .shown k e
 
@@ -58,7 +58,7 @@ module _ (l : Lent) (map table : List ℕ) (marks : List Bool) (v : Verdict) (A 
     unfolding lengthTests
     test-lengths = (S .lengths .1 .0, S .lengths .1 .1 .1 .0)
 
-    module _ (r : Regs) (r-is : r ≡ regsFrom (l .bytes)) (t : Bool)
+    module _ {r : Regs} (r-is : r ≡ regsFrom (l .bytes)) {t : Bool}
         (t-is : (h : List ℕ) → Marks (objectsOf h) marks →
         t ≡ sound? (l .file) map (record { regs = r; main = l .main; ptr = l .ptr; ctl = l .ctl; heap = h })) where
       sound-is : t ≡ sound? (l .file) map (machineOf (withMap map l))

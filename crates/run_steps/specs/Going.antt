@@ -13,7 +13,6 @@ use Rattle.plan_meaning.specs.Settled.{settle}
 use Rattle.theory_step.specs.Alive.{Alive, alive-step}
 use Rattle.theory_step.specs.Settling.{alive-plan}
 use Rattle.apply.specs.Applies.{Late, Later, appliedIf}
-use Rattle.apply.specs.declared.Tried.{Tried}
 use Rattle.model.specs.declared.Regs.{Regs}
 use Rattle.run_steps.specs.declared.Pause.{Pause}
 use Rattle.plan_meaning.specs.declared.Put.{Put}
@@ -54,25 +53,16 @@ pub record Paused (f table : List ℕ) (n : ℕ) (m : Machine) (n′ : ℕ) (m�
   pub stopped : 0 < n′ → PlanPaused f m′ plan
 
 -- no plan writes, or the write was not done: the plan is settled apart
-pub stopped-raise : (f : List ℕ) (m : Machine) (plan : Plan) → plan ≡ planAt f m → ((put : Put) → plan ≡ Write put → ⊥) → PlanPaused f m plan
-stopped-raise f m plan e never = record { is = e; late = λ put u. absurd (never put u) }
+pub stopped-raise : {f : List ℕ} {m : Machine} {plan : Plan} → plan ≡ planAt f m → ((put : Put) → plan ≡ Write put → ⊥) → PlanPaused f m plan
+stopped-raise e never = record { is = e; late = λ put u. absurd (never put u) }
 
-pub stopped-late : (f : List ℕ) (m : Machine) (put : Put) → Write put ≡ planAt f m → Late (put .into) (m .regs) → PlanPaused f m (Write put)
+stopped-late : (f : List ℕ) (m : Machine) (put : Put) → Write put ≡ planAt f m → Late (put .into) (m .regs) → PlanPaused f m (Write put)
 stopped-late f m put e L = record { is = e; late = λ put′ u. subst (λ (p : Put). Late (p .into) (m .regs)) (write-one put put′ u) L }
   where
     write-one : (p q : Put) → Write p ≡ Write q → p ≡ q
     write-one p q u = cc
 
 module _ (f table : List ℕ) where
-  -- a write that was not done left all as it was
-  pub paused-late : (n : ℕ) (m₀ : Machine) (n′ : ℕ) (m m′ : Machine) (put : Put) (t : Tried) → Going f table n m₀ n′ m →
-      (m .regs .state ≡ 1 → ⊥) → Write put ≡ planAt f m → m′ .regs ≡ m .regs → t .done ≡ false →
-      setRegs (t .regs) m′ ≡ appliedIf (t .done) f put m → (t .done ≡ false → Late (put .into) (m .regs)) →
-      Paused f table n m₀ n′ m′ (Write put)
-  paused-late n m₀ n′ m m′ put t G u e r d a l =
-      let k : m′ ≡ m = ap (setRegs (m′ .regs)) (a ∙ ap (λ (b : Bool). appliedIf b f put m) d) ∙ ap (λ (x : Regs). setRegs x m) r in
-      rw k (record { going = G; on? = u; stopped = λ h. stopped-late f m put e (l d) })
-
   pub going-start : (n : ℕ) (m : Machine) → Runs f table m → Going f table n m n m
   going-start n m R =
       record {
@@ -119,9 +109,18 @@ module _ (f table : List ℕ) where
           alike = a;
         }
 
-    -- a plan's writes are done
-    pub going-applied : (put : Put) (t : Tried) (m′ : Machine) → Write put ≡ planAt f m → t .done ≡ true →
-        m′ ≡ appliedIf (t .done) f put m → SameLengths m′ m → Going f table n m (n - 1) m′
-    unfolding settle
-    going-applied put t m′ e d a l =
-        stepped m′ (sym (alive-plan (R .alive) on?) ∙ rw (← e) (ap next (sym (a ∙ ap (λ (u : Bool). appliedIf u f put m) d)))) l
+-- a plan's write was done, which is a step; or it was not, and all is as it was
+module _ {f table : List ℕ} {n₀ n : ℕ} {m₀ m : Machine} (G : Going f table n₀ m₀ n m) (on? : m .regs .state ≡ 1 → ⊥)
+    {put : Put} {b : Bool} {m′ : Machine} (e : Write put ≡ planAt f m) where
+  pub going-applied : 0 < n → b ≡ true → m′ ≡ appliedIf b f put m → SameLengths m′ m → Going f table n₀ m₀ (n - 1) m′
+  unfolding settle
+  going-applied some d a l =
+      let R = G .runs in
+      going-trans f table n₀ m₀ n m (n - 1) m′ G
+      (stepped f table n m R some on? m′ (sym (alive-plan (R .alive) on?) ∙ rw (← e) (ap next (sym (rw d at a)))) l)
+
+  pub paused-late : {r : Regs} → m′ .regs ≡ m .regs → b ≡ false → setRegs r m′ ≡ appliedIf b f put m → (b ≡ false → Late (put .into) (m .regs)) →
+      Paused f table n₀ m₀ n m′ (Write put)
+  paused-late q d a l =
+      let k : m′ ≡ m = ap (setRegs (m′ .regs)) (rw d at a) ∙ ap (λ (x : Regs). setRegs x m) q in
+      rw k (record { going = G; on? = on?; stopped = λ h. stopped-late f m put e (l d) })

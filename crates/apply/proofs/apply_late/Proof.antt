@@ -45,8 +45,8 @@ finish-requires c κs = search needs
 
 drop-all-requires : tie.Need-drop-all-requires
 drop-all-requires c κs =
-    let back8 = c .before .before .before .before .before .before .before .before in
-    let S = back8 in S .pre .retract (late-retract (S .args .put .into) (S .args .regs) (S .pre .late) (c .before .before .match .keys3))
+    let L = c .before .before .before .before .before .before .before .before .pre in
+    L .retract (late-retract L (c .before .before .match .keys3))
 
 same-length : tie.Need-same-length
 same-length c = search needs
@@ -59,21 +59,22 @@ same-length-3 c = search needs
 
 returns : tie.Need-returns
 returns c f =
-    let S = c .before .before .before .before .before .before .before .before .before .before .before .before .before .before .before .before .before .before .before .before .before in
-    view-applied f (S .args .put) (record { regs = S .args .regs; main = S .args .main .now; ptr = S .args .ptr .now; ctl = S .args .ctl .now; heap = S .args .heap .now }) _ _ _ _
-    (c .before .before .before .before .before .before .before .before .before .before .before .before .before .before .enum-told .given .1) (c .before .before .before .before .before
-    .before .before .before .before .before .before .before .before .before .before .before .onward .ensures) (c .before .before .before .before .before .before .cut-to .ensures)
-    (c .before .before .cut-to2 .ensures) (c .before .before .before .before .before .before .before .before .before .before .form .ensures)
+    let at-cut = c .before .before .before .before .before .before in
+    let at-form = at-cut .before .before .before .before in
+    let at-told = at-form .before .before .before .before in
+    let at-onward = at-told .before .before in
+    view-applied (at-onward .before .before .before .before .before .pre) f (at-told .enum-told .given .1) (at-onward .onward .ensures)
+    (at-cut .cut-to .ensures) (c .before .before .cut-to2 .ensures) (at-form .form .ensures)
 
 same-length-4 : tie.Need-same-length-4
 same-length-4 c = search needs
 
 returns-2 : tie.Need-returns-2
 returns-2 c f =
-    let S = c .before .before .before .before .before .before .before .before .before .before .before in
-    c .before .before .finish .ensures (S .args .main .now) (S .args .ptr .now) (S .args .heap .now)
-    ∙ finish-applied f (S .args .put) (record { regs = S .args .regs; main = S .args .main .now; ptr = S .args .ptr .now; ctl = S .args .ctl .now; heap = S .args .heap .now })
-    (c .before .before .before .before .enum-told2 .given .1) (late-return (S .args .put .into) (S .args .regs) (S .pre .late) (c .before .before .before .before .enum-told2 .given .1))
+    let at-told = c .before .before .before .before in
+    let L = at-told .before .before .before .before .before .before .before .pre in
+    let e = at-told .enum-told2 .given .1 in
+    c .before .before .finish .ensures _ _ _ ∙ finish-applied L f e (late-return L e)
 
 same-length-5 : tie.Need-same-length-5
 same-length-5 c = search needs
@@ -83,11 +84,10 @@ same-length-6 c = search needs
 
 returns-3 : tie.Need-returns-3
 returns-3 c f =
-    let S = c .before .before .before .before .before .before .before .before .before .before .before .before .before in
-    rw (c .before .before .before .before .before .before .before .before .onward .ensures)
-    (c .before .before .before .before .drop-all .ensures (S .args .ctl .now) (S .args .heap .now)
-    ∙ drop-applied f (S .args .put) (record { regs = S .args .regs; main = S .args .main .now; ptr = S .args .ptr .now; ctl = S .args .ctl .now; heap = S .args .heap .now })
-    (late-retract (S .args .put .into) (S .args .regs) (S .pre .late) (c .before .before .before .before .before .before .before .match .keys3)))
+    let at-match = c .before .before .before .before .before .before .before in
+    let at-onward = at-match .before in
+    let L = at-onward .before .before .before .before .before .pre in
+    rw (at-onward .onward .ensures) (c .before .before .before .before .drop-all .ensures _ _ ∙ drop-applied L f (late-retract L (at-match .match .keys3)))
 
 pub apply-late-spec : {M : Type 1} → statement M
 apply-late-spec =

@@ -8,9 +8,7 @@ use Rattle.apply.proofs.raise.Statement.{statement}
 use Rattle.apply.proofs.raise.Tie as tie
 
 returns : tie.Need-returns
-returns c heap =
-    let S = c .before .before .before .before .before in
-    uncaught-ends (S .args .file .now) (record { regs = S .args .regs; main = S .args .main .now; ptr = S .args .ptr .now; ctl = S .args .ctl .now; heap = heap }) (S .args .code) (c .if1 .taken)
+returns c heap = uncaught-ends _ _ _ (c .if1 .taken)
 
 sub-handler-at : tie.Need-sub-handler-at
 sub-handler-at c = search needs
@@ -22,10 +20,7 @@ target-requires : tie.Need-target-requires
 target-requires c κs =
     let H = c .before in
     let S = H .before .before .before .before .before .before .before in
-    let A = S .args in
-    guard-targets (A .file .now) (A .table .now) (A .regs) (A .main .now) (A .ptr .now) (A .ctl .now) (H .handler-at .result) (S .pre)
-    (H .before .before .if1 .left)
-    (H .handler-at .ensures)
+    guard-targets (S .pre) (H .before .before .if1 .left) (H .handler-at .ensures)
 
 sub-under : tie.Need-sub-under
 sub-under c = search needs
@@ -46,33 +41,21 @@ mul-main : tie.Need-mul-main
 mul-main c =
     let H = c .before .before .before .before .before .before .before .before .before .before .before .before .before .before in
     let S = H .before .before .before .before .before .before .before in
-    let A = S .args in
-    let top =
-    guard-top (A .file .now) (A .table .now) (A .regs) (A .main .now) (A .ptr .now) (A .ctl .now) (H .handler-at .result) (S .pre)
-    (H .before .before .if1 .left)
-    (H .handler-at .ensures) in
+    let top = guard-top (S .pre) (H .before .before .if1 .left) (H .handler-at .ensures) in
     omega (arith, S .pre .main-most, top)
 
 slice-write-main : tie.Need-slice-write-main
 slice-write-main c =
     let H = c .before .before .before .before .before .before .before .before .before .before .before .before .before .before in
     let S = H .before .before .before .before .before .before .before in
-    let A = S .args in
-    let top =
-    guard-top (A .file .now) (A .table .now) (A .regs) (A .main .now) (A .ptr .now) (A .ctl .now) (H .handler-at .result) (S .pre)
-    (H .before .before .if1 .left)
-    (H .handler-at .ensures) in
+    let top = guard-top (S .pre) (H .before .before .if1 .left) (H .handler-at .ensures) in
     rw (c .before .before .before .before .before .before .before .before .before .before .cut-to .ensures, length-cut) top
 
 resume-requires : tie.Need-resume-requires
 resume-requires c κs =
     let H = c .before .before .before .before .before .before .before .before .before .before .before .before .before .before in
     let S = H .before .before .before .before .before .before .before in
-    let A = S .args in
-    let top =
-    guard-top (A .file .now) (A .table .now) (A .regs) (A .main .now) (A .ptr .now) (A .ctl .now) (H .handler-at .result) (S .pre)
-    (H .before .before .if1 .left)
-    (H .handler-at .ensures) in
+    let top = guard-top (S .pre) (H .before .before .if1 .left) (H .handler-at .ensures) in
     (omega (arith, S .pre .main-most, top), omega (arith, H .before .before .if1 .left), omega (arith, S .pre .handler, S .pre .ctl-top .fits, S .pre .ctl-most))
 
 same-length : tie.Need-same-length
@@ -86,23 +69,12 @@ same-length-3 c = search needs
 
 returns-2 : tie.Need-returns-2
 returns-2 c heap =
-    let H = c .before .before .before .before .before .before .before .before .before .before .before .before .before .before .before in
-    let S = H .before .before .before .before .before .before .before in
-    let A = S .args in
-    caught-ends (A .file .now) (record { regs = A .regs; main = A .main .now; ptr = A .ptr .now; ctl = A .ctl .now; heap = heap }) (A .code)
-    (H .handler-at .result)
-    _
-    _
-    _
-    _
-    _
-    (H .before .before .if1 .left)
-    (H .handler-at .ensures)
-    (c .before .before .before .before .before .before .before .before .before .before .before .before .before .target .ensures)
-    (c .resume .ensures)
-    (c .before .before .before .before .before .before .before .before .before .before .before .cut-to .ensures)
-    (c .before .before .before .before .before .before .before .cut-to2 .ensures)
-    (c .before .before .before .unwind .ensures)
+    let at-cut2 = c .before .before .before .before .before .before .before in
+    let at-cut = at-cut2 .before .before .before .before in
+    let at-target = at-cut .before .before in
+    let H = at-target .before .before in
+    caught-ends _ _ _ (H .before .before .if1 .left) (H .handler-at .ensures) (at-target .target .ensures) (c .resume .ensures)
+    (at-cut .cut-to .ensures) (at-cut2 .cut-to2 .ensures) (c .before .before .before .unwind .ensures)
 
 pub raise-spec : {M : Type 1} → statement M
 raise-spec =

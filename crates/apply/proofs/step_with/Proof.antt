@@ -1,8 +1,7 @@
 -- `apply::step_with` meets its contract: a write that was left is applied, every other plan raises its code.
-
 use Rattle.plan_meaning.specs.Settled.{settle}
 use Rattle.apply.specs.Applied.{to-late}
-use Rattle.apply.specs.Ended.{endedOf, settle-raised}
+use Rattle.apply.specs.Ended.{endedOf, ends-raised}
 use Rattle.apply.proofs.Tags.{no-write}
 use borrow.Author.Needs.{needs}
 use Rattle.apply.proofs.step_with.Statement.{statement}
@@ -13,16 +12,13 @@ enum-known-plan c = search needs
 
 code-of-requires : tie.Need-code-of-requires
 code-of-requires c κs =
-    let back7 = c .before .before .before .before .before .before .before in
-    let S = back7 in
-    (S .pre .0 .raises (no-write (S .args .plan) (c .before .match .keys2)) .main-top .fits, S .pre .0 .thrown)
+    let S = c .before .before .before .before .before .before .before .pre .0 in
+    (S .raises (no-write _ (c .before .match .keys2)) .main-top .fits, S .thrown)
 
 raise-requires : tie.Need-raise-requires
 raise-requires c κs =
     let at-match = c .before .before .before .before .before in
-    let back11 = at-match .before .before .before .before .before .before in
-    let S = back11 in
-    S .pre .0 .raises (no-write (S .args .plan) (at-match .match .keys2))
+    at-match .before .before .before .before .before .before .pre .0 .raises (no-write _ (at-match .match .keys2))
 
 same-length : tie.Need-same-length
 same-length c = search needs
@@ -38,23 +34,14 @@ returns c =
     let at-raise = c .before .before .before .before .before .before in
     let at-code-of = at-raise .before .before .before .before in
     let at-match = at-code-of .before .before in
-    let back18 = at-match .before .before .before .before .before .before in
-    let S = back18 in
-    rw (
-      settle-raised (S .args .file .now) (record { regs = S .args .regs; main = S .args .main .now; ptr = S .args .ptr .now; ctl = S .args .ctl .now; heap = S .args .heap .now })
-          (S .args .plan) (no-write (S .args .plan) (at-match .match .keys2)),
-      ← at-code-of .code-of .ensures,
-    )
-    (at-raise .raise .ensures (S .args .heap .now))
+    ends-raised (at-match .before .before .before .before .before .before .pre .0) (no-write _ (at-match .match .keys2)) (at-code-of .code-of .ensures) (at-raise .raise .ensures _)
 
 apply-late-requires : tie.Need-apply-late-requires
 apply-late-requires c κs =
     let at-plan = c .before .before .before .before .before in
-    let back12 = at-plan .before .before .before .before .before .before .before in
-    let S = back12 in
+    let S = at-plan .before .before .before .before .before .before .before in
     let e = at-plan .plan .given .1 in
-    to-late (S .args .file .now) _ (record { regs = S .args .regs; main = S .args .main .now; ptr = S .args .ptr .now; ctl = S .args .ctl .now; heap = S .args .heap .now })
-    (S .pre .0 .writes _ e) (S .pre .1 _ e)
+    to-late (S .pre .0 .writes _ e) (S .pre .1 _ e)
 
 same-length-4 : tie.Need-same-length-4
 same-length-4 c = search needs
@@ -71,11 +58,8 @@ same-length-7 c = search needs
 returns-2 : tie.Need-returns-2
 unfolding endedOf settle
 returns-2 c =
-    let at-apply-late = c .before .before .before .before .before .before .before .before in
-    let at-plan = at-apply-late .before .before .before .before .before .before in
-    let back21 = at-plan .before .before .before .before .before .before .before in
-    let S = back21 in
-    rw (at-plan .plan .given .1, ← at-apply-late .apply-late .ensures (S .args .file .now))
+    let at-late = c .before .before .before .before .before .before .before .before in
+    rw (at-late .before .before .before .before .before .before .plan .given .1, ← at-late .apply-late .ensures _)
 
 pub step-with-spec : {M : Type 1} → statement M
 step-with-spec =

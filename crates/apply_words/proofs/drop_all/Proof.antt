@@ -1,6 +1,5 @@
 -- `apply_words::drop_all` meets its contract: both stacks are cut, then the word set aside is put back.
-
-use Rattle.laws.specs.Cuts.{length-cut}
+use Rattle.apply_words.specs.Laws.{cut-drops}
 use borrow.Author.Needs.{needs}
 use Rattle.apply_words.proofs.drop_all.Statement.{statement}
 use Rattle.apply_words.proofs.drop_all.Tie as tie
@@ -13,13 +12,8 @@ cut-to-requires-2 c κs = search needs
 
 put-back-requires : tie.Need-put-back-requires
 put-back-requires c κs =
-    let at-cut-to = c .before .before .before .before .before .before .before .before in
-    let back12 = at-cut-to .before .before .before .before in
-    let S = back12 in (
-      S .pre .retract,
-      λ e. rw (at-cut-to .cut-to .ensures, length-cut) (S .pre .in-main e),
-      λ e. rw (c .before .before .before .before .cut-to2 .ensures, length-cut) (S .pre .in-ptr e),
-    )
+    let at-cut = c .before .before .before .before .before .before .before .before in
+    cut-drops (at-cut .before .before .before .before .pre) (at-cut .cut-to .ensures) (c .before .before .before .before .cut-to2 .ensures)
 
 same-length : tie.Need-same-length
 same-length c = search needs
@@ -29,10 +23,9 @@ same-length-2 c = search needs
 
 returns : tie.Need-returns
 returns c ctl heap =
-    let S = c .before .before .before .before .before .before .before .before .before .before .before .before .before .before .before .before .before in
-    c .before .before .before .before .put-back .ensures (record { regs = S .args .regs; main = S .args .main .now; ptr = S .args .ptr .now; ctl = ctl; heap = heap })
-    (c .before .before .before .before .before .before .before .before .before .before .before .before .before .cut-to .ensures) (c .before .before .before .before .before .before
-    .before .before .before .cut-to2 .ensures)
+    let at-back = c .before .before .before .before in
+    let at-cut = at-back .before .before .before .before .before in
+    at-back .put-back .ensures _ (at-cut .before .before .before .before .cut-to .ensures) (at-cut .cut-to2 .ensures)
 
 pub drop-all-spec : {M : Type 1} → statement M
 drop-all-spec =

@@ -1,6 +1,5 @@
 -- `apply_words::drop_few` meets its contract: both stacks are cut, then the word set aside is put back; or nothing is done.
-
-use Rattle.laws.specs.Cuts.{length-cut}
+use Rattle.apply_words.specs.Laws.{cut-drops}
 use borrow.Author.Needs.{needs}
 use Rattle.apply_words.proofs.drop_few.Statement.{statement}
 use Rattle.apply_words.proofs.drop_few.Tie as tie
@@ -25,13 +24,8 @@ pop-four-requires-2 c κs = search needs
 
 put-back-requires : tie.Need-put-back-requires
 put-back-requires c κs =
-    let at-pop-four = c .before .before .before .before .before .before .before .before in
-    let back18 = at-pop-four .before .before .before .before .before .before .before .before .before .before in
-    let S = back18 in (
-      S .pre .retract,
-      λ e. rw (at-pop-four .pop-four .ensures, length-cut) (S .pre .in-main e),
-      λ e. rw (c .before .before .before .before .pop-four2 .ensures, length-cut) (S .pre .in-ptr e),
-    )
+    let at-pop = c .before .before .before .before .before .before .before .before in
+    cut-drops (at-pop .before .before .before .before .before .before .before .before .before .before .pre) (at-pop .pop-four .ensures) (c .before .before .before .before .pop-four2 .ensures)
 
 same-length : tie.Need-same-length
 same-length c = search needs
@@ -41,11 +35,9 @@ same-length-2 c = search needs
 
 returns-3 : tie.Need-returns-3
 returns-3 c ctl heap =
-    let S = c .before .before .before .before .before .before .before .before .before .before .before .before .before .before .before .before .before .before .before .before .before .before
-    .before in
-    c .before .before .before .before .put-back .ensures (record { regs = S .args .regs; main = S .args .main .now; ptr = S .args .ptr .now; ctl = ctl; heap = heap })
-    (c .before .before .before .before .before .before .before .before .before .before .before .before .before .pop-four .ensures) (c .before .before .before .before .before .before
-    .before .before .before .pop-four2 .ensures)
+    let at-back = c .before .before .before .before in
+    let at-cut = at-back .before .before .before .before .before in
+    at-back .put-back .ensures _ (at-cut .before .before .before .before .pop-four .ensures) (at-cut .pop-four2 .ensures)
 
 pub drop-few-spec : {M : Type 1} → statement M
 drop-few-spec =

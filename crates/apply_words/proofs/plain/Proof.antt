@@ -1,8 +1,8 @@
 -- `apply_words::plain` meets its contract: an arm knows where the word goes, and there so many words go as the arm pops; the last arm is a retract's.
-use mathlib.Core.Bool.{true≢false}
+use mathlib.Core.Path.{refl}
 use native.Mathlib.Omega.{arith}
-use Rattle.laws.specs.Cuts.{length-cut, cut-above}
-use Rattle.apply_words.specs.Laws.{nothing-plainly, pop-plainly, push-plainly, main-plainly, read-plainly, ptr-plainly, heap-plainly, fits-at}
+use Rattle.laws.specs.Cuts.{length-cut}
+use Rattle.apply_words.specs.Laws.{fits-at, main-kept, ptr-kept, plainly-cut, plainly-main, plainly-ptr, plainly-heap}
 use Rattle.apply_words.proofs.Tags.{dropping}
 use borrow.Author.Needs.{needs}
 use Rattle.apply_words.proofs.plain.Statement.{statement}
@@ -16,172 +16,146 @@ enum-told-2 c = search needs
 
 pop-last-requires : tie.Need-pop-last-requires
 pop-last-requires c κs =
-    let S = c .before .before .before .before .before .before in
-    let F = fits-at _ (S .args .main .now) (S .args .ptr .now) (S .args .regs) (S .args .put) (S .pre) (c .before .enum-told2 .given .1) in
-    (S .pre .main-top, omega (arith, F .0, F .1 .main))
+    let P = c .before .before .before .before .before .before .pre in
+    let F = fits-at P (c .before .enum-told2 .given .1) in
+    (P .main-top, omega (arith, F .0, F .1 .main))
 
 enum-told-3 : tie.Need-enum-told-3
 enum-told-3 c = search needs
 
 mul-main : tie.Need-mul-main
-mul-main c =
-    let S = c .before .before .before .before .before in
-    omega (arith, fits-at _ (S .args .main .now) (S .args .ptr .now) (S .args .regs) (S .args .put) (S .pre) (c .enum-told3 .given .1) .0)
+mul-main c = omega (arith, fits-at (c .before .before .before .before .before .pre) (c .enum-told3 .given .1) .0)
 
 slice-write-main : tie.Need-slice-write-main
-slice-write-main c =
-    let S = c .before .before .before .before .before in
-    fits-at _ (S .args .main .now) (S .args .ptr .now) (S .args .regs) (S .args .put) (S .pre) (c .enum-told3 .given .1) .0
+slice-write-main c = fits-at (c .before .before .before .before .before .pre) (c .enum-told3 .given .1) .0
 
 enum-told-4 : tie.Need-enum-told-4
 enum-told-4 c = search needs
 
 pop-one-requires : tie.Need-pop-one-requires
 pop-one-requires c κs =
-    let back6 = c .before .before .before .before .before .before in
-    let S = back6 in (S .pre .main-top, fits-at _ (S .args .main .now) (S .args .ptr .now) (S .args .regs) (S .args .put) (S .pre) (c .before .enum-told4 .given .1) .1 .main)
+    let P = c .before .before .before .before .before .before .pre in
+    (P .main-top, fits-at P (c .before .enum-told4 .given .1) .1 .main)
 
 mul-main-2 : tie.Need-mul-main-2
 mul-main-2 c =
-    let back9 = c .before .before .before .before .before .before .before .before .before in
-    let S = back9 in omega (arith, fits-at _ (S .args .main .now) (S .args .ptr .now) (S .args .regs) (S .args .put) (S .pre) (c .before .before .before .before .enum-told4 .given .1) .0)
+    let at-told = c .before .before .before .before in
+    omega (arith, fits-at (at-told .before .before .before .before .before .pre) (at-told .enum-told4 .given .1) .0)
 
 slice-write-main-2 : tie.Need-slice-write-main-2
 slice-write-main-2 c =
-    let back9 = c .before .before .before .before .before .before .before .before .before in
-    let S = back9 in rw (c .before .before .pop-one .ensures, length-cut) (fits-at _ (S .args .main .now) (S .args .ptr .now) (S .args .regs) (S .args .put)
-    (S .pre) (c .before .before .before .before .enum-told4 .given .1) .0)
+    let at-told = c .before .before .before .before in
+    rw (c .before .before .pop-one .ensures, length-cut) (fits-at (at-told .before .before .before .before .before .pre) (at-told .enum-told4 .given .1) .0)
 
 enum-told-5 : tie.Need-enum-told-5
 enum-told-5 c = search needs
 
 pop-one-requires-2 : tie.Need-pop-one-requires-2
 pop-one-requires-2 c κs =
-    let back6 = c .before .before .before .before .before .before in
-    let S = back6 in (S .pre .ptr-top, fits-at _ (S .args .main .now) (S .args .ptr .now) (S .args .regs) (S .args .put) (S .pre) (c .before .enum-told5 .given .1) .1 .ptr)
+    let P = c .before .before .before .before .before .before .pre in
+    (P .ptr-top, fits-at P (c .before .enum-told5 .given .1) .1 .ptr)
 
 mul-ptr : tie.Need-mul-ptr
 mul-ptr c =
-    let back9 = c .before .before .before .before .before .before .before .before .before in
-    let S = back9 in omega (arith, fits-at _ (S .args .main .now) (S .args .ptr .now) (S .args .regs) (S .args .put) (S .pre) (c .before .before .before .before .enum-told5 .given .1) .0)
+    let at-told = c .before .before .before .before in
+    omega (arith, fits-at (at-told .before .before .before .before .before .pre) (at-told .enum-told5 .given .1) .0)
 
 slice-write-ptr : tie.Need-slice-write-ptr
 slice-write-ptr c =
-    let back9 = c .before .before .before .before .before .before .before .before .before in
-    let S = back9 in rw (c .before .before .pop-one2 .ensures, length-cut) (fits-at _ (S .args .main .now) (S .args .ptr .now) (S .args .regs) (S .args .put)
-    (S .pre) (c .before .before .before .before .enum-told5 .given .1) .0)
+    let at-told = c .before .before .before .before in
+    rw (c .before .before .pop-one2 .ensures, length-cut) (fits-at (at-told .before .before .before .before .before .pre) (at-told .enum-told5 .given .1) .0)
 
 enum-told-6 : tie.Need-enum-told-6
 enum-told-6 c = search needs
 
 pop-one-requires-3 : tie.Need-pop-one-requires-3
 pop-one-requires-3 c κs =
-    let back6 = c .before .before .before .before .before .before in
-    let S = back6 in (S .pre .main-top, fits-at _ (S .args .main .now) (S .args .ptr .now) (S .args .regs) (S .args .put) (S .pre) (c .before .enum-told6 .given .1) .1 .main)
+    let P = c .before .before .before .before .before .before .pre in
+    (P .main-top, fits-at P (c .before .enum-told6 .given .1) .1 .main)
 
 pop-two-requires : tie.Need-pop-two-requires
 pop-two-requires c κs =
-    let at-enum-told6 = c .before .before .before .before .before in
-    let back10 = at-enum-told6 .before .before .before .before .before in
-    let S = back10 in (S .pre .ptr-top, fits-at _ (S .args .main .now) (S .args .ptr .now) (S .args .regs) (S .args .put) (S .pre) (at-enum-told6 .enum-told6 .given .1) .1 .ptr)
+    let at-told = c .before .before .before .before .before in
+    let P = at-told .before .before .before .before .before .pre in
+    (P .ptr-top, fits-at P (at-told .enum-told6 .given .1) .1 .ptr)
 
 mul-heap : tie.Need-mul-heap
 mul-heap c =
-    let at-enum-told6 = c .before .before .before .before .before .before .before .before in
-    let back13 = at-enum-told6 .before .before .before .before .before in
-    let S = back13 in omega (arith, fits-at _ (S .args .main .now) (S .args .ptr .now) (S .args .regs) (S .args .put) (S .pre) (at-enum-told6 .enum-told6 .given .1) .0)
+    let at-told = c .before .before .before .before .before .before .before .before in
+    omega (arith, fits-at (at-told .before .before .before .before .before .pre) (at-told .enum-told6 .given .1) .0)
 
 slice-write-heap : tie.Need-slice-write-heap
 slice-write-heap c =
-    let at-enum-told6 = c .before .before .before .before .before .before .before .before in
-    let back13 = at-enum-told6 .before .before .before .before .before in
-    let S = back13 in fits-at _ (S .args .main .now) (S .args .ptr .now) (S .args .regs) (S .args .put) (S .pre) (at-enum-told6 .enum-told6 .given .1) .0
+    let at-told = c .before .before .before .before .before .before .before .before in
+    fits-at (at-told .before .before .before .before .before .pre) (at-told .enum-told6 .given .1) .0
 
 enum-told-7 : tie.Need-enum-told-7
 enum-told-7 c = search needs
 
 pop-two-requires-2 : tie.Need-pop-two-requires-2
 pop-two-requires-2 c κs =
-    let back6 = c .before .before .before .before .before .before in
-    let S = back6 in (S .pre .ptr-top, fits-at _ (S .args .main .now) (S .args .ptr .now) (S .args .regs) (S .args .put) (S .pre) (c .before .enum-told7 .given .1) .1 .ptr)
+    let P = c .before .before .before .before .before .before .pre in
+    (P .ptr-top, fits-at P (c .before .enum-told7 .given .1) .1 .ptr)
 
 mul-main-3 : tie.Need-mul-main-3
 mul-main-3 c =
-    let back9 = c .before .before .before .before .before .before .before .before .before in
-    let S = back9 in omega (arith, fits-at _ (S .args .main .now) (S .args .ptr .now) (S .args .regs) (S .args .put) (S .pre) (c .before .before .before .before .enum-told7 .given .1) .0)
+    let at-told = c .before .before .before .before in
+    omega (arith, fits-at (at-told .before .before .before .before .before .pre) (at-told .enum-told7 .given .1) .0)
 
 slice-write-main-3 : tie.Need-slice-write-main-3
 slice-write-main-3 c =
-    let back9 = c .before .before .before .before .before .before .before .before .before in
-    let S = back9 in fits-at _ (S .args .main .now) (S .args .ptr .now) (S .args .regs) (S .args .put) (S .pre) (c .before .before .before .before .enum-told7 .given .1) .0
+    let at-told = c .before .before .before .before in
+    fits-at (at-told .before .before .before .before .before .pre) (at-told .enum-told7 .given .1) .0
 
 drop-few-requires : tie.Need-drop-few-requires
-drop-few-requires c κs =
-    let back6 = c .before .before .before .before .before .before in
-    let S = back6 in dropping _ (S .args .main .now) (S .args .ptr .now) (S .args .regs) (S .args .put) (S .pre) (c .before .before .match .keys8)
+drop-few-requires c κs = dropping (c .before .before .before .before .before .before .pre) (c .before .before .match .keys8)
 
 returns : tie.Need-returns
 returns c =
-    let S = c .before .before .before .before .before in
-    let F = fits-at _ (S .args .main .now) (S .args .ptr .now) (S .args .regs) (S .args .put) (S .pre) (c .enum-told .given .1) in (
-      λ ctl. nothing-plainly (S .args .put) (record { regs = S .args .regs; main = S .args .main .now; ptr = S .args .ptr .now; ctl = ctl; heap = S .args .heap .now }) _ _
-          (cut-above _ _ _ (omega (arith, F .main)) (S .pre .main-top)) (cut-above _ _ _ (omega (arith, F .ptr)) (S .pre .ptr-top)) (c .enum-told .given .1),
-      λ e. absurd (true≢false e),
-    )
+    let P = c .before .before .before .before .before .pre in
+    let e = c .enum-told .given .1 in
+    let F = fits-at P e in
+    plainly-cut P (main-kept P F) (ptr-kept P F) e refl
 
 same-length : tie.Need-same-length
 same-length c = search needs
 
 returns-2 : tie.Need-returns-2
 returns-2 c =
-    let at-enum-told2 = c .before .before .before .before in
-    let S = at-enum-told2 .before .before .before .before .before in
-    let u = fits-at _ (S .args .main .now) (S .args .ptr .now) (S .args .regs) (S .args .put) (S .pre) (at-enum-told2 .enum-told2 .given .1) .1 .ptr in (
-      λ ctl. pop-plainly (S .args .put) (record { regs = S .args .regs; main = S .args .main .now; ptr = S .args .ptr .now; ctl = ctl; heap = S .args .heap .now }) _ _
-          (c .before .before .pop-last .ensures) (cut-above _ _ _ (omega arith) (S .pre .ptr-top)) (at-enum-told2 .enum-told2 .given .1),
-      λ e. absurd
-          (true≢false e),
-    )
+    let at-told = c .before .before .before .before in
+    let P = at-told .before .before .before .before .before .pre in
+    let e = at-told .enum-told2 .given .1 in
+    plainly-cut P (c .before .before .pop-last .ensures) (ptr-kept P (fits-at P e .1)) e refl
 
 same-length-2 : tie.Need-same-length-2
 same-length-2 c = search needs
 
 returns-3 : tie.Need-returns-3
 returns-3 c =
-    let S = c .before .before .before .before .before in
-    let F = fits-at _ (S .args .main .now) (S .args .ptr .now) (S .args .regs) (S .args .put) (S .pre) (c .enum-told3 .given .1) in (
-      λ ctl. push-plainly (S .args .put) (record { regs = S .args .regs; main = S .args .main .now; ptr = S .args .ptr .now; ctl = ctl; heap = S .args .heap .now }) _ _
-          (cut-above _ _ _ (omega (arith, F .1 .main)) (S .pre .main-top)) (cut-above _ _ _ (omega (arith, F .1 .ptr)) (S .pre .ptr-top)) (c .enum-told3 .given .1),
-      λ e. absurd (true≢false e),
-    )
+    let P = c .before .before .before .before .before .pre in
+    let e = c .enum-told3 .given .1 in
+    let F = fits-at P e .1 in
+    plainly-main P (main-kept P F) (ptr-kept P F) e refl
 
 same-length-3 : tie.Need-same-length-3
 same-length-3 c = search needs
 
 returns-4 : tie.Need-returns-4
 returns-4 c =
-    let at-enum-told4 = c .before .before .before .before in
-    let S = at-enum-told4 .before .before .before .before .before in
-    let u = fits-at _ (S .args .main .now) (S .args .ptr .now) (S .args .regs) (S .args .put) (S .pre) (at-enum-told4 .enum-told4 .given .1) .1 .ptr in (
-      λ ctl. main-plainly (S .args .put) (record { regs = S .args .regs; main = S .args .main .now; ptr = S .args .ptr .now; ctl = ctl; heap = S .args .heap .now }) _ _
-          (c .before .before .pop-one .ensures) (cut-above _ _ _ (omega arith) (S .pre .ptr-top)) (at-enum-told4 .enum-told4 .given .1),
-      λ e. absurd
-          (true≢false e),
-    )
+    let at-told = c .before .before .before .before in
+    let P = at-told .before .before .before .before .before .pre in
+    let e = at-told .enum-told4 .given .1 in
+    plainly-main P (c .before .before .pop-one .ensures) (ptr-kept P (fits-at P e .1)) e refl
 
 same-length-4 : tie.Need-same-length-4
 same-length-4 c = search needs
 
 returns-5 : tie.Need-returns-5
 returns-5 c =
-    let at-enum-told5 = c .before .before .before .before in
-    let S = at-enum-told5 .before .before .before .before .before in
-    let u = fits-at _ (S .args .main .now) (S .args .ptr .now) (S .args .regs) (S .args .put) (S .pre) (at-enum-told5 .enum-told5 .given .1) .1 .main in (
-      λ ctl. ptr-plainly (S .args .put) (record { regs = S .args .regs; main = S .args .main .now; ptr = S .args .ptr .now; ctl = ctl; heap = S .args .heap .now }) _ _
-          (cut-above _ _ _ (omega arith) (S .pre .main-top)) (c .before .before .pop-one2 .ensures) (at-enum-told5 .enum-told5 .given .1),
-      λ e. absurd
-          (true≢false e),
-    )
+    let at-told = c .before .before .before .before in
+    let P = at-told .before .before .before .before .before .pre in
+    let e = at-told .enum-told5 .given .1 in
+    plainly-ptr P (main-kept P (fits-at P e .1)) (c .before .before .pop-one2 .ensures) e refl
 
 same-length-5 : tie.Need-same-length-5
 same-length-5 c = search needs
@@ -194,14 +168,9 @@ same-length-7 c = search needs
 
 returns-6 : tie.Need-returns-6
 returns-6 c =
-    let at-pop-one3 = c .before .before .before .before .before .before in
-    let at-enum-told6 = at-pop-one3 .before .before in
-    let back13 = at-enum-told6 .before .before .before .before .before in
-    let S = back13 in (
-      λ ctl. heap-plainly (S .args .put) (record { regs = S .args .regs; main = S .args .main .now; ptr = S .args .ptr .now; ctl = ctl; heap = S .args .heap .now }) _ _
-          (at-pop-one3 .pop-one3 .ensures) (c .before .before .pop-two .ensures) (at-enum-told6 .enum-told6 .given .1),
-      λ e. absurd (true≢false e),
-    )
+    let at-pop = c .before .before .before .before .before .before in
+    let at-told = at-pop .before .before in
+    plainly-heap (at-told .before .before .before .before .before .pre) (at-pop .pop-one3 .ensures) (c .before .before .pop-two .ensures) (at-told .enum-told6 .given .1) refl _
 
 same-length-8 : tie.Need-same-length-8
 same-length-8 c = search needs
@@ -211,14 +180,10 @@ same-length-9 c = search needs
 
 returns-7 : tie.Need-returns-7
 returns-7 c =
-    let at-enum-told7 = c .before .before .before .before in
-    let S = at-enum-told7 .before .before .before .before .before in
-    let u = fits-at _ (S .args .main .now) (S .args .ptr .now) (S .args .regs) (S .args .put) (S .pre) (at-enum-told7 .enum-told7 .given .1) .1 .main in (
-      λ ctl. read-plainly (S .args .put) (record { regs = S .args .regs; main = S .args .main .now; ptr = S .args .ptr .now; ctl = ctl; heap = S .args .heap .now }) _ _
-          (cut-above _ _ _ (omega arith) (S .pre .main-top)) (c .before .before .pop-two2 .ensures) (at-enum-told7 .enum-told7 .given .1),
-      λ e. absurd
-          (true≢false e),
-    )
+    let at-told = c .before .before .before .before in
+    let P = at-told .before .before .before .before .before .pre in
+    let e = at-told .enum-told7 .given .1 in
+    plainly-main P (main-kept P (fits-at P e .1)) (c .before .before .pop-two2 .ensures) e refl
 
 same-length-10 : tie.Need-same-length-10
 same-length-10 c = search needs
@@ -229,12 +194,7 @@ same-length-11 c = search needs
 returns-8 : tie.Need-returns-8
 returns-8 c =
     let at-match = c .before .before .before .before .before .before .before in
-    let back11 = at-match .before .before .before .before in
-    let S = back11 in (
-      λ ctl. c .before .before .before .before .drop-few .ensures ctl (S .args .heap .now),
-      λ e. dropping _ (S .args .main .now) (S .args .ptr .now) (S .args .regs)
-          (S .args .put) (S .pre) (at-match .match .keys8) .retract,
-    )
+    (λ ctl. c .before .before .before .before .drop-few .ensures _ _, λ e. dropping (at-match .before .before .before .before .pre) (at-match .match .keys8) .retract)
 
 pub plain-spec : {M : Type 1} → statement M
 plain-spec =

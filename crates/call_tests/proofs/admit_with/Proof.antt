@@ -1,9 +1,7 @@
 -- `call_tests::admit_with` meets its contract: each refusal is the model's, and where there is none the tests' facts hold.
-use mathlib.Core.Path.{sym, _∙_}
 use native.Mathlib.Omega.{arith}
-use lib.ListN.{length}
-use Rattle.model.specs.Choice.{all-true}
-use Rattle.call_tests.specs.Admit.{lengthList, admit-refused, admit-passes, admit-lengths, admit-heap, admit-bytes, admit-all, first-whole}
+use Rattle.model.specs.Calls.{Lent}
+use Rattle.call_tests.specs.Admit.{first-whole, Measured, measured, heap-measured, admit-refused, admit-passes, admit-lengths, admit-heap, admit-bytes, admit-all}
 use borrow.Author.Needs.{needs}
 use Rattle.call_tests.proofs.admit_with.Statement.{statement}
 use Rattle.call_tests.proofs.admit_with.Tie as tie
@@ -21,38 +19,36 @@ same-length : tie.Need-same-length
 same-length c = search needs
 
 returns : tie.Need-returns
-returns c =
-    let at-check-with = c .before .before .before .before in
-    let entry = at-check-with .before .before .before .before .before .before .before .before .before .before .before in
-    admit-refused _ (at-check-with .check-with .last .1 .0) (at-check-with .check-with .last .1 .1 .0) (entry .args .marks .now)
-    (at-check-with .check-with .result) (at-check-with .check-with .ensures) (λ k e. omega (arith, rw e at (c .before .match .keys2)))
+returns c = admit-refused (c .before .before .before .before .check-with .ensures) (λ k e. omega (arith, rw e at (c .before .match .keys2)))
 
 head-at-requires : tie.Need-head-at-requires
-head-at-requires c κs =
-    let at-check-with = c .before .before .before .before .before in
-    let entry = at-check-with .before .before .before .before .before .before .before .before .before .before .before in
-    (first-whole _ _ _ (admit-passes (record {
-      file = entry .args .file .now;
-      map = entry .args .map .now;
-      main = entry .args .main .now;
-      ptr = entry .args .ptr .now;
-      ctl = entry .args .ctl
-          .now;
-      heap = entry .args .heap .now;
-      bytes = entry .args .bytes .now;
-    }) (at-check-with .check-with .last .1 .0) (at-check-with .check-with .last .1 .1 .0)
-    (entry .args .marks .now) (at-check-with .check-with .result) (at-check-with .check-with .ensures) _ (c .before .v .given .1))) .1
+head-at-requires c κs = first-whole _ _ _ (admit-passes (c .before .before .before .before .before .check-with .ensures) (c .before .v .given .1)) .1
 
 lengths-right-requires : tie.Need-lengths-right-requires
 lengths-right-requires c κs = search needs
 
+abbrev lent : tie.Start → Lent
+lent S =
+    let A = S .args in
+    record { file = A .file .now; map = A .map .now; main = A .main .now; ptr = A .ptr .now; ctl = A .ctl .now; heap = A .heap .now; bytes = A .bytes .now }
+
+-- what is known behind the test of the lengths
+measured-at : (c : tie.After-lengths-right) →
+    let at-v = c .before .before .before in
+    let at-check = at-v .before .before .before .before in
+    let entry = at-check .before .before .before .before .before .before .before .before .before .before .before in
+    let C = at-check .check-with in
+    Measured (lent entry) (C .last .1 .0) (C .last .1 .1 .0) (at-v .v .given .0 .0) (c .lengths-right .result)
+measured-at c =
+    let at-v = c .before .before .before in
+    measured (at-v .before .before .before .before .check-with .ensures) (at-v .v .given .1) (c .before .head-at .ensures) (c .lengths-right .ensures)
+
 audit-heap-requires : tie.Need-audit-heap-requires
 audit-heap-requires c κs =
-    let entry = c .before .before .before .before .before .before .before .before .before .before .before .before .before .before .before .before .before .before .before .before in
-    let T = all-true (lengthList (c .before .before .before .head-at .result) (length (entry .args .main .now)) (length (entry .args .ptr .now))
-    (length (entry .args .ctl .now)) (length (entry .args .heap .now))) (sym (c .before .before .lengths-right .ensures) ∙ c .before .if1 .taken) in
-    let few = T .1 .1 .1 .1 .1 .1 .1 .0 in
-    (T .1 .1 .1 .1 .1 .1 .0, few, entry .pre .room few, entry .pre .fresh)
+    let at-right = c .before .before in
+    let T = at-right .before .before .before .before .before .before .before .before .before .before .before .before .before .before .before .before .before .before .pre in
+    let h = heap-measured (measured-at at-right) (c .before .if1 .taken) in
+    (h .0, h .1, T .room (h .1), T .fresh)
 
 enum-known-audit : tie.Need-enum-known-audit
 enum-known-audit c = search needs
@@ -68,16 +64,9 @@ same-length-3 c = search needs
 
 returns-2 : tie.Need-returns-2
 returns-2 c =
-    let at-audit-heap = c .before .before .before .before .before in
-    let at-if1 = at-audit-heap .before .before in
-    let at-lengths-right = at-if1 .before in
-    let at-head-at = at-lengths-right .before in
-    let at-v = at-head-at .before .before in
-    let at-check-with = at-v .before .before .before .before in
-    admit-heap _ (at-check-with .check-with .last .1 .0) (at-check-with .check-with .last .1 .1 .0)
-    (at-audit-heap .audit-heap .last .1 .0) (at-check-with .check-with .result) (at-check-with .check-with .ensures) _ (at-v .v .given .1)
-    (at-head-at .head-at .result) (at-head-at .head-at .ensures) (at-lengths-right .lengths-right .result) (at-lengths-right .lengths-right .ensures)
-    (at-if1 .if1 .taken) (at-audit-heap .audit-heap .result) (at-audit-heap .audit-heap .ensures) _ (c .before .audit .given .1)
+    let at-audit = c .before .before .before .before .before in
+    let at-if1 = at-audit .before .before in
+    admit-heap (measured-at (at-if1 .before)) (at-if1 .if1 .taken) (at-audit .audit-heap .ensures) (c .before .audit .given .1)
 
 same-length-4 : tie.Need-same-length-4
 same-length-4 c = search needs
@@ -87,16 +76,9 @@ same-length-5 c = search needs
 
 returns-3 : tie.Need-returns-3
 returns-3 c =
-    let at-audit-heap = c .before .before .before .before .before in
-    let at-if1 = at-audit-heap .before .before in
-    let at-lengths-right = at-if1 .before in
-    let at-head-at = at-lengths-right .before in
-    let at-v = at-head-at .before .before in
-    let at-check-with = at-v .before .before .before .before in
-    admit-all _ (at-check-with .check-with .last .1 .0) (at-check-with .check-with .last .1 .1 .0)
-    (at-audit-heap .audit-heap .last .1 .0) (at-check-with .check-with .result) (at-check-with .check-with .ensures) _ (at-v .v .given .1)
-    (at-head-at .head-at .result) (at-head-at .head-at .ensures) (at-lengths-right .lengths-right .result) (at-lengths-right .lengths-right .ensures)
-    (at-if1 .if1 .taken) (at-audit-heap .audit-heap .result) (at-audit-heap .audit-heap .ensures) (c .before .enum-told2 .given .1) (c .if2 .taken)
+    let at-audit = c .before .before .before .before .before in
+    let at-if1 = at-audit .before .before in
+    admit-all (measured-at (at-if1 .before)) (at-if1 .if1 .taken) (at-audit .audit-heap .ensures) (c .before .enum-told2 .given .1) (c .if2 .taken)
 
 same-length-6 : tie.Need-same-length-6
 same-length-6 c = search needs
@@ -106,27 +88,15 @@ same-length-7 c = search needs
 
 returns-4 : tie.Need-returns-4
 returns-4 c =
-    let at-audit-heap = c .before .before .before .before .before in
-    let at-if1 = at-audit-heap .before .before in
-    let at-lengths-right = at-if1 .before in
-    let at-head-at = at-lengths-right .before in
-    let at-v = at-head-at .before .before in
-    let at-check-with = at-v .before .before .before .before in
-    admit-bytes _ (at-check-with .check-with .last .1 .0) (at-check-with .check-with .last .1 .1 .0)
-    (at-audit-heap .audit-heap .last .1 .0) (at-check-with .check-with .result) (at-check-with .check-with .ensures) _ (at-v .v .given .1)
-    (at-head-at .head-at .result) (at-head-at .head-at .ensures) (at-lengths-right .lengths-right .result) (at-lengths-right .lengths-right .ensures)
-    (at-if1 .if1 .taken) (at-audit-heap .audit-heap .result) (at-audit-heap .audit-heap .ensures) (c .before .enum-told2 .given .1) (c .if2 .left)
+    let at-audit = c .before .before .before .before .before in
+    let at-if1 = at-audit .before .before in
+    admit-bytes (measured-at (at-if1 .before)) (at-if1 .if1 .taken) (at-audit .audit-heap .ensures) (c .before .enum-told2 .given .1) (c .if2 .left)
 
 same-length-8 : tie.Need-same-length-8
 same-length-8 c = search needs
 
 returns-5 : tie.Need-returns-5
-returns-5 c =
-    let at-check-with = c .before .before .before .before .before .before .before .before in
-    let entry = at-check-with .before .before .before .before .before .before .before .before .before .before .before in
-    admit-lengths _ (at-check-with .check-with .last .1 .0) (at-check-with .check-with .last .1 .1 .0) (entry .args .marks .now)
-    (at-check-with .check-with .result) (at-check-with .check-with .ensures) _ (c .before .before .before .before .v .given .1) (c .before .before .head-at .result)
-    (c .before .before .head-at .ensures) (c .before .lengths-right .result) (c .before .lengths-right .ensures) (c .if1 .left)
+returns-5 c = admit-lengths (measured-at (c .before)) (c .if1 .left)
 
 pub admit-with-spec : {M : Type 1} → statement M
 admit-with-spec =

@@ -23,16 +23,11 @@ sound-state-requires : tie.Need-sound-state-requires
 sound-state-requires c κs =
     let at-v2 = c .before .before .before .before .before in
     let at-admit = at-v2 .before .before .before .before .before .before in
-    let at-shared-slice-known = at-admit .before .before .before .before .before .before .before .before .before .before .before in
-    let w = test-lengths _ (at-admit .admit-with .last .1 .0) (at-admit .admit-with .last .1 .1 .0) (at-admit .admit-with .last .1 .1 .1 .0)
-    (at-admit .admit-with .result) (at-admit .admit-with .ensures) _ (at-v2 .v2 .given .1) in (
-      test-ready _ (at-admit .admit-with .last .1 .0)
-          (at-admit .admit-with .last .1 .1 .0) (at-admit .admit-with .last .1 .1 .1 .0) (at-admit .admit-with .result) (at-admit .admit-with .ensures) _ (at-v2 .v2 .given .1)
-          (λ i. omega (arith, at-shared-slice-known .shared-slice-known .given i)),
-      c .before .before .before .regs-from .ensures .1,
-      w .0,
-      w .1,
-    )
+    let at-file = at-admit .before .before .before .before .before .before .before .before .before .before .before in
+    let A = at-admit .admit-with .ensures in
+    let e = at-v2 .v2 .given .1 in
+    let w = test-lengths A e in
+    (test-ready A e (λ i. omega (arith, at-file .shared-slice-known .given i)), c .before .before .before .regs-from .ensures .1, w .0, w .1)
 
 same-length : tie.Need-same-length
 same-length c = search needs
@@ -42,12 +37,9 @@ same-length-2 c = search needs
 
 returns : tie.Need-returns
 returns c =
-    let at-regs-from = c .before .before .before .before .before in
-    let at-v2 = at-regs-from .before .before in
-    let at-admit = at-v2 .before .before .before .before .before .before in
-    test-sound _ (at-admit .admit-with .last .1 .0) (at-admit .admit-with .last .1 .1 .0) (at-admit .admit-with .last .1 .1 .1 .0)
-    (at-admit .admit-with .result) (at-admit .admit-with .ensures) _ (at-v2 .v2 .given .1) (at-regs-from .regs-from .result) (at-regs-from .regs-from .ensures .0)
-    (c .before .sound-state .result) (c .before .sound-state .ensures) (c .if1 .taken)
+    let at-regs = c .before .before .before .before .before in
+    let at-v2 = at-regs .before .before in
+    test-sound (at-v2 .before .before .before .before .before .before .admit-with .ensures) (at-v2 .v2 .given .1) (at-regs .regs-from .ensures .0) (c .before .sound-state .ensures) (c .if1 .taken)
 
 same-length-3 : tie.Need-same-length-3
 same-length-3 c = search needs
@@ -56,10 +48,7 @@ same-length-4 : tie.Need-same-length-4
 same-length-4 c = search needs
 
 returns-2 : tie.Need-returns-2
-returns-2 c =
-    let at-admit = c .before .before .before .before .before .before .before in
-    test-refused _ (at-admit .admit-with .last .1 .0) (at-admit .admit-with .last .1 .1 .0) (at-admit .admit-with .last .1 .1 .1 .0)
-    (at-admit .admit-with .result) (at-admit .admit-with .ensures) _ _ (c .before .v .given .1)
+returns-2 c = test-refused (c .before .before .before .before .before .before .before .admit-with .ensures) (c .before .v .given .1)
 
 same-length-5 : tie.Need-same-length-5
 same-length-5 c = search needs
@@ -69,12 +58,9 @@ same-length-6 c = search needs
 
 returns-3 : tie.Need-returns-3
 returns-3 c =
-    let at-regs-from = c .before .before .before .before .before in
-    let at-v2 = at-regs-from .before .before in
-    let at-admit = at-v2 .before .before .before .before .before .before in
-    test-unsound _ (at-admit .admit-with .last .1 .0) (at-admit .admit-with .last .1 .1 .0) (at-admit .admit-with .last .1 .1 .1 .0)
-    (at-admit .admit-with .result) (at-admit .admit-with .ensures) _ (at-v2 .v2 .given .1) (at-regs-from .regs-from .result) (at-regs-from .regs-from .ensures .0)
-    (c .before .sound-state .result) (c .before .sound-state .ensures) (c .if1 .left)
+    let at-regs = c .before .before .before .before .before in
+    let at-v2 = at-regs .before .before in
+    test-unsound (at-v2 .before .before .before .before .before .before .admit-with .ensures) (at-v2 .v2 .given .1) (at-regs .regs-from .ensures .0) (c .before .sound-state .ensures) (c .if1 .left)
 
 pub test-with-spec : {M : Type 1} → statement M
 test-with-spec =

@@ -5,7 +5,7 @@ use borrow.Author.Needs.{needs}
 use Rattle.apply.proofs.Tags.{no-write}
 use Rattle.theory_step.specs.Planning.{alive-ready}
 use Rattle.theory_step.specs.Settling.{alive-settles}
-use Rattle.run_steps.specs.Going.{Going, going-start, going-trans, going-applied, paused-late, stopped-raise}
+use Rattle.run_steps.specs.Going.{Going, going-start, going-applied, paused-late, stopped-raise}
 use Rattle.run_steps.proofs.go_on.Statement.{statement}
 use Rattle.run_steps.proofs.go_on.Tie as tie
 
@@ -19,26 +19,16 @@ abbrev μ-loop : tie.MeasureT-loop
 
 loop-holds : tie.Need-loop-holds Inv-loop μ-loop
 loop-holds c =
-    let back5 = c .before .before .before .before .before in
-    let S = back5 in (
-      going-start (S .args .file .now) (S .args .table .now) (S .args .budget) (record {
-        regs = S .args .regs;
-        main = S .args .main .now;
-        ptr = S .args .ptr .now;
-        ctl = S
-            .args .ctl .now;
-        heap = S .args .heap .now;
-      }) (S .pre .0),
-      S .pre .1,
-    )
+    let S = c .before .before .before .before .before in
+    (going-start _ _ _ _ (S .pre .0), S .pre .1)
 
 sub-after : tie.Need-sub-after Inv-loop μ-loop
 sub-after c = omega arith
 
 plan-at-requires : tie.Need-plan-at-requires Inv-loop μ-loop
 plan-at-requires c κs =
-    let at-loop = c .before .before .before .before .before in
-    let L = at-loop .loop in alive-ready (L .inv .0 .runs .alive) (L .inv .1)
+    let L = c .before .before .before .before .before .loop in
+    alive-ready (L .inv .0 .runs .alive) (L .inv .1)
 
 enum-known-plan : tie.Need-enum-known-plan Inv-loop μ-loop
 enum-known-plan c = search needs
@@ -47,73 +37,47 @@ stop-requires : tie.Need-stop-requires Inv-loop μ-loop
 stop-requires c κs = search needs
 
 same-length : tie.Need-same-length Inv-loop μ-loop
-same-length c =
-    let at-loop = c .before .before .before .before .before .before .before .before in
-    at-loop .loop .inv .0 .alike .main
+same-length c = c .before .before .before .before .before .before .before .before .loop .inv .0 .alike .main
 
 same-length-2 : tie.Need-same-length-2 Inv-loop μ-loop
-same-length-2 c =
-    let at-loop = c .before .before .before .before .before .before .before .before in
-    at-loop .loop .inv .0 .alike .ptr
+same-length-2 c = c .before .before .before .before .before .before .before .before .loop .inv .0 .alike .ptr
 
 same-length-3 : tie.Need-same-length-3 Inv-loop μ-loop
-same-length-3 c =
-    let at-loop = c .before .before .before .before .before .before .before .before in
-    at-loop .loop .inv .0 .alike .ctl
+same-length-3 c = c .before .before .before .before .before .before .before .before .loop .inv .0 .alike .ctl
 
 same-length-4 : tie.Need-same-length-4 Inv-loop μ-loop
-same-length-4 c =
-    let at-loop = c .before .before .before .before .before .before .before .before in
-    at-loop .loop .inv .0 .alike .heap
+same-length-4 c = c .before .before .before .before .before .before .before .before .loop .inv .0 .alike .heap
 
 returns : tie.Need-returns Inv-loop μ-loop
 returns c =
-    let at-loop = c .before .before .before .before .before .before .before .before in
-    let S = at-loop .before .before .before .before .before .before in
-    let L = at-loop .loop in
-    rw (c .stop .ensures)
-    (record {
-      going = L .inv .0;
-      on? = L .inv .1;
-      stopped = λ h. stopped-raise (S .args .file .now) (record { regs = L .r; main = L .main; ptr = L .ptr; ctl = L .ctl; heap = L .heap }) _ (c .before .before .plan-at .ensures)
-          (no-write _ (c .before .match .keys2));
-    })
+    let L = c .before .before .before .before .before .before .before .before .loop in
+    let late = stopped-raise (c .before .before .plan-at .ensures) (no-write _ (c .before .match .keys2)) in
+    rw (c .stop .ensures) (record { going = L .inv .0; on? = L .inv .1; stopped = λ h. late })
 
 apply-requires : tie.Need-apply-requires Inv-loop μ-loop
 apply-requires c κs =
     let at-plan = c .before .before .before .before .before in
     let at-plan-at = at-plan .before .before in
-    let at-loop = at-plan-at .before .before .before .before .before .before in
-    let L = at-loop .loop in alive-settles (L .inv .0 .runs .alive) (L .inv .1) .writes _ (sym (at-plan-at .plan-at .ensures) ∙ at-plan .plan .given .1)
+    let L = at-plan-at .before .before .before .before .before .before .loop in
+    alive-settles (L .inv .0 .runs .alive) (L .inv .1) .writes _ (sym (at-plan-at .plan-at .ensures) ∙ at-plan .plan .given .1)
 
 loop-less : tie.Need-loop-less Inv-loop μ-loop
 loop-less c =
-    let far18 = c .before .before .before .before .before .before .before .before .before .before .before .before .before .before .before .before .before .before in
-    let at-loop-test = far18 .before .before .before .before .before in
-    let h = at-loop-test .loop-test .taken in omega (arith, h)
+    let at-apply = c .before .before .before .before .before .before .before .before .before .before in
+    omega (arith, at-apply .before .before .before .before .before .before .before .before .before .before .before .before .before .loop-test .taken)
 
 loop-again : tie.Need-loop-again Inv-loop μ-loop
 loop-again c =
     let at-apply = c .before .before .before .before .before .before .before .before .before .before in
     let at-plan = at-apply .before .before .before .before .before .before in
     let at-plan-at = at-plan .before .before in
-    let at-loop-test = at-plan-at .before .before .before .before .before in
-    let at-loop = at-loop-test .before in
-    let S = at-loop .before .before .before .before .before .before in
-    let L = at-loop .loop in
-    let A = at-apply .apply in (
-      going-trans (S .args .file .now) (S .args .table .now) (S .args .budget) (record {
-        regs = S .args .regs;
-        main = S .args .main .now;
-        ptr = S .args .ptr .now;
-        ctl = S .args .ctl .now;
-        heap = S .args .heap .now;
-      }) (L .left) (record { regs = L .r; main = L .main; ptr = L .ptr; ctl = L .ctl; heap = L .heap }) _ _ (L .inv .0)
-          (going-applied (S .args .file .now) (S .args .table .now) (L .left) (record { regs = L .r; main = L .main; ptr = L .ptr; ctl = L .ctl; heap = L .heap })
-          (L .inv .0 .runs) (at-loop-test .loop-test .taken) (L .inv .1) _ (A .result) _
-          (sym (at-plan .plan .given .1) ∙ at-plan-at .plan-at .ensures) (c .before .if1 .taken) (A .ensures .0)
-          (record { main = A .kept .1 .0; ptr = A .kept .1 .1 .0; ctl = A .kept .1 .1 .1 .0; heap = A .kept .1 .1 .1 .1 .0 })),
-      λ e. L .inv .1 (sym (A .ensures .1 .0) ∙ e),
+    let at-test = at-plan-at .before .before .before .before .before in
+    let I = at-test .before .loop .inv in
+    let A = at-apply .apply in
+    let k = A .kept .1 in (
+      going-applied (I .0) (I .1) (sym (at-plan .plan .given .1) ∙ at-plan-at .plan-at .ensures) (at-test .loop-test .taken) (c .before .if1 .taken) (A .ensures .0)
+          (record { main = k .0; ptr = k .1 .0; ctl = k .1 .1 .0; heap = k .1 .1 .1 .0 }),
+      λ u. I .1 (sym (A .ensures .1 .0) ∙ u),
     )
 
 stop-requires-2 : tie.Need-stop-requires-2 Inv-loop μ-loop
@@ -148,20 +112,9 @@ returns-2 c =
     let at-apply = c .before .before .before .before .before .before .before .before .before .before in
     let at-plan = at-apply .before .before .before .before .before .before in
     let at-plan-at = at-plan .before .before in
-    let at-loop = at-plan-at .before .before .before .before .before .before in
-    let S = at-loop .before .before .before .before .before .before in
-    let L = at-loop .loop in
+    let I = at-plan-at .before .before .before .before .before .before .loop .inv in
     let A = at-apply .apply in
-    rw (c .stop2 .ensures)
-    (paused-late (S .args .file .now) (S .args .table .now) (S .args .budget) (record {
-      regs = S .args .regs;
-      main = S .args .main .now;
-      ptr = S .args .ptr .now;
-      ctl = S .args .ctl .now;
-      heap = S .args .heap .now;
-    }) (L .left) (record { regs = L .r; main = L .main; ptr = L .ptr; ctl = L .ctl; heap = L .heap }) _ _ (A .result) (L .inv .0)
-    (L .inv .1)
-    (sym (at-plan .plan .given .1) ∙ at-plan-at .plan-at .ensures) refl (c .before .if1 .left) (A .ensures .0) (A .ensures .1 .1))
+    rw (c .stop2 .ensures) (paused-late (I .0) (I .1) (sym (at-plan .plan .given .1) ∙ at-plan-at .plan-at .ensures) refl (c .before .if1 .left) (A .ensures .0) (A .ensures .1 .1))
 
 stop-requires-3 : tie.Need-stop-requires-3 Inv-loop μ-loop
 stop-requires-3 c κs = search needs
