@@ -14,6 +14,8 @@ use Rattle.model.specs.File.{Ins, basic, jump, branch, branchKeep, call, return
 use Rattle.model.specs.File.{procAt, resultsMain, resultsPtr, greatestMain, greatestPtr, fileMost}
 use Rattle.model.specs.Checker.{none, State, state, effect, moved, innermost, own, Taking, bad, good, need}
 use Rattle.laws_file.specs.Kinds.{NoneOf}
+use Rattle.code_file.specs.declared.Head.{Head}
+use Rattle.code_file.specs.Heads.{headBytes, HeadIs}
 use Rattle.check_rows.specs.declared.State.{State as Numbers}
 use Rattle.check_rows.specs.declared.Limits.{Limits}
 use Rattle.check_rows.specs.declared.Onward.{Onward}
@@ -450,11 +452,10 @@ module _ {f m : List ℕ} {h p : ℕ} {l : Limits} {s : Numbers} where
       (passOneIn m (p + 1) (state (s .main) (s .ptr) (innermost (stateIn m) (asState s) .inner)))
   on-close L S = rw (← S .is, L .size) at (takes-close f m h p l (L .here) (L .bounds) (L .shape-is))
 
-  pub on-return : Led f m h p 1 l (leadsTo Return 0 0) → StateIs m p s →
-      Judged (takeIn f p m)
-      ((isSetIn (asState s), 6) ∷ (eqb (s .main) (byteAt f (h + 3)), 8) ∷ (eqb (s .ptr) (byteAt f (h + 4)), 8) ∷ (eqb (s .inner) none, 8) ∷ [])
-      (good m)
-  on-return L S = rw (← S .is) at (takes-return f m h p l (L .here) (L .bounds) (L .shape-is))
+  pub on-return : {v : Head} → Led f m h p 1 l (leadsTo Return 0 0) → StateIs m p s → HeadIs f h v →
+      Judged (takeIn f p m) ((isSetIn (asState s), 6) ∷ (eqb (s .main) (v .r), 8) ∷ (eqb (s .ptr) (v .s), 8) ∷ (eqb (s .inner) none, 8) ∷ []) (good m)
+  unfolding headBytes
+  on-return L S H = rw (H .is) (rw (← S .is) at (takes-return f m h p l (L .here) (L .bounds) (L .shape-is)))
 
 -- taking an instruction of kind k, whose record has n bytes, where nothing but the fault is left open
 pub took : {f m m′ : List ℕ} {h p kind r : ℕ} {l : Limits} → Among f m h p l kind → (k n : ℕ) → kind ≡ k → suc (bodyOf k) ≡ n →

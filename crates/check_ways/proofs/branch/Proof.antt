@@ -3,10 +3,13 @@ use Prim.Native.Nat.{_+_, _-_, _<_}
 use mathlib.Core.Path.{sym, _∙_}
 use native.Mathlib.Omega.{arith}
 use borrow.Author.Tests.{lt-ltb, le-ltb}
+use mathlib.Core.List.{[], _∷_}
+use Rattle.model.specs.Choice.{if_then_else_}
 use Rattle.model.specs.Checker.{state}
-use Rattle.check_rows.specs.Tests.{stacks-fit}
+use Rattle.check_rows.specs.Tests.{asState, stacks-fit}
+use Rattle.check_ways.specs.Takes.{passAllIn, takeIn}
 use Rattle.check_ways.specs.Faults.{fitting, fits-either, second-as}
-use Rattle.check_ways.specs.Ways.{stops, test-passes, all-passed, own-place, next-place, here-place, ends-low, held-here, bounded-here, takes-branch, on-branch}
+use Rattle.check_ways.specs.Ways.{Judged, stops, test-passes, all-passed, own-place, next-place, here-place, ends-low, held-here, bounded-here, takes-branch, on-branch}
 use borrow.Author.Needs.{needs}
 use Rattle.check_ways.proofs.branch.Statement.{statement}
 use Rattle.check_ways.proofs.branch.Tie as tie
@@ -70,6 +73,26 @@ depths-ok-requires c κs =
       at-if2 .if2 .left,
     )
 
+-- behind the test of the depths: what is left of the tests, and what passes on
+left-at : (c : tie.After-depths-ok) →
+    let at-state-in = c .before .before .before .before .before .before .before .before in
+    let a = at-state-in .before .before .before .before .before .before .before .args in
+    let s = at-state-in .state-in .result in
+    let popped = state (s .main - 1) (s .ptr) (s .inner) in
+    Judged (takeIn (a .file .now) (a .p) (a .m .now)) ((c .depths-ok .result, 7) ∷ [])
+    (passAllIn ((a .p + 3, popped) ∷ (a .target, (if a .keep then asState s else popped)) ∷ []) (a .m .now))
+left-at c =
+    let at-outer-of = c .before .before in
+    let at-if3 = at-outer-of .before .before in
+    let at-if2 = at-if3 .before .before in
+    let at-state-in = at-if2 .before .before in
+    let at-if1 = at-state-in .before .before in
+    let at-own = at-if1 .before in
+    let entry = at-own .before .before .before .before in
+    let J = test-passes (on-branch (entry .args .keep) _ (entry .pre) (at-state-in .state-in .ensures)) (sym (at-own .own .ensures) ∙ at-if1 .if1 .taken) in
+    let K = test-passes (test-passes J (lt-ltb _ _ (at-if2 .if2 .left))) (lt-ltb _ _ (at-if3 .if3 .left)) in
+    rw (c .depths-ok .ensures, c .before .effect .ensures, at-outer-of .outer-of .ensures .is) K
+
 sub-rest : tie.Need-sub-rest
 sub-rest c =
     let at-if4 = c .before in
@@ -104,42 +127,18 @@ returns-3 c =
     let at-pass-both = c .before .before in
     let at-kept = at-pass-both .before in
     let at-if4 = at-kept .before .before .before in
-    let at-depths-ok = at-if4 .before in
-    let at-effect = at-depths-ok .before in
-    let at-outer-of = at-effect .before in
-    let at-if3 = at-outer-of .before .before in
-    let at-if2 = at-if3 .before .before in
-    let at-state-in = at-if2 .before .before in
-    let at-if1 = at-state-in .before .before in
-    let at-own = at-if1 .before in
-    let entry = at-own .before .before .before .before in
-    let J = test-passes (on-branch (entry .args .keep) _ (entry .pre) (at-state-in .state-in .ensures)) (sym (at-own .own .ensures) ∙ at-if1 .if1 .taken) in
-    let K = test-passes (test-passes J (lt-ltb _ _ (at-if2 .if2 .left))) (lt-ltb _ _ (at-if3 .if3 .left)) in
-    let d = rw (at-effect .effect .ensures, at-outer-of .outer-of .ensures .is) at (at-depths-ok .depths-ok .ensures) in
-    let a = entry .args in
+    let at-state-in = at-if4 .before .before .before .before .before .before .before .before .before in
+    let a = at-state-in .before .before .before .before .before .before .before .args in
     let s = at-state-in .state-in .result in
     at-pass-both .pass-both .ensures
     ∙ second-as (a .m .now) (a .p + 3) (a .target) (state (s .main - 1) (s .ptr) (s .inner)) (at-kept .at-target .ensures)
-    ∙ sym (all-passed (test-passes K (sym d ∙ at-if4 .if4 .taken)))
+    ∙ sym (all-passed (test-passes (left-at (at-if4 .before)) (at-if4 .if4 .taken)))
 
 same-length-4 : tie.Need-same-length-4
 same-length-4 c = search needs
 
 returns-4 : tie.Need-returns-4
-returns-4 c =
-    let at-depths-ok = c .before in
-    let at-effect = at-depths-ok .before in
-    let at-outer-of = at-effect .before in
-    let at-if3 = at-outer-of .before .before in
-    let at-if2 = at-if3 .before .before in
-    let at-state-in = at-if2 .before .before in
-    let at-if1 = at-state-in .before .before in
-    let at-own = at-if1 .before in
-    let entry = at-own .before .before .before .before in
-    let J = test-passes (on-branch (entry .args .keep) _ (entry .pre) (at-state-in .state-in .ensures)) (sym (at-own .own .ensures) ∙ at-if1 .if1 .taken) in
-    let K = test-passes (test-passes J (lt-ltb _ _ (at-if2 .if2 .left))) (lt-ltb _ _ (at-if3 .if3 .left)) in
-    let d = rw (at-effect .effect .ensures, at-outer-of .outer-of .ensures .is) at (at-depths-ok .depths-ok .ensures) in
-    stops K (sym d ∙ c .if4 .left)
+returns-4 c = stops (left-at (c .before)) (c .if4 .left)
 
 same-length-5 : tie.Need-same-length-5
 same-length-5 c = search needs

@@ -1,8 +1,6 @@
 -- `check_ways::leave`: the tests in their order (`on-return`); nothing is passed on.
-use mathlib.Core.Path.{sym, _∙_, ap}
+use mathlib.Core.Path.{sym}
 use borrow.Author.Tests.{lt-ltb, le-ltb, eq-eqb, ne-eqb}
-use Rattle.code_file.specs.declared.Head.{Head}
-use Rattle.code_file.specs.Heads.{headBytes}
 use Rattle.check_ways.specs.Ways.{stops, test-passes, all-passed, here-place, on-return}
 use Rattle.check_ways.proofs.leave.Statement.{statement}
 use Rattle.check_ways.proofs.leave.Tie as tie
@@ -15,55 +13,43 @@ state-in-requires c κs = here-place (c .before .before .before .pre .here)
 
 returns : tie.Need-returns
 returns c =
-    let entry = c .before .before .before .before .before .before in
-    stops (on-return (entry .pre) (c .before .before .state-in .ensures)) (le-ltb _ _ (c .if1 .taken))
+    let at-head = c .before .before .before in
+    stops (on-return (at-head .before .before .before .pre) (c .before .before .state-in .ensures) (at-head .head-at .ensures)) (le-ltb _ _ (c .if1 .taken))
 
 returns-2 : tie.Need-returns-2
-unfolding headBytes
 returns-2 c =
-    let at-state-in = c .before .before .before .before .before in
-    let at-head-at = at-state-in .before in
-    let entry = at-head-at .before .before .before in
-    let J = test-passes (on-return (entry .pre) (at-state-in .state-in .ensures)) (lt-ltb _ _ (c .before .before .before .if1 .left)) in
-    stops J (ne-eqb _ _ (λ e. (c .if2 .taken) (e ∙ sym (ap (λ (w : Head). w .r) (at-head-at .head-at .ensures .is)))))
+    let at-if1 = c .before .before .before in
+    let at-state-in = at-if1 .before .before in
+    let at-head = at-state-in .before in
+    let J = test-passes (on-return (at-head .before .before .before .pre) (at-state-in .state-in .ensures) (at-head .head-at .ensures)) (lt-ltb _ _ (at-if1 .if1 .left)) in
+    stops J (ne-eqb _ _ (c .if2 .taken))
 
 returns-3 : tie.Need-returns-3
-unfolding headBytes
 returns-3 c =
-    let at-if1 = c .before .before .before .before .before .before in
+    let at-if2 = c .before .before .before in
+    let at-if1 = at-if2 .before .before .before in
     let at-state-in = at-if1 .before .before in
-    let at-head-at = at-state-in .before in
-    let entry = at-head-at .before .before .before in
-    let J = test-passes (on-return (entry .pre) (at-state-in .state-in .ensures)) (lt-ltb _ _ (at-if1 .if1 .left)) in
-    let r = ap (λ (w : Head). w .r) (at-head-at .head-at .ensures .is) in
-    let s = ap (λ (w : Head). w .s) (at-head-at .head-at .ensures .is) in
-    stops (test-passes J (eq-eqb _ _ (c .before .before .before .if2 .left ∙ r))) (ne-eqb _ _ (λ e. (c .if3 .taken) (e ∙ sym s)))
+    let at-head = at-state-in .before in
+    let J = test-passes (on-return (at-head .before .before .before .pre) (at-state-in .state-in .ensures) (at-head .head-at .ensures)) (lt-ltb _ _ (at-if1 .if1 .left)) in
+    stops (test-passes J (eq-eqb _ _ (at-if2 .if2 .left))) (ne-eqb _ _ (c .if3 .taken))
 
 returns-4 : tie.Need-returns-4
-unfolding headBytes
 returns-4 c =
     let at-if2 = c .before .before .before .before .before in
     let at-if1 = at-if2 .before .before .before in
     let at-state-in = at-if1 .before .before in
-    let at-head-at = at-state-in .before in
-    let entry = at-head-at .before .before .before in
-    let J = test-passes (on-return (entry .pre) (at-state-in .state-in .ensures)) (lt-ltb _ _ (at-if1 .if1 .left)) in
-    let r = ap (λ (w : Head). w .r) (at-head-at .head-at .ensures .is) in
-    let s = ap (λ (w : Head). w .s) (at-head-at .head-at .ensures .is) in
-    stops (test-passes (test-passes J (eq-eqb _ _ (at-if2 .if2 .left ∙ r))) (eq-eqb _ _ (c .before .before .if3 .left ∙ s))) (ne-eqb _ _ (c .if4 .taken))
+    let at-head = at-state-in .before in
+    let J = test-passes (on-return (at-head .before .before .before .pre) (at-state-in .state-in .ensures) (at-head .head-at .ensures)) (lt-ltb _ _ (at-if1 .if1 .left)) in
+    stops (test-passes (test-passes J (eq-eqb _ _ (at-if2 .if2 .left))) (eq-eqb _ _ (c .before .before .if3 .left))) (ne-eqb _ _ (c .if4 .taken))
 
 returns-5 : tie.Need-returns-5
-unfolding headBytes
 returns-5 c =
     let at-if2 = c .before .before .before .before .before in
     let at-if1 = at-if2 .before .before .before in
     let at-state-in = at-if1 .before .before in
-    let at-head-at = at-state-in .before in
-    let entry = at-head-at .before .before .before in
-    let J = test-passes (on-return (entry .pre) (at-state-in .state-in .ensures)) (lt-ltb _ _ (at-if1 .if1 .left)) in
-    let r = ap (λ (w : Head). w .r) (at-head-at .head-at .ensures .is) in
-    let s = ap (λ (w : Head). w .s) (at-head-at .head-at .ensures .is) in
-    sym (all-passed (test-passes (test-passes (test-passes J (eq-eqb _ _ (at-if2 .if2 .left ∙ r))) (eq-eqb _ _ (c .before .before .if3 .left ∙ s))) (eq-eqb _ _ (c .if4 .left))))
+    let at-head = at-state-in .before in
+    let J = test-passes (on-return (at-head .before .before .before .pre) (at-state-in .state-in .ensures) (at-head .head-at .ensures)) (lt-ltb _ _ (at-if1 .if1 .left)) in
+    sym (all-passed (test-passes (test-passes (test-passes J (eq-eqb _ _ (at-if2 .if2 .left))) (eq-eqb _ _ (c .before .before .if3 .left))) (eq-eqb _ _ (c .if4 .left))))
 
 pub leave-spec : {M : Type 1} → statement M
 leave-spec =
