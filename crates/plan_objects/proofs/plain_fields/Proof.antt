@@ -81,7 +81,9 @@ writes-requires : tie.Need-writes-requires
 writes-requires c κs = search needs
 
 sub-value : tie.Need-sub-value
-sub-value c = let pre = c .before .before .before .before .before .before .before .before .before .before .before .before .before .pre in omega (arith, pre .5 (other (pre .6) (c .before .match .rest .1)))
+sub-value c =
+    let pre = c .before .before .before .before .before .before .before .before .before .before .before .before .before .pre in
+    omega (arith, pre .5 (other (pre .6) (c .before .match .rest .1)))
 
 add-writes-3 : tie.Need-add-writes-3
 add-writes-3 c = search needs
