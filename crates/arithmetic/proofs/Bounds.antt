@@ -15,7 +15,7 @@ use native.Mathlib.Decide.{decLt}
 use native.Mathlib.Nat.{div-le-self, div-lt-iff-lt-mul, mul-le-mul, le-trans, lt-of-le-of-lt}
 use native.Mathlib.Omega.{arith}
 use Rattle.model.specs.Choice.{if_then_else_}
-use Rattle.model.specs.Words.{signed, toWord, inRange, valueOf}
+use Rattle.model.specs.Words.{signed, toWord, bit, inRange, valueOf}
 use Rattle.model.specs.declared.Value.the-variants.{Word}
 
 pub split : (a b : ℕ) → (a < b) ⊎ (b ≤ a)
@@ -79,8 +79,13 @@ natural (negsuc n) f e = absurd (true≢false (rw (toZ-neg w32 n (f .sfits)) at 
 
 -- an operation on what the machine reads from the bits of x and y, and its result in bits
 module _ (w : Width) {A : Type 0} (op : ℤ → ℤ → A) {x y s t : ℤ} (f : mag x < 2 ^ hbits w) (g : mag y < 2 ^ hbits w) (d : x ≡ s) (e : y ≡ t) where
-  pub read-both : op (toZ w (ofZ w x)) (toZ w (ofZ w y)) ≡ op s t
+  read-both : op (toZ w (ofZ w x)) (toZ w (ofZ w y)) ≡ op s t
   read-both = λ i. op ((toZ-ofZ w x (record { sfits = f }) ∙ d) i) ((toZ-ofZ w y (record { sfits = g }) ∙ e) i)
+
+-- the bit of a comparison, with u the answer to the machine's test
+pub compared : (op : ℤ → ℤ → Bool) {x y s t : ℤ} {u : Bool} → mag x < 2147483648 → mag y < 2147483648 → x ≡ s → y ≡ t →
+    op (toZ w32 (ofZ w32 x)) (toZ w32 (ofZ w32 y)) ≡ u → Word (bit u) ≡ Word (bit (op s t))
+compared op f g d e h = rw (sym h ∙ read-both w32 op f g d e)
 
 module _ (w : Width) (op : ℤ → ℤ → ℤ) {x y s t : ℤ} (f : mag x < 2 ^ hbits w) (g : mag y < 2 ^ hbits w) (d : x ≡ s) (e : y ≡ t) (k : SFits w (op s t)) where
   pub result-fits : SFits w (op (toZ w (ofZ w x)) (toZ w (ofZ w y)))

@@ -10,6 +10,7 @@ use borrow.Author.Tests.{lt-ltb, le-ltb, le-leb}
 use Rattle.model.specs.Choice.{if_then_else_}
 use Rattle.model.specs.File.{bodyOf, byteAt, after, insOf, insAt}
 use Rattle.model.specs.Checker.{State, effect, moved}
+use Rattle.laws_file.specs.Kinds.{OneOf, AtEach, at-each}
 use Rattle.check_scan.specs.Marks.{unreached}
 use Rattle.check_rows.specs.declared.Row.{Row}
 use Rattle.check_rows.specs.declared.Limits.{Limits}
@@ -69,12 +70,16 @@ still w t s o l B a =
       le-leb (s .ptr - 0 + 0) (l .y) (omega arith),
     )
 
--- the instruction of kind k at p, whose record has n bytes
-pub at-row : (f : List ℕ) (p k n : ℕ) (s o : State) (l : Limits) (sh : Shape) (r : Onward) → byteAt f p ≡ k → suc (bodyOf k) ≡ n →
-    shapeOf f p (insOf f p k) ≡ sh → r ≡ plainly s o l (p + n) sh → r ≡ plainly s o l (after f p) (shapeOf f p (insAt f p))
-unfolding after insAt
-at-row f p k n s o l sh r e b i w =
-    let q : p + 1 + bodyOf k ≡ p + n = omega (arith, b) in rw (e, q, i) w
+-- the instruction of kind k at p, whose record has n bytes; and one of the kinds ks
+module _ (f : List ℕ) (p : ℕ) (s o : State) (l : Limits) {r : Onward} where
+  pub at-row : {k n : ℕ} {sh : Shape} → byteAt f p ≡ k → suc (bodyOf k) ≡ n → shapeOf f p (insOf f p k) ≡ sh →
+      r ≡ plainly s o l (p + n) sh → r ≡ plainly s o l (after f p) (shapeOf f p (insAt f p))
+  unfolding after insAt
+  at-row {k} {n} e b i w = let q : p + 1 + bodyOf k ≡ p + n = omega (arith, b) in rw (e, q, i) w
+
+  pub at-rows : (n : ℕ) (sh : Shape) (ks : List ℕ) → AtEach (λ k. (suc (bodyOf k) ≡ n) × (shapeOf f p (insOf f p k) ≡ sh)) ks →
+      {k : ℕ} → byteAt f p ≡ k → OneOf ks k → r ≡ plainly s o l (p + n) sh → r ≡ plainly s o l (after f p) (shapeOf f p (insAt f p))
+  at-rows n sh ks h {k} e i w = let g = at-each _ ks k h i in at-row e (g .0) (g .1) w
 
 -- the ways out of a row
 module _ (w : Way) (r : Row) (s o : State) (l : Limits) (q : ℕ) where

@@ -44,21 +44,25 @@ module _ {f table : List ℕ} {m : Machine} (R : StepReady f table m) where
   unfolding after
   body-here = record { inside = omega (arith, R .whole); short = R .short }
 
-  pub body : (k n : ℕ) → codeAt f m ≡ k → bodyOf k ≡ n → Body f (placeOf m) n
-  body k n e b = rw (ap bodyOf e ∙ b) at body-here
+  pub body : {k : ℕ} → codeAt f m ≡ k → Body f (placeOf m) (bodyOf k)
+  body e = rw e at body-here
 
-  pub pops-main : (k n : ℕ) → codeAt f m ≡ k → effectOf f (insOf f (placeOf m) k) .popMain ≡ n → n ≤ mtop m
+  pub pops-main : {k : ℕ} → codeAt f m ≡ k → effectOf f (insOf f (placeOf m) k) .popMain ≤ mtop m
   unfolding insAt
-  pops-main k n e d = rw (e, d) at (R .pop-main)
+  pops-main e = rw e at (R .pop-main)
 
-  pub pops-ptr : (k n : ℕ) → codeAt f m ≡ k → effectOf f (insOf f (placeOf m) k) .popPtr ≡ n → n ≤ ptop m
+  pub pops-ptr : {k : ℕ} → codeAt f m ≡ k → effectOf f (insOf f (placeOf m) k) .popPtr ≤ ptop m
   unfolding insAt
-  pops-ptr k n e d = rw (e, d) at (R .pop-ptr)
+  pops-ptr e = rw e at (R .pop-ptr)
 
-  -- what an operation on n plain words asks for, and which of its family's codes it has
-  pub on-words : {W : Type 0} (k n : ℕ) → codeAt f m ≡ k → effectOf f (insOf f (placeOf m) k) .popMain ≡ n → W →
-      (placeOf m < fileMost) × TopWithin (m .main) (mtop m) × (n ≤ mtop m) × W
-  on-words k n e d w = (place-small, main-within, pops-main k n e d, w)
+  -- what an operation on plain words and a jump on one ask for, with what their families ask besides
+  pub on-words : {A : Type 0} {k : ℕ} → codeAt f m ≡ k → A →
+      (placeOf m < fileMost) × TopWithin (m .main) (mtop m) × (effectOf f (insOf f (placeOf m) k) .popMain ≤ mtop m) × A
+  on-words e a = (place-small, main-within, pops-main e, a)
+
+  pub jump-on : {A : Type 0} {k : ℕ} → codeAt f m ≡ k → A →
+      Body f (placeOf m) (bodyOf k) × TopWithin (m .main) (mtop m) × (effectOf f (insOf f (placeOf m) k) .popMain ≤ mtop m) × A
+  jump-on e a = (body e, main-within, pops-main e, a)
 
   is-at : (k : ℕ) → codeAt f m ≡ k → here f m ≡ insOf f (placeOf m) k
   unfolding insAt
@@ -76,17 +80,17 @@ module _ {f table : List ℕ} {m : Machine} (R : StepReady f table m) where
 
   pub taken-main : OneOf (36 ∷ 60 ∷ 62 ∷ 64 ∷ []) (codeAt f m) → operand f (placeOf m) ≤ mtop m
   unfolding insOf effectOf basicEffect makerPops
-  taken-main (inl e) = pops-main 36 _ e refl
-  taken-main (inr (inl e)) = let k = pops-main 60 _ e refl in omega (arith, k)
-  taken-main (inr (inr (inl e))) = pops-main 62 _ e refl
-  taken-main (inr (inr (inr e))) = pops-main 64 _ e refl
+  taken-main (inl e) = pops-main e
+  taken-main (inr (inl e)) = omega (arith, pops-main e)
+  taken-main (inr (inr (inl e))) = pops-main e
+  taken-main (inr (inr (inr e))) = pops-main e
 
   pub taken-ptr : OneOf (36 ∷ 60 ∷ 62 ∷ 64 ∷ []) (codeAt f m) → operand2 f (placeOf m) ≤ ptop m
   unfolding insOf effectOf basicEffect makerPops
-  taken-ptr (inl e) = pops-ptr 36 _ e refl
-  taken-ptr (inr (inl e)) = pops-ptr 60 _ e refl
-  taken-ptr (inr (inr (inl e))) = let k = pops-ptr 62 _ e refl in omega (arith, k)
-  taken-ptr (inr (inr (inr e))) = pops-ptr 64 _ e refl
+  taken-ptr (inl e) = pops-ptr e
+  taken-ptr (inr (inl e)) = pops-ptr e
+  taken-ptr (inr (inr (inl e))) = omega (arith, pops-ptr e)
+  taken-ptr (inr (inr (inr e))) = pops-ptr e
 
   pub points : (i : ℕ) → (wordAt (m .ptr) i ≡ 0) ⊎ Lies (m .heap) (wordAt (m .ptr) i)
   points i = ⊎-elim (λ e. inl e) (λ o. inr (object-lies (R .heap) _ o)) (R .pointers i)
@@ -101,8 +105,8 @@ module _ {f table : List ℕ} {m : Machine} (R : StepReady f table m) where
         listed = l;
         head = R .heads n l;
         whole = R .bytes n k;
-        main = pops-main 72 _ e refl;
-        ptr = pops-ptr 72 _ e refl;
+        main = pops-main e;
+        ptr = pops-ptr e;
       }
 
   -- the machine that is ready
@@ -110,6 +114,9 @@ module _ {f table : List ℕ} {m : Machine} (R : StepReady f table m) where
   subject = m
 
   -- what is planned at the code k is the plan at the place
-  pub plan-here : {r : Plan} (k n : ℕ) → codeAt f m ≡ k → bodyOf k ≡ n → r ≡ planned f m (suc n) k → r ≡ planAt f m
+  pub plan-of : {r : Plan} (n : ℕ) → bodyOf (codeAt f m) ≡ n → r ≡ planned f m (suc n) (codeAt f m) → r ≡ planAt f m
   unfolding planned planAt after insAt
-  plan-here k n e b p = let s : placeOf m + suc n ≡ placeOf m + 1 + bodyOf k = omega arith in p ∙ rw (e, s)
+  plan-of n b p = let s : placeOf m + suc n ≡ placeOf m + 1 + bodyOf (codeAt f m) = omega arith in p ∙ rw s
+
+  pub plan-here : {r : Plan} {k : ℕ} → codeAt f m ≡ k → r ≡ planned f m (suc (bodyOf k)) k → r ≡ planAt f m
+  plan-here e p = plan-of _ refl (rw e p)

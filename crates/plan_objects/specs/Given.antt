@@ -2,8 +2,10 @@
 use Prim.Native.Nat.{ℕ}
 use mathlib.Core.List.{List}
 use mathlib.Core.Logic.{_⊎_, inl, inr}
-use mathlib.Core.Path.{_≡_, _∙_}
+use mathlib.Core.Path.{_≡_, _∙_, sym}
+use mathlib.Core.Bool.{Bool, true, false}
 use lib.Dec.{eqb}
+use borrow.Author.Tests.{eq-eqb, ne-eqb}
 use Rattle.model.specs.Words.{bit, eqW, operate}
 use Rattle.model.specs.declared.Value.the-variants.{Word}
 use Rattle.heap.specs.Stores.{Lies}
@@ -13,10 +15,20 @@ pub same-word : (a b : ℕ) {w : ℕ} → Word w ≡ operate eqW a b → w ≡ b
 unfolding operate
 same-word a b e = cc e
 
--- an object on the stack, not nil
-pub not-nil : {w r : ℕ} → r ≡ w → (r ≡ 0 → ⊥) → w ≡ 0 → ⊥
-not-nil e n z = n (e ∙ z)
+-- an object on the stack
+pub is-nil : {w r : ℕ} → r ≡ w → r ≡ 0 → eqb w 0 ≡ true
+is-nil {w} e z = eq-eqb w 0 (sym e ∙ z)
 
 pub lies : {h : List ℕ} {w r : ℕ} → (w ≡ 0) ⊎ Lies h w → r ≡ w → (r ≡ 0 → ⊥) → Lies h r
 lies (inl z) e n = absurd (n (e ∙ z))
 lies (inr l) e n = rw e l
+
+-- the code reads the object w and the number k as r and s, and asks `test`, for plain or for pointer words, with the answer b
+pub record Asked (test : ℕ → ℕ → Bool) (w k r s : ℕ) (b : Bool) : Type 0 where
+  pub object : r ≡ w
+  pub number : s ≡ k
+  pub some : eqb w 0 ≡ false
+  pub part : test w k ≡ b
+
+pub asked : (test : ℕ → ℕ → Bool) {w k r s : ℕ} {b : Bool} → r ≡ w → (r ≡ 0 → ⊥) → s ≡ k → b ≡ test r s → Asked test w k r s b
+asked test {w} e n d t = record { object = e; number = d; some = ne-eqb w 0 (λ z. n (e ∙ z)); part = rw (e, d) at (sym t) }

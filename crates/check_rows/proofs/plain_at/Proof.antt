@@ -6,11 +6,10 @@ use mathlib.Core.Path.{_≡_, _∙_, refl, ap}
 use native.Mathlib.Omega.{arith}
 use Rattle.model.specs.File.{codes, bodies, bodyOf, insOf}
 use Rattle.model.specs.Checker.{basicEffect}
-use Rattle.laws_file.specs.Kinds.{at-each}
-use Rattle.check_rows.specs.Shape.{Next, Raise, shapeOf}
+use Rattle.check_rows.specs.Shape.{Next, shapeOf}
 use Rattle.check_rows.specs.Site.{body-room, low}
 use Rattle.check_rows.specs.Kinds.{body-locals, body-blocks, ins-raise, body-raise}
-use Rattle.check_rows.specs.Rows.{row, rowShape, at-row}
+use Rattle.check_rows.specs.Rows.{row, rowShape, at-row, at-rows}
 use Rattle.check_rows.proofs.plain_at.Statement.{statement}
 use Rattle.check_rows.proofs.plain_at.Tie as tie
 
@@ -82,94 +81,73 @@ raises-requires c κs =
 
 returns : tie.Need-returns
 unfolding insOf shapeOf basicEffect bodyOf bodies codes
-returns c = at-row _ _ 30 3 _ _ _ _ _ (c .before .before .before .pre .2 ∙ c .before .match .keys1) refl refl (c .step .ensures)
+returns c = at-row _ _ _ _ _ (c .before .before .before .pre .2 ∙ c .before .match .keys1) refl refl (c .step .ensures)
 
 returns-2 : tie.Need-returns-2
 unfolding insOf shapeOf basicEffect bodyOf bodies codes
-returns-2 c = at-row _ _ 31 3 _ _ _ _ _ (c .before .before .before .pre .2 ∙ c .before .match .keys2) refl refl (c .step2 .ensures)
+returns-2 c = at-row _ _ _ _ _ (c .before .before .before .pre .2 ∙ c .before .match .keys2) refl refl (c .step2 .ensures)
 
 returns-3 : tie.Need-returns-3
 unfolding insOf shapeOf basicEffect bodyOf bodies codes
-returns-3 c = at-row _ _ 32 3 _ _ _ _ _ (c .before .before .before .pre .2 ∙ c .before .match .keys3) refl refl (c .step3 .ensures)
+returns-3 c = at-row _ _ _ _ _ (c .before .before .before .pre .2 ∙ c .before .match .keys3) refl refl (c .step3 .ensures)
 
 returns-4 : tie.Need-returns-4
 unfolding insOf shapeOf basicEffect bodyOf bodies codes
-returns-4 c = at-row _ _ 33 3 _ _ _ _ _ (c .before .before .before .pre .2 ∙ c .before .match .keys4) refl refl (c .step4 .ensures)
+returns-4 c = at-row _ _ _ _ _ (c .before .before .before .pre .2 ∙ c .before .match .keys4) refl refl (c .step4 .ensures)
 
 returns-5 : tie.Need-returns-5
-returns-5 c = at-row _ _ _ 5 _ _ _ _ _ (c .before .before .before .pre .2) (ap suc (body-blocks _ (c .before .match .keys5))) refl (c .blocks2 .ensures)
+returns-5 c = at-row _ _ _ _ _ (c .before .before .before .pre .2) (ap suc (body-blocks _ (c .before .match .keys5))) refl (c .blocks2 .ensures)
 
 returns-6 : tie.Need-returns-6
 unfolding insOf shapeOf basicEffect bodyOf bodies codes
-returns-6 c = at-row _ _ 54 2 _ _ _ _ _ (c .before .before .before .pre .2 ∙ c .before .match .keys6) refl refl (c .step5 .ensures)
+returns-6 c = at-row _ _ _ _ _ (c .before .before .before .pre .2 ∙ c .before .match .keys6) refl refl (c .step5 .ensures)
 
 returns-7 : tie.Need-returns-7
 unfolding insOf shapeOf basicEffect bodyOf bodies codes
-returns-7 c = at-row _ _ 56 5 _ _ _ _ _ (c .before .before .before .pre .2 ∙ c .before .match .keys7) refl refl (c .step6 .ensures)
+returns-7 c = at-row _ _ _ _ _ (c .before .before .before .pre .2 ∙ c .before .match .keys7) refl refl (c .step6 .ensures)
 
 returns-8 : tie.Need-returns-8
 unfolding insOf shapeOf basicEffect bodyOf bodies codes
-returns-8 c = at-row _ _ 57 1 _ _ _ _ _ (c .before .before .before .pre .2 ∙ c .before .match .keys8) refl refl (c .step7 .ensures)
+returns-8 c = at-row _ _ _ _ _ (c .before .before .before .pre .2 ∙ c .before .match .keys8) refl refl (c .step7 .ensures)
 
 returns-9 : tie.Need-returns-9
 unfolding insOf shapeOf basicEffect bodyOf bodies codes
-returns-9 c = at-row _ _ 58 1 _ _ _ _ _ (c .before .before .before .pre .2 ∙ c .before .match .keys9) refl refl (c .step8 .ensures)
+returns-9 c = at-row _ _ _ _ _ (c .before .before .before .pre .2 ∙ c .before .match .keys9) refl refl (c .step8 .ensures)
 
 returns-10 : tie.Need-returns-10
 unfolding insOf shapeOf basicEffect bodyOf bodies codes
-returns-10 c = at-row _ _ 59 1 _ _ _ _ _ (c .before .before .before .pre .2 ∙ c .before .match .keys10) refl refl (c .step9 .ensures)
+returns-10 c = at-row _ _ _ _ _ (c .before .before .before .pre .2 ∙ c .before .match .keys10) refl refl (c .step9 .ensures)
 
 returns-11 : tie.Need-returns-11
 unfolding insOf bodyOf bodies codes
-returns-11 c = at-row _ _ 72 3 _ _ _ _ _ (c .before .before .before .pre .2 ∙ c .before .match .keys11) refl refl (c .calls .ensures)
+returns-11 c = at-row _ _ _ _ _ (c .before .before .before .pre .2 ∙ c .before .match .keys11) refl refl (c .calls .ensures)
 
 returns-12 : tie.Need-returns-12
 unfolding insOf shapeOf basicEffect bodyOf bodies codes
-returns-12 c = at-row _ _ 131 1 _ _ _ _ _ (c .before .before .before .pre .2 ∙ c .before .match .keys12) refl refl (c .step10 .ensures)
+returns-12 c = at-row _ _ _ _ _ (c .before .before .before .pre .2 ∙ c .before .match .keys12) refl refl (c .step10 .ensures)
 
 returns-13 : tie.Need-returns-13
 unfolding insOf shapeOf basicEffect bodyOf bodies codes
 returns-13 c =
-    let entry = c .before .before .before in
-    let f = entry .args .file .now in
-    let p = entry .args .p in
-    at-row f p _ 1 _ _ _ (rowShape Next (row 1 0 1 0 0 0)) _ (entry .pre .2)
-    (at-each (λ n. suc (bodyOf n) ≡ 1) (144 ∷ 146 ∷ []) _
-    (refl, (refl, tt)) (c .before .match .keys13))
-    (at-each (λ n. shapeOf f p (insOf f p n) ≡ rowShape Next (row 1 0 1 0 0 0)) (144 ∷ 146 ∷ []) _
-    (refl, (refl, tt)) (c .before .match .keys13))
-    (c .step11 .ensures)
+    at-rows _ _ _ _ _ 1 (rowShape Next (row 1 0 1 0 0 0)) (144 ∷ 146 ∷ [])
+    ((refl, refl), ((refl, refl), tt)) (c .before .before .before .pre .2) (c .before .match .keys13) (c .step11 .ensures)
 
 returns-14 : tie.Need-returns-14
 unfolding insOf shapeOf basicEffect bodyOf bodies codes
 returns-14 c =
-    let entry = c .before .before .before in
-    let f = entry .args .file .now in
-    let p = entry .args .p in
-    at-row f p _ 1 _ _ _ (rowShape Next (row 2 0 1 0 0 0)) _ (entry .pre .2)
-    (at-each (λ n. suc (bodyOf n) ≡ 1) (130 ∷ 140 ∷ 142 ∷ 145 ∷ 195 ∷ 198 ∷ 201 ∷ 204 ∷ []) _
-    (refl, (refl, (refl, (refl, (refl, (refl, (refl, (refl, tt)))))))) (c .before .match .keys14))
-    (at-each (λ n. shapeOf f p (insOf f p n) ≡ rowShape Next (row 2 0 1 0 0 0)) (130 ∷ 140 ∷ 142 ∷ 145 ∷ 195 ∷ 198 ∷ 201 ∷ 204 ∷ []) _
-    (refl, (refl, (refl, (refl, (refl, (refl, (refl, (refl, tt)))))))) (c .before .match .keys14))
-    (c .step12 .ensures)
+    at-rows _ _ _ _ _ 1 (rowShape Next (row 2 0 1 0 0 0)) (130 ∷ 140 ∷ 142 ∷ 145 ∷ 195 ∷ 198 ∷ 201 ∷ 204 ∷ [])
+    ((refl, refl), ((refl, refl), ((refl, refl), ((refl, refl), ((refl, refl), ((refl, refl), ((refl, refl), ((refl, refl), tt))))))))
+    (c .before .before .before .pre .2) (c .before .match .keys14) (c .step12 .ensures)
 
 returns-15 : tie.Need-returns-15
 unfolding insOf shapeOf basicEffect bodyOf bodies codes
 returns-15 c =
-    let entry = c .before .before .before in
-    let f = entry .args .file .now in
-    let p = entry .args .p in
-    at-row f p _ 1 _ _ _ (rowShape Next (row 2 0 1 0 0 0)) _ (entry .pre .2)
-    (at-each (λ n. suc (bodyOf n) ≡ 1) (141 ∷ 143 ∷ []) _
-    (refl, (refl, tt)) (c .before .match .keys15))
-    (at-each (λ n. shapeOf f p (insOf f p n) ≡ rowShape Next (row 2 0 1 0 0 0)) (141 ∷ 143 ∷ []) _
-    (refl, (refl, tt)) (c .before .match .keys15))
-    (c .step13 .ensures)
+    at-rows _ _ _ _ _ 1 (rowShape Next (row 2 0 1 0 0 0)) (141 ∷ 143 ∷ [])
+    ((refl, refl), ((refl, refl), tt)) (c .before .before .before .pre .2) (c .before .match .keys15) (c .step13 .ensures)
 
 returns-16 : tie.Need-returns-16
 returns-16 c =
-    let entry = c .before .before .before .before .before in
-    at-row _ _ _ 3 _ _ _ _ _ (entry .pre .2) (ap suc (body-locals _ (omega arith) (omega arith))) refl (c .locals .ensures)
+    at-row _ _ _ _ _ (c .before .before .before .before .before .pre .2) (ap suc (body-locals _ (omega arith) (omega arith))) refl (c .locals .ensures)
 
 returns-17 : tie.Need-returns-17
 unfolding shapeOf
@@ -179,7 +157,7 @@ returns-17 c =
     let p = entry .args .p in
     let k = entry .args .kind in
     let out : (k < 20) ⊎ (23 < k) = ⊎-elim (λ t. inl (omega arith)) (λ t. inr (omega arith)) (c .before .if1 .came) in
-    at-row f p k 1 _ _ _ (rowShape Raise (row 1 0 0 0 0 0)) _ (entry .pre .2)
+    at-row f p _ _ _ (entry .pre .2)
     (ap suc (body-raise k (entry .pre .3) (entry .pre .4) out (c .before .before .match .rest) (λ e. (entry .pre .1 .known) (ap bodyOf (entry .pre .2) ∙ e))))
     (ap (shapeOf f p) (ins-raise k (entry .pre .3) (entry .pre .4) out (c .before .before .match .rest) f p))
     (c .raises .ensures)

@@ -1,13 +1,24 @@
 -- `plan_flow::calls`: the table has the callee's head, where its numbers stand (`numbers`); the definition's tests of the room are the code's.
 use mathlib.Core.Path.{_∙_}
 use native.Mathlib.Omega.{arith}
+use lib.ListN.{getD}
+use denote.Ref.{now}
 use borrow.Author.Needs.{needs}
 use Rattle.model.specs.Control.{setRegs, setMain, setPtr, setCtl}
-use Rattle.model.specs.File.{insOf}
+use Rattle.model.specs.File.{operand, insOf}
 use Rattle.plan_meaning.specs.Planned.{planned}
-use Rattle.plan_flow.specs.Given.{numbers, no-main, no-ptr, no-ctl, frame-room}
+use Rattle.plan_flow.specs.Given.{Numbers, numbers, no-main, no-ptr, no-ctl, frame-room}
 use Rattle.plan_flow.proofs.calls.Statement.{statement}
 use Rattle.plan_flow.proofs.calls.Tie as tie
+
+abbrev start : tie.After-head-at → tie.Start
+start c = c .before .before .before .before .before .before .before
+
+-- the numbers of the callee, whose head has been read
+head-read : (c : tie.After-head-at) →
+    let a = start c .args in
+    Numbers (now (a .file)) (operand (now (a .file)) (a .regs .place)) (getD (now (a .table)) (c .before .before .operand .result) 0) (c .head-at .result)
+head-read c = numbers _ (start c .pre .4) (c .before .before .operand .ensures .is) (c .head-at .ensures)
 
 operand-requires : tie.Need-operand-requires
 operand-requires c κs = search needs
@@ -19,85 +30,44 @@ element-copy-out-h : tie.Need-element-copy-out-h
 element-copy-out-h c = search needs
 
 head-at-requires : tie.Need-head-at-requires
-head-at-requires c κs =
-    let entry = c .before .before .before .before .before .before in
-    rw (c .before .operand .ensures .is) (omega (arith, entry .pre .4))
+head-at-requires c κs = rw (c .before .operand .ensures .is) (omega (arith, c .before .before .before .before .before .before .pre .4))
 
 sub-m : tie.Need-sub-m
-sub-m c =
-    let read = c .before .before in
-    let k = numbers _ (read .before .before .before .before .before .before .before .pre .4) (read .before .before .operand .ensures .is)
-    (read .head-at .ensures) in
-    omega (arith, read .before .before .before .before .before .before .before .pre .4)
+sub-m c = let read = c .before .before in omega (arith, head-read read, start read .pre .4)
 
 sub-q : tie.Need-sub-q
-sub-q c =
-    let read = c .before .before .before .before in
-    let k = numbers _ (read .before .before .before .before .before .before .before .pre .4) (read .before .before .operand .ensures .is)
-    (read .head-at .ensures) in
-    omega (arith, read .before .before .before .before .before .before .before .pre .4)
+sub-q c = let read = c .before .before .before .before in omega (arith, head-read read, start read .pre .4)
 
 add-if1 : tie.Need-add-if1
-add-if1 c =
-    let back5 = c .before .before .before .before .before in
-    let read = back5 in
-    omega (arith, read .head-at .ensures, read .before .before .before .before .before .before .before .pre)
+add-if1 c = let read = c .before .before .before .before .before in omega (arith, read .head-at .ensures, start read .pre)
 
 returns : tie.Need-returns
 unfolding planned insOf
-returns c =
-    let back6 = c .before .before .before .before .before .before in
-    λ m.
-    let read = back6 in
-    let k = numbers _ (read .before .before .before .before .before .before .before .pre .4) (read .before .before .operand .ensures .is)
-    (read .head-at .ensures) in
-    no-main k (setRegs _ (setMain _ (setPtr _ (setCtl _ m)))) _ (c .if1 .taken)
+returns c = λ m. no-main (head-read (c .before .before .before .before .before .before)) (setRegs _ (setMain _ (setPtr _ (setCtl _ m)))) _ (c .if1 .taken)
 
 add-if2 : tie.Need-add-if2
-add-if2 c =
-    let back7 = c .before .before .before .before .before .before .before in
-    let read = back7 in
-    omega (arith, read .head-at .ensures, read .before .before .before .before .before .before .before .pre)
+add-if2 c = let read = c .before .before .before .before .before .before .before in omega (arith, read .head-at .ensures, start read .pre)
 
 returns-2 : tie.Need-returns-2
 unfolding planned insOf
 returns-2 c =
-    let back8 = c .before .before .before .before .before .before .before .before in
-    λ m.
-    let read = back8 in
-    let k = numbers _ (read .before .before .before .before .before .before .before .pre .4) (read .before .before .operand .ensures .is)
-    (read .head-at .ensures) in
-    no-ptr k (setRegs _ (setMain _ (setPtr _ (setCtl _ m)))) _ (c .before .before .if1 .left) (c .if2 .taken)
+    let H = head-read (c .before .before .before .before .before .before .before .before) in
+    λ m. no-ptr H (setRegs _ (setMain _ (setPtr _ (setCtl _ m)))) _ (c .before .before .if1 .left) (c .if2 .taken)
 
 add-if3 : tie.Need-add-if3
-add-if3 c =
-    let back9 = c .before .before .before .before .before .before .before .before .before in
-    let read = back9 in
-    omega (arith, read .before .before .before .before .before .before .before .pre)
+add-if3 c = let read = c .before .before .before .before .before .before .before .before .before in omega (arith, start read .pre)
 
 returns-3 : tie.Need-returns-3
 unfolding planned insOf
 returns-3 c =
-    let back10 = c .before .before .before .before .before .before .before .before .before .before in
-    λ m.
-    let read = back10 in
-    let k = numbers _ (read .before .before .before .before .before .before .before .pre .4) (read .before .before .operand .ensures .is)
-    (read .head-at .ensures) in
-    no-ctl k (setRegs _ (setMain _ (setPtr _ (setCtl _ m)))) _ (c .before .before .before .before .if1 .left) (c .before .before .if2 .left) (c .if3 .taken)
+    let H = head-read (c .before .before .before .before .before .before .before .before .before .before) in
+    λ m. no-ctl H (setRegs _ (setMain _ (setPtr _ (setCtl _ m)))) _ (c .before .before .before .before .if1 .left) (c .before .before .if2 .left) (c .if3 .taken)
 
 add-writes : tie.Need-add-writes
-add-writes c =
-    let back10 = c .before .before .before .before .before .before .before .before .before .before in
-    let read = back10 in
-    let k = numbers _ (read .before .before .before .before .before .before .before .pre .4) (read .before .before .operand .ensures .is)
-    (read .head-at .ensures) in
-    omega (arith, read .before .before .before .before .before .before .before .pre)
+add-writes c = let read = c .before .before .before .before .before .before .before .before .before .before in omega (arith, head-read read, start read .pre)
 
 cast-writes : tie.Need-cast-writes
-cast-writes c =
-    let back10 = c .before .before .before .before .before .before .before .before .before .before in
-    let read = back10 in
-    omega (arith, read .before .before .before .before .before .before .before .pre)
+cast-writes c = let read = c .before .before .before .before .before .before .before .before .before .before in omega (arith, start read .pre)
 
 writes-requires : tie.Need-writes-requires
 writes-requires c κs = search needs
@@ -105,14 +75,9 @@ writes-requires c κs = search needs
 returns-4 : tie.Need-returns-4
 unfolding planned insOf
 returns-4 c =
-    let at-if1 = c .before .before .before .before .before in
-    let back11 = at-if1 .before .before .before .before .before .before in
-    λ m.
-    let read = back11 in
-    let k = numbers _ (read .before .before .before .before .before .before .before .pre .4) (read .before .before .operand .ensures .is)
-    (read .head-at .ensures) in
-    c .writes .ensures ∙ frame-room k (setRegs _ (setMain _ (setPtr _ (setCtl _ m)))) _ (at-if1 .if1 .left)
-    (c .before .before .before .if2 .left) (c .before .if3 .left)
+    let at-if2 = c .before .before .before in
+    let H = head-read (at-if2 .before .before .before .before .before .before .before .before) in
+    λ m. c .writes .ensures ∙ frame-room H (setRegs _ (setMain _ (setPtr _ (setCtl _ m)))) _ (at-if2 .before .before .if1 .left) (at-if2 .if2 .left) (c .before .if3 .left)
 
 pub calls-spec : {M : Type 1} → statement M
 calls-spec =

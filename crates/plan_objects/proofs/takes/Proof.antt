@@ -13,20 +13,17 @@ forms-requires c κs = search needs
 
 retracts-requires : tie.Need-retracts-requires
 retracts-requires c κs =
-    let entry = c .before .before .before .before .before in
-    let a = entry .pre in
+    let a = c .before .before .before .before .before .pre in
     (a .0, a .1, a .2, a .4, a .5, λ z. a .6 (c .match .keys2), λ z. omega (arith, z), inl refl)
 
 retracts-requires-2 : tie.Need-retracts-requires-2
 retracts-requires-2 c κs =
-    let entry = c .before .before .before .before .before in
-    let a = entry .pre in
+    let a = c .before .before .before .before .before .pre in
     (a .0, a .1, a .2, a .4, a .5, λ z. omega (arith, z), λ z. a .7 (c .match .keys3), inr (inl refl))
 
 retracts-requires-3 : tie.Need-retracts-requires-3
 retracts-requires-3 c κs =
-    let entry = c .before .before .before .before .before in
-    let a = entry .pre in
+    let a = c .before .before .before .before .before .pre in
     (a .0, a .1, a .2, a .4, a .5, λ z. omega (arith, z), λ z. omega (arith, z), inr (inr refl))
 
 returns : tie.Need-returns
@@ -40,11 +37,9 @@ returns-3 c = λ m. rw (c .before .match .keys3) (c .retracts2 .ensures (setHeap
 
 returns-4 : tie.Need-returns-4
 returns-4 c =
-    let entry = c .before .before .before .before .before .before in
-    λ m.
     let n = c .before .match .rest in
-    let e = other (other (other (entry .pre .8) (n .0 .0 .1)) (n .0 .1)) (n .1) in
-    rw e (c .retracts3 .ensures (setHeap _ m))
+    let e = other (other (other (c .before .before .before .before .before .before .pre .8) (n .0 .0 .1)) (n .0 .1)) (n .1) in
+    λ m. rw e (c .retracts3 .ensures (setHeap _ m))
 
 pub takes-spec : {M : Type 1} → statement M
 takes-spec =
