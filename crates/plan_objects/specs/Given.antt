@@ -24,11 +24,11 @@ lies (inl z) e n = absurd (n (e ∙ z))
 lies (inr l) e n = rw e l
 
 -- the code reads the object w and the number k as r and s, and asks `test`, for plain or for pointer words, with the answer b
-pub record Asked (test : ℕ → ℕ → Bool) (w k r s : ℕ) (b : Bool) : Type 0 where
+pub record FieldAsked (test : ℕ → ℕ → Bool) (w k r s : ℕ) (b : Bool) : Type 0 where
   pub object : r ≡ w
   pub number : s ≡ k
   pub some : eqb w 0 ≡ false
   pub part : test w k ≡ b
 
-pub asked : (test : ℕ → ℕ → Bool) {w k r s : ℕ} {b : Bool} → r ≡ w → (r ≡ 0 → ⊥) → s ≡ k → b ≡ test r s → Asked test w k r s b
-asked test {w} e n d t = record { object = e; number = d; some = ne-eqb w 0 (λ z. n (e ∙ z)); part = rw (e, d) at (sym t) }
+pub field-asked : (test : ℕ → ℕ → Bool) {w k r s : ℕ} {b : Bool} → r ≡ w → (r ≡ 0 → ⊥) → s ≡ k → b ≡ test r s → FieldAsked test w k r s b
+field-asked test {w} e n d t = record { object = e; number = d; some = ne-eqb w 0 (λ z. n (e ∙ z)); part = rw (e, d) at (sym t) }

@@ -11,7 +11,7 @@ use Rattle.model.specs.Heap.{inPlain}
 use Rattle.heap.specs.Stores.{Lies, in-plain}
 use Rattle.plan_meaning.specs.Planned.{basicPlan, planOf, planned}
 use Rattle.plan_meaning.specs.Asked.{other}
-use Rattle.plan_objects.specs.Given.{is-nil, lies, Asked, asked}
+use Rattle.plan_objects.specs.Given.{is-nil, lies, FieldAsked, field-asked}
 use borrow.Author.Needs.{needs}
 use Rattle.plan_objects.proofs.plain_fields.Statement.{statement}
 use Rattle.plan_objects.proofs.plain_fields.Tie as tie
@@ -23,8 +23,8 @@ object c = lies (c .before .before .before .before .before .before .before .befo
 same : (c : tie.After-in-plain) →
     let a = c .before .before .before .before .before .before .before .before .before .before .args in
     let top = wordAt (now (a .ptr)) (a .regs .ptop - 1) in
-    Asked (inPlain (now (a .heap))) top (operand (now (a .file)) (a .regs .place)) (c .before .before .before .word .result) (c .before .operand .result) (c .in-plain .result)
-same c = asked _ (c .before .before .before .word .ensures .is) (c .before .before .if1 .left) (c .before .operand .ensures .is) (c .in-plain .ensures)
+    FieldAsked (inPlain (now (a .heap))) top (operand (now (a .file)) (a .regs .place)) (c .before .before .before .word .result) (c .before .operand .result) (c .in-plain .result)
+same c = field-asked _ (c .before .before .before .word .ensures .is) (c .before .before .if1 .left) (c .before .operand .ensures .is) (c .in-plain .ensures)
 
 sub-top : tie.Need-sub-top
 sub-top c = search needs
