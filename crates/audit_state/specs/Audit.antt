@@ -10,7 +10,7 @@ use borrow.Author.Tests.{eq-eqb, ne-eqb}
 use Rattle.model.specs.Choice.{if_then_else_, Test, same, atMost, yes?, all, All, all-true}
 use Rattle.model.specs.File.{resultsMain, resultsPtr}
 use Rattle.model.specs.Heap.{objectsOf}
-use Rattle.model.specs.Control.{Machine, recordWords, down, records, rootWords}
+use Rattle.model.specs.Control.{Machine, setRegs, recordWords, down, records, rootWords}
 use Rattle.model.specs.Sound.{mainAt, ptrAt, zeros, pointers, stack?, stackTests, topmost, runningTests, finishedTests, sound?}
 use Rattle.model.specs.declared.Regs.{Regs}
 use Rattle.audit_records.specs.declared.Look.{Look}
@@ -70,11 +70,11 @@ module _ (m p : ℕ) (r : Regs) where
   done-last t e h = decided 5 doneTests t e h
 
 -- the words of the stacks; the pointers outside the heap are those of the pointer stack
-pub rest-last : (m : Machine) (r : Bool) → zeros (drop (m .regs .mtop) (m .main)) ≡ true →
+pub rest-last : (m : Machine) {r : Bool} → zeros (drop (m .regs .mtop) (m .main)) ≡ true →
     zeros (drop (m .regs .ptop) (m .ptr)) ≡ true → zeros (drop (m .regs .ctop) (m .ctl)) ≡ true →
     r ≡ pointers (objectsOf (m .heap)) (m .ptr) → r ≡ all (stackTests m)
 unfolding rootWords
-rest-last m r a b c e = decided 3 (stackTests m) r e (λ t. (a, (b, (c, (sym e ∙ t, tt)))))
+rest-last m {r} a b c e = decided 3 (stackTests m) r e (λ t. (a, (b, (c, (sym e ∙ t, tt)))))
 
 abbrev recordsOk : List ℕ → List ℕ → Machine → Bool
 recordsOk f map m =
@@ -97,12 +97,12 @@ module _ (f map : List ℕ) (m : Machine) where
       go true = all-both (doneTests (resultsMain f 0) (resultsPtr f 0) (m .regs)) (stackTests m)
       go false = all-both (topsTests map (m .regs) (length (m .ctl))) (yes? (recordsOk f map m) ∷ stackTests m)
 
-  module _ (done : m .regs .state ≡ 1) (h : Head) (H : HeadFor f 0 h) where
+  module _ (done : m .regs .state ≡ 1) {h : Head} (H : HeadFor f 0 h) where
     done-is : (t : Bool) → doneOk (h .r) (h .s) (m .regs) ≡ t → sound? f map m ≡ (if t then all (stackTests m) else false)
     done-is t e = sound-is ∙ rw (eq-eqb (m .regs .state) 1 done, ← H .r-is, ← H .s-is, e)
 
-    pub sound-done : (r : Bool) → doneOk (h .r) (h .s) (m .regs) ≡ true → r ≡ all (stackTests m) → r ≡ sound? f map m
-    sound-done r e d = d ∙ sym (done-is true e)
+    pub sound-done : {r : Bool} → doneOk (h .r) (h .s) (m .regs) ≡ true → r ≡ all (stackTests m) → r ≡ sound? f map m
+    sound-done e d = d ∙ sym (done-is true e)
 
     pub sound-undone : doneOk (h .r) (h .s) (m .regs) ≡ false → false ≡ sound? f map m
     sound-undone e = sym (done-is false e)
@@ -115,15 +115,15 @@ module _ (f map : List ℕ) (m : Machine) where
     pub sound-tops : topsOk map (m .regs) (length (m .ctl)) ≡ false → false ≡ sound? f map m
     sound-tops e = sym (on-is false e)
 
-    module _ (t : topsOk map (m .regs) (length (m .ctl)) ≡ true) (top : Look) (top-is : theLook top ≡ topmost map m) (b : Bool)
+    module _ (t : topsOk map (m .regs) (length (m .ctl)) ≡ true) {top : Look} (top-is : (m′ : Machine) → theLook top ≡ topmost map (setRegs (m .regs) m′)) {b : Bool}
         (b-is : b ≡ stack? f map (length (m .main)) (length (m .ptr)) (down (m .ctl) (records m)) (theLook top)) where
       records-are : (u : Bool) → b ≡ u → sound? f map m ≡ (if u then all (stackTests m) else false)
       records-are u e =
-          let same-look = ap (stack? f map (length (m .main)) (length (m .ptr)) (down (m .ctl) (records m))) top-is in
+          let same-look = ap (stack? f map (length (m .main)) (length (m .ptr)) (down (m .ctl) (records m))) (top-is m) in
           on-is true t ∙ ap (λ (v : Bool). if v then all (stackTests m) else false) (sym (b-is ∙ same-look) ∙ e)
 
       pub sound-records : b ≡ false → false ≡ sound? f map m
       sound-records e = sym (records-are false e)
 
-      pub sound-rest : (r : Bool) → b ≡ true → r ≡ all (stackTests m) → r ≡ sound? f map m
-      sound-rest r e h = h ∙ sym (records-are true e)
+      pub sound-rest : {r : Bool} → b ≡ true → r ≡ all (stackTests m) → r ≡ sound? f map m
+      sound-rest e h = h ∙ sym (records-are true e)

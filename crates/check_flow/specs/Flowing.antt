@@ -80,10 +80,7 @@ pub record Flowing (f m table : List ℕ) (k p c h e : ℕ) : Type 0 where
   pub in-proc : (p ≡ 0) ⊎ ((1 ≤ c) × (h ≡ headOf f (c - 1)) × (e ≡ endOf f c) × (h < p))
   pub low : p ≤ length f
 
-module _ (f m₀ table : List ℕ) (k : ℕ) (B : Begun f m₀ table k) where
-  ps : List ℕ
-  ps = B .places
-
+module _ {f m₀ table : List ℕ} {k : ℕ} (B : Begun f m₀ table k) where
   pub flowing-start : Flowing f m₀ table k 0 0 0 0
   unfolding heads flow
   flowing-start =
@@ -115,7 +112,7 @@ module _ (f m₀ table : List ℕ) (k : ℕ) (B : Begun f m₀ table k) where
   pub begun-whole : 0 + 6 < length f
   begun-whole = let w = begun-table .whole 0 in let z = head-zero f (B .places) (B .records) in omega arith
 
-  module _ (m : List ℕ) (p c h e : ℕ) (F : Flowing f m table k p c h e) (below : p < length f) where
+  module _ {m : List ℕ} {p c h e : ℕ} (F : Flowing f m table k p c h e) (below : p < length f) where
     next-is : (whole? f p ≡ true) × ((qs : List ℕ) × (restOf f (after f p) ≡ starts qs) × (F .rest ≡ p ∷ qs))
     next-is = rest-inv f p (F .rest) below (F .rest-is)
 
@@ -126,9 +123,9 @@ module _ (f m₀ table : List ℕ) (k : ℕ) (B : Begun f m₀ table k) where
     flowing-inside = whole-inside f p (next-is .0)
 
     -- a head: the next procedure begins
-    pub flowing-head : byteAt f p ≡ headKind → (e′ : ℕ) → e′ ≡ endIn table k (c + 1) (length f) → Flowing f m table k (after f p) (c + 1) p e′
+    pub flowing-head : {e′ : ℕ} → byteAt f p ≡ headKind → e′ ≡ endIn table k (c + 1) (length f) → Flowing f m table k (after f p) (c + 1) p e′
     unfolding isHead headOf procs endOf
-    flowing-head z e′ ee =
+    flowing-head z ee =
         let heads-are : drop c (heads f) ≡ p ∷ select (isHead f) (next-is .1 .0) =
         F .to-come ∙ ap (select (isHead f)) (next-is .1 .2) ∙ rw (eq-eqb (byteAt f p) headKind z) in
         let a : length (heads f) - c ≡ suc (length (select (isHead f) (next-is .1 .0))) = sym (length-drop c (heads f)) ∙ ap length heads-are in
@@ -371,15 +368,15 @@ module _ (f m₀ table : List ℕ) (k : ℕ) (B : Begun f m₀ table k) where
       unfolding takeAll
       come = F .so-far ∙ ap (λ (l : List ℕ). takeAll f l (F .known)) ins-are
 
-      pub flowing-fault : (r : ℕ) (m′ : List ℕ) → takeAns r m′ ≡ takeIn f p m → (r ≡ 0 → ⊥) → Flowed f m′ k (Refuse r p)
-      flowing-fault r m′ w n = go (taken (takeOne f p (F .known)) (takeIn f p m) r m′ w alike)
+      pub flowing-fault : {r : ℕ} (m′ : List ℕ) → takeAns r m′ ≡ takeIn f p m → (r ≡ 0 → ⊥) → Flowed f m′ k (Refuse r p)
+      flowing-fault {r} m′ w n = go (taken (takeOne f p (F .known)) (takeIn f p m) r m′ w alike)
         where
           go : Took (takeOne f p (F .known)) r m′ → flow f ≡ refused r p
           go (inl z) = absurd (n (z .0))
           go (inr z) = come ∙ rw (z .0)
 
-      pub flowing-take : (r : ℕ) (m′ : List ℕ) → takeAns r m′ ≡ takeIn f p m → r ≡ 0 → Flowing f m′ table k (after f p) c h e
-      flowing-take r m′ w z = go (taken (takeOne f p (F .known)) (takeIn f p m) r m′ w alike)
+      pub flowing-take : {r : ℕ} {m′ : List ℕ} → takeAns r m′ ≡ takeIn f p m → r ≡ 0 → Flowing f m′ table k (after f p) c h e
+      flowing-take {r} {m′} w z = go (taken (takeOne f p (F .known)) (takeIn f p m) r m′ w alike)
         where
           go : Took (takeOne f p (F .known)) r m′ → Flowing f m′ table k (after f p) c h e
           go (inr y) = absurd (y .1 z)
@@ -421,9 +418,9 @@ module _ (f m₀ table : List ℕ) (k : ℕ) (B : Begun f m₀ table k) where
           let y2 : suc (suc (suc (3 * q))) + 2 ≡ suc (suc (suc (3 * q + 2))) = omega arith in
           rw (y0, y1, y2, x) at (h (suc q) (omega arith))
 
-  pub flowing-end : (m : List ℕ) (p c h e : ℕ) → Flowing f m table k p c h e → length f ≤ p → Flowed f m k (Pass k)
+  pub flowing-end : {m : List ℕ} {p c h e : ℕ} → Flowing f m table k p c h e → length f ≤ p → Flowed f m k (Pass k)
   unfolding takeAll
-  flowing-end m p c h e F l =
+  flowing-end {m} {p} F l =
       let w : starts (F .rest) ≡ starts [] = sym (F .rest-is) ∙ rest-end f p l in
       let z : F .rest ≡ [] = cc in
       let done : flow f ≡ passed (F .known) = F .so-far ∙ ap (λ (r : List ℕ). takeAll f (ins f r) (F .known)) z in

@@ -163,27 +163,35 @@ pub behind-first : (f m table : List ℕ) → byteAt f 0 ≡ headKind → table 
 behind-first f m table h t = record { long = refl; here = λ l. going-first f m table h t; cut = λ l. absurd (omega arith) }
 
 -- the record at p as the code yields it: b is the body's length
-module _ {f m₀ m table : List ℕ} {p k last b : ℕ} (G : ScanAt f m₀ m table p k last) (h : p < length f) (is : b ≡ bodyOf (getD f p 0)) where
+pub record RecordAt (f m₀ m table : List ℕ) (p k last b : ℕ) : Type 0 where
+  pub scan : ScanAt f m₀ m table p k last
+  pub inside : p < length f
+  pub is : b ≡ bodyOf (getD f p 0)
+
+module _ {f m₀ m table : List ℕ} {p k last b : ℕ} (R : RecordAt f m₀ m table p k last b) where
+  G : ScanAt f m₀ m table p k last
+  G = R .scan
+
   going-broken : (m′ table′ : List ℕ) → length m′ ≡ length m₀ → whole? f p ≡ false → Scanned f m₀ m′ table′ (Broken p)
-  going-broken m′ table′ l w = record { long = l; comes = G .first ∙ G .broke p (rest-broken f p h w) }
+  going-broken m′ table′ l w = record { long = l; comes = G .first ∙ G .broke p (rest-broken f p (R .inside) w) }
 
   pub scan-unknown : b ≡ 255 → Scanned f m₀ m table (Broken p)
-  scan-unknown e = going-broken m table (G .long) (whole-unknown f p (sym is ∙ e))
+  scan-unknown e = going-broken m table (G .long) (whole-unknown f p (sym (R .is) ∙ e))
 
   pub head-body : getD f p 0 ≡ headKind → b ≡ 6
   unfolding bodyOf bodies
-  head-body z = is ∙ ap bodyOf z
+  head-body z = R .is ∙ ap bodyOf z
 
   module _ {q : ℕ} (u : b ≡ 255 → ⊥) (q-is : q ≡ p + 1 + b) where
     here : after f p ≡ q
     unfolding after
-    here = rw (← is) (sym q-is)
+    here = rw (← R .is) (sym q-is)
 
     cut-here : (m′ table′ : List ℕ) → length m′ ≡ length m₀ → length f < q → Scanned f m₀ m′ table′ (Broken p)
     cut-here m′ table′ e l = going-broken m′ table′ e (whole-cut f p (rw here l))
 
     goes-on : q ≤ length f → restOf f p ≡ more p (restOf f q)
-    goes-on l = rest-more f p h (whole-yes f p (λ z. u (is ∙ z)) (rw here l)) ∙ ap (λ (r : ℕ). more p (restOf f r)) here
+    goes-on l = rest-more f p (R .inside) (whole-yes f p (λ z. u (R .is ∙ z)) (rw here l)) ∙ ap (λ (r : ℕ). more p (restOf f r)) here
 
     pub scan-mark : {m′ : List ℕ} → (getD f p 0 ≡ headKind → ⊥) → m′ ≡ set m (3 * p) unreached → Behind f m₀ m′ table q k last p
     unfolding marked isHead

@@ -31,6 +31,9 @@ pub record SameLengths (m m₀ : Machine) : Type 0 where
   pub ctl : length (m .ctl) ≡ length (m₀ .ctl)
   pub heap : length (m .heap) ≡ length (m₀ .heap)
 
+pub alike-trans : {m m′ m″ : Machine} → SameLengths m″ m′ → SameLengths m′ m → SameLengths m″ m
+alike-trans a b = record { main = a .main ∙ b .main; ptr = a .ptr ∙ b .ptr; ctl = a .ctl ∙ b .ctl; heap = a .heap ∙ b .heap }
+
 abbrev pub pausedAt : Plan → Regs → ℕ → Pause
 pausedAt p r n = record { plan = p; regs = r; left = n }
 
@@ -62,9 +65,9 @@ stopped-late f m put e L = record { is = e; late = λ put′ u. subst (λ (p : P
     write-one : (p q : Put) → Write p ≡ Write q → p ≡ q
     write-one p q u = cc
 
-module _ (f table : List ℕ) where
-  pub going-start : (n : ℕ) (m : Machine) → Runs f table m → Going f table n m n m
-  going-start n m R =
+module _ {f table : List ℕ} where
+  pub going-start : {n : ℕ} {m : Machine} → Runs f table m → Going f table n m n m
+  going-start {n} {m} R =
       record {
         less = omega arith;
         same = λ k. let e : k ≡ k + (n - n) = omega arith in ap (λ (i : ℕ). runOn f n i m) e;
@@ -72,9 +75,8 @@ module _ (f table : List ℕ) where
         alike = record { main = refl; ptr = refl; ctl = refl; heap = refl };
       }
 
-  pub going-trans : (n : ℕ) (m : Machine) (n′ : ℕ) (m′ : Machine) (n″ : ℕ) (m″ : Machine) → Going f table n m n′ m′ →
-      Going f table n′ m′ n″ m″ → Going f table n m n″ m″
-  going-trans n m n′ m′ n″ m″ G H =
+  pub going-trans : {n n′ n″ : ℕ} {m m′ m″ : Machine} → Going f table n m n′ m′ → Going f table n′ m′ n″ m″ → Going f table n m n″ m″
+  going-trans {n} {n′} {n″} {m″ = m″} G H =
       let a = G .less in
       let b = H .less in
       record {
@@ -83,31 +85,28 @@ module _ (f table : List ℕ) where
             λ k. let e : k + (n - n′) + (n′ - n″) ≡ k + (n - n″) = omega arith in
             G .same k ∙ H .same (k + (n - n′)) ∙ ap (λ (i : ℕ). runOn f n″ i m″) e;
         runs = H .runs;
-        alike =
-            record {
-              main = H .alike .main ∙ G .alike .main;
-              ptr = H .alike .ptr ∙ G .alike .ptr;
-              ctl = H .alike .ctl ∙ G .alike .ctl;
-              heap = H .alike .heap ∙ G .alike .heap;
-            };
+        alike = alike-trans (H .alike) (G .alike);
       }
 
-  -- one step further: one step less is left
-  module _ (n : ℕ) (m : Machine) (R : Runs f table m) (some : 0 < n) (on? : m .regs .state ≡ 1 → ⊥) where
-    left : n ≡ suc (n - 1)
-    left = omega arith
+  -- steps before a pause
+  pub paused-from : {n n′ n″ : ℕ} {m m′ m″ : Machine} {plan : Plan} → Going f table n m n′ m′ → Paused f table n′ m′ n″ m″ plan → Paused f table n m n″ m″ plan
+  paused-from G P = record { going = going-trans G (P .going); on? = P .on?; stopped = P .stopped }
 
-    pub stepped : (m′ : Machine) → step f m ≡ next m′ → SameLengths m′ m → Going f table n m (n - 1) m′
-    unfolding runOn
-    stepped m′ w a =
-        record {
-          less = omega arith;
-          same =
-              λ k. let e : suc k ≡ k + (n - (n - 1)) = omega arith in
-              ap (λ (i : ℕ). runOn f i k m) left ∙ rw (ne-eqb (m .regs .state) 1 on?, w) (ap (λ (i : ℕ). runOn f (n - 1) i m′) e);
-          runs = record { map = R .map; alive = alive-step (R .alive) on? w };
-          alike = a;
-        }
+  -- one step further: one step less is left
+  pub going-step : {n₀ n : ℕ} {m₀ m m′ : Machine} → Going f table n₀ m₀ n m → 0 < n → (m .regs .state ≡ 1 → ⊥) → step f m ≡ next m′ → SameLengths m′ m →
+      Going f table n₀ m₀ (n - 1) m′
+  unfolding runOn
+  going-step {n = n} {m = m} {m′} G some on? w a =
+      let left : n ≡ suc (n - 1) = omega arith in
+      let R = G .runs in
+      going-trans G (record {
+        less = omega arith;
+        same =
+            λ k. let e : suc k ≡ k + (n - (n - 1)) = omega arith in
+            ap (λ (i : ℕ). runOn f i k m) left ∙ rw (ne-eqb (m .regs .state) 1 on?, w) (ap (λ (i : ℕ). runOn f (n - 1) i m′) e);
+        runs = record { map = R .map; alive = alive-step (R .alive) on? w };
+        alike = a;
+      })
 
 -- a plan's write was done, which is a step; or it was not, and all is as it was
 module _ {f table : List ℕ} {n₀ n : ℕ} {m₀ m : Machine} (G : Going f table n₀ m₀ n m) (on? : m .regs .state ≡ 1 → ⊥)
@@ -115,9 +114,7 @@ module _ {f table : List ℕ} {n₀ n : ℕ} {m₀ m : Machine} (G : Going f tab
   pub going-applied : 0 < n → b ≡ true → m′ ≡ appliedIf b f put m → SameLengths m′ m → Going f table n₀ m₀ (n - 1) m′
   unfolding settle
   going-applied some d a l =
-      let R = G .runs in
-      going-trans f table n₀ m₀ n m (n - 1) m′ G
-      (stepped f table n m R some on? m′ (sym (alive-plan (R .alive) on?) ∙ rw (← e) (ap next (sym (rw d at a)))) l)
+      going-step G some on? (sym (alive-plan (G .runs .alive) on?) ∙ rw (← e) (ap next (sym (rw d at a)))) l
 
   pub paused-late : {r : Regs} → m′ .regs ≡ m .regs → b ≡ false → setRegs r m′ ≡ appliedIf b f put m → (b ≡ false → Late (put .into) (m .regs)) →
       Paused f table n₀ m₀ n m′ (Write put)

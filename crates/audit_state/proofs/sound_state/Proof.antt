@@ -3,7 +3,6 @@ use mathlib.Core.Path.{sym, _∙_}
 use native.Mathlib.Omega.{arith}
 use borrow.Author.Tests.{not-true, not-false}
 use borrow.Author.Needs.{needs}
-use Rattle.model.specs.Control.{Machine}
 use Rattle.audit_places.specs.Places.{some-proc}
 use Rattle.audit_state.specs.Audit.{tops-room, sound-done, sound-undone, sound-tops, sound-records, sound-rest}
 use Rattle.audit_state.proofs.sound_state.Statement.{statement}
@@ -21,12 +20,12 @@ words-right-requires c κs = search needs
 returns : tie.Need-returns
 returns c =
     let done = sym (c .before .before .done-right .ensures) ∙ c .before .if2 .taken in
-    λ heap K. sound-done _ _ _ (c .before .before .before .before .if1 .taken) _ (c .before .before .before .head-of .ensures) _ done (c .words-right .ensures heap K)
+    λ heap K. sound-done _ _ _ (c .before .before .before .before .if1 .taken) (c .before .before .before .head-of .ensures) done (c .words-right .ensures heap K)
 
 returns-2 : tie.Need-returns-2
 returns-2 c =
     let undone = sym (c .before .done-right .ensures) ∙ c .if2 .left in
-    λ heap K. sound-undone _ _ _ (c .before .before .before .if1 .taken) _ (c .before .before .head-of .ensures) undone
+    λ heap K. sound-undone _ _ _ (c .before .before .before .if1 .taken) (c .before .before .head-of .ensures) undone
 
 tops-right-requires : tie.Need-tops-right-requires
 tops-right-requires c κs = search needs
@@ -46,25 +45,21 @@ records-right-requires c κs =
 
 returns-4 : tie.Need-returns-4
 returns-4 c =
-    let tops = sym (c .before .before .before .before .before .tops-right .ensures) ∙ not-false _ (c .before .before .before .before .if3 .left) in
-    let top = c .before .before .top-frame in
-    let a = c .before .before .before .before .before .before .before .before .before .before .before .before .before .before .args in
-    λ heap K.
-    let m : Machine = record { regs = a .regs; main = a .main .now; ptr = a .ptr .now; ctl = a .ctl .now; heap = heap } in
-    sound-records _ _ m (c .before .before .before .before .before .before .if1 .left) tops (top .result) (top .ensures .0 m) _ (c .before .records-right .ensures) (not-true _ (c .if4 .taken))
+    let at-if3 = c .before .before .before .before in
+    let tops = sym (at-if3 .before .tops-right .ensures) ∙ not-false _ (at-if3 .if3 .left) in
+    λ heap K. sound-records _ _ _ (at-if3 .before .before .if1 .left) tops (c .before .before .top-frame .ensures .0) (c .before .records-right .ensures) (not-true _ (c .if4 .taken))
 
 words-right-requires-2 : tie.Need-words-right-requires-2
 words-right-requires-2 c κs = search needs
 
 returns-5 : tie.Need-returns-5
 returns-5 c =
-    let tops = sym (c .before .before .before .before .before .before .tops-right .ensures) ∙ not-false _ (c .before .before .before .before .before .if3 .left) in
-    let top = c .before .before .before .top-frame in
-    let a = c .before .before .before .before .before .before .before .before .before .before .before .before .before .before .before .args in
+    let at-if4 = c .before in
+    let at-if3 = at-if4 .before .before .before .before in
+    let tops = sym (at-if3 .before .tops-right .ensures) ∙ not-false _ (at-if3 .if3 .left) in
     λ heap K.
-    let m : Machine = record { regs = a .regs; main = a .main .now; ptr = a .ptr .now; ctl = a .ctl .now; heap = heap } in
-    sound-rest _ _ m (c .before .before .before .before .before .before .before .if1 .left) tops (top .result) (top .ensures .0 m) _ (c .before .before .records-right .ensures) _
-    (not-false _ (c .before .if4 .left)) (c .words-right2 .ensures heap K)
+    sound-rest _ _ _ (at-if3 .before .before .if1 .left) tops (at-if4 .before .before .top-frame .ensures .0) (at-if4 .before .records-right .ensures) (not-false _ (at-if4 .if4 .left))
+    (c .words-right2 .ensures heap K)
 
 pub sound-state-spec : {M : Type 1} → statement M
 sound-state-spec =

@@ -1,4 +1,6 @@
 -- One test after the other; the pointers below the top are read once those above it are known to be nil.
+use Prim.Native.Nat.{ℕ}
+use mathlib.Core.List.{List}
 use mathlib.Core.Path.{sym, _∙_}
 use borrow.Author.Tests.{not-true, not-false}
 use borrow.Author.Needs.{needs}
@@ -9,35 +11,33 @@ use Rattle.audit_state.specs.Audit.{rest-last}
 use Rattle.audit_state.proofs.words_right.Statement.{statement}
 use Rattle.audit_state.proofs.words_right.Tie as tie
 
+-- the state, with a heap
+abbrev state : tie.Start → List ℕ → Machine
+state S heap = let a = S .args in record { regs = a .regs; main = a .main .now; ptr = a .ptr .now; ctl = a .ctl .now; heap = heap }
+
 zeros-from-requires : tie.Need-zeros-from-requires
 zeros-from-requires c κs = search needs
 
 returns : tie.Need-returns
 returns c =
-    let a = c .before .before .before .before .before .before .args in
-    λ heap K.
-    let m : Machine = record { regs = a .regs; main = a .main .now; ptr = a .ptr .now; ctl = a .ctl .now; heap = heap } in
-    fails-all 0 (stackTests m) (sym (c .before .zeros-from .ensures) ∙ not-true _ (c .if1 .taken))
+    let S = c .before .before .before .before .before .before in
+    λ heap K. fails-all 0 (stackTests (state S heap)) (sym (c .before .zeros-from .ensures) ∙ not-true _ (c .if1 .taken))
 
 zeros-from-requires-2 : tie.Need-zeros-from-requires-2
 zeros-from-requires-2 c κs = search needs
 
 returns-2 : tie.Need-returns-2
 returns-2 c =
-    let a = c .before .before .before .before .before .before .before .before .args in
-    λ heap K.
-    let m : Machine = record { regs = a .regs; main = a .main .now; ptr = a .ptr .now; ctl = a .ctl .now; heap = heap } in
-    fails-all 1 (stackTests m) (sym (c .before .zeros-from2 .ensures) ∙ not-true _ (c .if2 .taken))
+    let S = c .before .before .before .before .before .before .before .before in
+    λ heap K. fails-all 1 (stackTests (state S heap)) (sym (c .before .zeros-from2 .ensures) ∙ not-true _ (c .if2 .taken))
 
 zeros-from-requires-3 : tie.Need-zeros-from-requires-3
 zeros-from-requires-3 c κs = search needs
 
 returns-3 : tie.Need-returns-3
 returns-3 c =
-    let a = c .before .before .before .before .before .before .before .before .before .before .args in
-    λ heap K.
-    let m : Machine = record { regs = a .regs; main = a .main .now; ptr = a .ptr .now; ctl = a .ctl .now; heap = heap } in
-    fails-all 2 (stackTests m) (sym (c .before .zeros-from3 .ensures) ∙ not-true _ (c .if3 .taken))
+    let S = c .before .before .before .before .before .before .before .before .before .before in
+    λ heap K. fails-all 2 (stackTests (state S heap)) (sym (c .before .zeros-from3 .ensures) ∙ not-true _ (c .if3 .taken))
 
 audit-pointers-requires : tie.Need-audit-pointers-requires
 audit-pointers-requires c κs = search needs
@@ -47,11 +47,8 @@ returns-4 c =
     let c₃ = c .before in
     let c₂ = c₃ .before .before in
     let c₁ = c₂ .before .before in
-    let a = c₁ .before .before .before .before .before .before .args in
     let above = sym (c₂ .before .zeros-from2 .ensures) ∙ not-false _ (c₂ .if2 .left) in
-    λ heap K.
-    let m : Machine = record { regs = a .regs; main = a .main .now; ptr = a .ptr .now; ctl = a .ctl .now; heap = heap } in
-    rest-last m _ (sym (c₁ .before .zeros-from .ensures) ∙ not-false _ (c₁ .if1 .left)) above
+    λ heap K. rest-last (state (c₁ .before .before .before .before .before .before) heap) (sym (c₁ .before .zeros-from .ensures) ∙ not-false _ (c₁ .if1 .left)) above
     (sym (c₃ .before .zeros-from3 .ensures) ∙ not-false _ (c₃ .if3 .left)) (c .audit-pointers .ensures _ K above)
 
 pub words-right-spec : {M : Type 1} → statement M

@@ -17,70 +17,59 @@ abbrev μ-loop : tie.MeasureT-loop
 μ-loop file m₀ table k n p₀ c₀ head₀ limits₀ m p c head limits = length file - p
 
 limits-of-requires : tie.Need-limits-of-requires Inv-loop μ-loop
-limits-of-requires c κs = let a = c .before .before .args in begun-whole (a .file .now) (a .m .now) (a .table .now) (a .k) (c .before .before .pre)
+limits-of-requires c κs = begun-whole (c .before .before .pre)
 
 loop-holds : tie.Need-loop-holds Inv-loop μ-loop
 loop-holds c =
-    let entry = c .before .before .before in
-    let a = entry .args in
-    (refl, rw (c .limits-of .ensures .0) (flowing-start (a .file .now) (a .m .now) (a .table .now) (a .k) (entry .pre)), c .limits-of .ensures .1)
+    let L = c .limits-of .ensures in
+    (refl, rw (L .0) (flowing-start (c .before .before .before .pre)), L .1)
 
 shared-slice-read-kind : tie.Need-shared-slice-read-kind Inv-loop μ-loop
 shared-slice-read-kind c = omega arith
 
 add-c : tie.Need-add-c Inv-loop μ-loop
 add-c c =
-    let entry = c .before .before .before .before .before .before .before in
-    let w = c .before .before .before .loop .inv .1 .most-c in let v = entry .pre .placed .count in let u = entry .pre .placed .few in omega arith
+    let placed = c .before .before .before .before .before .before .before .pre .placed in
+    omega (arith, c .before .before .before .loop .inv .1 .most-c, placed .count, placed .few)
 
 end-of-requires : tie.Need-end-of-requires Inv-loop μ-loop
-end-of-requires c κs =
-    let entry = c .before .before .before .before .before .before .before in
-    (entry .pre .placed .few)
+end-of-requires c κs = c .before .before .before .before .before .before .before .pre .placed .few
 
 limits-of-requires-2 : tie.Need-limits-of-requires-2 Inv-loop μ-loop
 limits-of-requires-2 c κs =
-    let entry = c .before .before .before .before .before .before .before .before in
-    let a = entry .args in
-    let o = c .before .before .before .before .loop in
-    let w = flowing-inside (a .file .now) (a .m .now) (a .table .now) (a .k) (entry .pre) (o .m) (o .p) (o .c) (o .head) (o .limits .end) (o .inv .1) (omega arith) in
-    let z = after-head (a .file .now) (o .p) (c .before .if1 .taken) in
-    omega arith
+    let at-loop = c .before .before .before .before in
+    let entry = at-loop .before .before .before .before in
+    let o = at-loop .loop in
+    omega (arith, flowing-inside (entry .pre) (o .inv .1) (omega arith), after-head (entry .args .file .now) (o .p) (c .before .if1 .taken))
 
 add-p : tie.Need-add-p Inv-loop μ-loop
-add-p c =
-    let entry = c .before .before .before .before .before .before .before .before .before in
-    let b = entry .pre .few in omega arith
+add-p c = omega (arith, c .before .before .before .before .before .before .before .before .before .pre .few)
 
 loop-less : tie.Need-loop-less Inv-loop μ-loop
 loop-less c = omega arith
 
 loop-again : tie.Need-loop-again Inv-loop μ-loop
 loop-again c =
-    let at-loop = c .before .before .before .before .before in
+    let at-if1 = c .before .before in
+    let at-loop = at-if1 .before .before .before in
     let entry = at-loop .before .before .before .before in
-    let a = entry .args in
-    let o = at-loop .loop in (
+    let o = at-loop .loop in
+    let L = c .limits-of2 .ensures in (
       o .inv .0,
-      rw (c .limits-of2 .ensures .0, sym (after-head (a .file .now) (o .p) (c .before .before .if1 .taken)))
-          (flowing-head (a .file .now) (a .m .now) (a .table .now) (a .k) (entry .pre) (o .m) (o .p) (o .c) (o .head) (o .limits .end) (o .inv .1)
-          (omega arith) (c .before .before .if1 .taken) _ (c .before .end-of .ensures)),
-      (c .limits-of2 .ensures .1),
+      rw (L .0, sym (after-head (entry .args .file .now) (o .p) (at-if1 .if1 .taken)))
+          (flowing-head (entry .pre) (o .inv .1) (omega arith) (at-if1 .if1 .taken) (c .before .end-of .ensures)),
+      L .1,
     )
 
 take-requires : tie.Need-take-requires Inv-loop μ-loop
 take-requires c κs =
-    let entry = c .before .before .before .before .before .before .before .before in
-    let a = entry .args in
-    let o = c .before .before .before .before .loop in (
-      begun-table (a .file .now) (a .m .now) (a .table .now) (a .k) (entry .pre),
-      record {
-        here = flowing-here (a .file .now) (a .m .now) (a .table .now) (a .k) (entry .pre) (o .m) (o .p) (o .c) (o .head) (o .limits .end) (o .inv .1)
-            (omega arith) (c .before .if1 .left);
-        bounds = o .inv .2;
-        kind-is = refl;
-      },
-      (c .before .if1 .left),
+    let at-if1 = c .before in
+    let at-loop = at-if1 .before .before .before in
+    let entry = at-loop .before .before .before .before in
+    let I = at-loop .loop .inv in (
+      begun-table (entry .pre),
+      record { here = flowing-here (entry .pre) (I .1) (omega arith) (at-if1 .if1 .left); bounds = I .2; kind-is = refl },
+      at-if1 .if1 .left,
     )
 
 same-length : tie.Need-same-length Inv-loop μ-loop
@@ -95,10 +84,8 @@ returns c =
     let at-if1 = at-take .before .before in
     let at-loop = at-if1 .before .before .before in
     let entry = at-loop .before .before .before .before in
-    let a = entry .args in
-    let o = at-loop .loop in
-    flowing-fault (a .file .now) (a .m .now) (a .table .now) (a .k) (entry .pre) (o .m) (o .p) (o .c) (o .head) (o .limits .end) (o .inv .1)
-    (omega arith) (at-if1 .if1 .left) _ (at-take .take .last .1 .1 .0) (at-take .take .ensures .is) (c .if2 .taken)
+    let T = at-take .take in
+    flowing-fault (entry .pre) (at-loop .loop .inv .1) (omega arith) (at-if1 .if1 .left) (T .last .1 .1 .0) (T .ensures .is) (c .if2 .taken)
 
 loop-less-2 : tie.Need-loop-less-2 Inv-loop μ-loop
 loop-less-2 c =
@@ -112,14 +99,9 @@ loop-again-2 c =
     let at-if1 = at-take .before .before in
     let at-loop = at-if1 .before .before .before in
     let entry = at-loop .before .before .before .before in
-    let a = entry .args in
-    let o = at-loop .loop in (
-      o .inv .0,
-      rw ((at-take .take .ensures .on) (c .if2 .left))
-          (flowing-take (a .file .now) (a .m .now) (a .table .now) (a .k) (entry .pre) (o .m) (o .p) (o .c) (o .head) (o .limits .end) (o .inv .1)
-          (omega arith) (at-if1 .if1 .left) _ (at-take .take .last .1 .1 .0) (at-take .take .ensures .is) (c .if2 .left)),
-      o .inv .2,
-    )
+    let I = at-loop .loop .inv in
+    let T = at-take .take .ensures in
+    (I .0, rw (T .on (c .if2 .left)) (flowing-take (entry .pre) (I .1) (omega arith) (at-if1 .if1 .left) (T .is) (c .if2 .left)), I .2)
 
 same-length-2 : tie.Need-same-length-2 Inv-loop μ-loop
 same-length-2 c =
@@ -129,9 +111,7 @@ same-length-2 c =
 returns-2 : tie.Need-returns-2 Inv-loop μ-loop
 returns-2 c =
     let entry = c .before .before .before .before .before in
-    let a = entry .args in
-    let o = c .before .loop in
-    flowing-end (a .file .now) (a .m .now) (a .table .now) (a .k) (entry .pre) (o .m) (o .p) (o .c) (o .head) (o .limits .end) (o .inv .1) (omega arith)
+    flowing-end (entry .pre) (c .before .loop .inv .1) (omega arith)
 
 pub flow-spec : {M : Type 1} → statement M
 flow-spec =

@@ -14,14 +14,15 @@ Inv-loop file m₀ table n last size k₀ m k = (size ≡ length file) × Headin
 abbrev μ-loop : tie.MeasureT-loop
 μ-loop file m₀ table n last size k₀ m k = n - k
 
+-- the map keeps its length
+long-at : (c : tie.At-loop Inv-loop μ-loop) → let S = c .before .before .before in length (c .loop .m) ≡ length (S .args .m .now)
+long-at c = let S = c .before .before .before in c .loop .inv .1 .shows .long ∙ sym (S .pre .shows .long)
+
 loop-holds : tie.Need-loop-holds Inv-loop μ-loop
 loop-holds c = (refl, heading-start (c .before .before .pre))
 
 same-length : tie.Need-same-length Inv-loop μ-loop
-same-length c =
-    let at-loop = c .before .before in
-    let entry = at-loop .before .before .before in
-    at-loop .loop .inv .1 .shows .long ∙ sym (entry .pre .shows .long)
+same-length c = long-at (c .before .before)
 
 returns : tie.Need-returns Inv-loop μ-loop
 returns c =
@@ -38,10 +39,8 @@ element-copy-out-p c = omega arith
 add-follows : tie.Need-add-follows Inv-loop μ-loop
 add-follows c =
     let at-loop = c .before .before .before .before in
-    let entry = at-loop .before .before .before in
-    let w = heading-whole (entry .pre) (at-loop .loop .inv .1) (omega arith) refl (omega arith) in
-    let g = entry .pre .few in
-    omega (arith, w, g)
+    let M = at-loop .before .before .before .pre in
+    omega (arith, heading-whole M (at-loop .loop .inv .1) (omega arith) refl (omega arith), M .few)
 
 follows-requires : tie.Need-follows-requires Inv-loop μ-loop
 follows-requires c κs =
@@ -86,10 +85,7 @@ loop-again c =
     )
 
 same-length-2 : tie.Need-same-length-2 Inv-loop μ-loop
-same-length-2 c =
-    let at-loop = c .before .before .before .before .before .before .before .before .before in
-    let entry = at-loop .before .before .before in
-    at-loop .loop .inv .1 .shows .long ∙ sym (entry .pre .shows .long)
+same-length-2 c = long-at (c .before .before .before .before .before .before .before .before .before)
 
 returns-2 : tie.Need-returns-2 Inv-loop μ-loop
 returns-2 c =
@@ -100,10 +96,7 @@ returns-2 c =
     (c .before .before .head-at .ensures) (c .before .head-right .ensures) (c .if3 .left)
 
 same-length-3 : tie.Need-same-length-3 Inv-loop μ-loop
-same-length-3 c =
-    let at-loop = c .before .before .before .before .before .before in
-    let entry = at-loop .before .before .before in
-    at-loop .loop .inv .1 .shows .long ∙ sym (entry .pre .shows .long)
+same-length-3 c = long-at (c .before .before .before .before .before .before)
 
 returns-3 : tie.Need-returns-3 Inv-loop μ-loop
 returns-3 c =
@@ -113,10 +106,7 @@ returns-3 c =
     heading-alone (entry .pre) (at-loop .loop .inv .1) (omega arith) refl (omega arith) (at-follows .follows .ensures) (c .if2 .left)
 
 same-length-4 : tie.Need-same-length-4 Inv-loop μ-loop
-same-length-4 c =
-    let at-loop = c .before in
-    let entry = at-loop .before .before .before in
-    at-loop .loop .inv .1 .shows .long ∙ sym (entry .pre .shows .long)
+same-length-4 c = long-at (c .before)
 
 returns-4 : tie.Need-returns-4 Inv-loop μ-loop
 returns-4 c =

@@ -5,7 +5,7 @@ use Prim.Native.Nat.{_-_}
 use native.Mathlib.Omega.{arith}
 use lib.ListN.{length}
 use borrow.Author.Needs.{needs}
-use Rattle.check_scan.specs.Scanning.{Behind, behind-first, scanned-end, head-body, scan-unknown, scan-short, scan-mark, scan-head, scanned-other}
+use Rattle.check_scan.specs.Scanning.{Behind, RecordAt, behind-first, scanned-end, head-body, scan-unknown, scan-short, scan-mark, scan-head, scanned-other}
 use Rattle.check_scan.proofs.scan.Statement.{statement}
 use Rattle.check_scan.proofs.scan.Tie as tie
 
@@ -35,6 +35,13 @@ shared-slice-read-kind c = omega arith
 body-requires : tie.Need-body-requires Inv-loop μ-loop
 body-requires c κs = c .before .before .before .before .bodies .ensures
 
+-- behind `body`: the record at p
+record-at : (c : tie.After-body Inv-loop μ-loop) →
+    let A = c .before .before .before .before .before .before .before .before .before .before .args in
+    let L = c .before .before .before .before .loop in
+    RecordAt (A .file .now) (A .m .now) (L .m) (L .table) (L .p) (L .k) (L .last) (c .body .result)
+record-at c = record { scan = c .before .before .before .before .loop .inv .1 .here (omega arith); inside = omega arith; is = c .body .ensures .is }
+
 mark-requires : tie.Need-mark-requires Inv-loop μ-loop
 mark-requires c κs = (omega arith, omega arith, omega arith)
 
@@ -42,10 +49,7 @@ loop-less : tie.Need-loop-less Inv-loop μ-loop
 loop-less c = omega arith
 
 loop-again : tie.Need-loop-again Inv-loop μ-loop
-loop-again c =
-    let at-body = c .before .before .before .before .before in
-    let at-loop = at-body .before .before .before .before in
-    (refl, scan-short (at-loop .loop .inv .1 .here (omega arith)) (omega arith) (at-body .body .ensures .is) (omega arith) (omega arith) (c .before .before .mark .ensures .0))
+loop-again c = (refl, scan-short (record-at (c .before .before .before .before .before)) (omega arith) (omega arith) (c .before .before .mark .ensures .0))
 
 mark-requires-2 : tie.Need-mark-requires-2 Inv-loop μ-loop
 mark-requires-2 c κs = (omega arith, omega arith, omega arith)
@@ -54,10 +58,7 @@ loop-less-2 : tie.Need-loop-less-2 Inv-loop μ-loop
 loop-less-2 c = omega arith
 
 loop-again-2 : tie.Need-loop-again-2 Inv-loop μ-loop
-loop-again-2 c =
-    let at-body = c .before .before .before .before .before .before in
-    let at-loop = at-body .before .before .before .before in
-    (refl, scan-short (at-loop .loop .inv .1 .here (omega arith)) (omega arith) (at-body .body .ensures .is) (omega arith) (omega arith) (c .before .before .mark2 .ensures .0))
+loop-again-2 c = (refl, scan-short (record-at (c .before .before .before .before .before .before)) (omega arith) (omega arith) (c .before .before .mark2 .ensures .0))
 
 mark-requires-3 : tie.Need-mark-requires-3 Inv-loop μ-loop
 mark-requires-3 c κs = (omega arith, omega arith, omega arith)
@@ -66,10 +67,7 @@ loop-less-3 : tie.Need-loop-less-3 Inv-loop μ-loop
 loop-less-3 c = omega arith
 
 loop-again-3 : tie.Need-loop-again-3 Inv-loop μ-loop
-loop-again-3 c =
-    let at-body = c .before .before .before .before .before .before .before in
-    let at-loop = at-body .before .before .before .before in
-    (refl, scan-short (at-loop .loop .inv .1 .here (omega arith)) (omega arith) (at-body .body .ensures .is) (omega arith) (omega arith) (c .before .before .mark3 .ensures .0))
+loop-again-3 c = (refl, scan-short (record-at (c .before .before .before .before .before .before .before)) (omega arith) (omega arith) (c .before .before .mark3 .ensures .0))
 
 mark-requires-4 : tie.Need-mark-requires-4 Inv-loop μ-loop
 mark-requires-4 c κs = (omega arith, omega arith, omega arith)
@@ -78,19 +76,13 @@ loop-less-4 : tie.Need-loop-less-4 Inv-loop μ-loop
 loop-less-4 c = omega arith
 
 loop-again-4 : tie.Need-loop-again-4 Inv-loop μ-loop
-loop-again-4 c =
-    let at-body = c .before .before .before .before .before .before .before .before in
-    let at-loop = at-body .before .before .before .before in
-    (refl, scan-short (at-loop .loop .inv .1 .here (omega arith)) (omega arith) (at-body .body .ensures .is) (omega arith) (omega arith) (c .before .before .mark4 .ensures .0))
+loop-again-4 c = (refl, scan-short (record-at (c .before .before .before .before .before .before .before .before)) (omega arith) (omega arith) (c .before .before .mark4 .ensures .0))
 
 list-requires : tie.Need-list-requires Inv-loop μ-loop
 list-requires c κs = search needs
 
 add-k : tie.Need-add-k Inv-loop μ-loop
-add-k c =
-    let at-loop = c .before .before .before .before .before .before .before .before .before .before .before in
-    let w = at-loop .loop .inv .1 .here (omega arith) .few in
-    omega arith
+add-k c = omega (arith, record-at (c .before .before .before .before .before .before .before) .scan .few)
 
 add-p : tie.Need-add-p Inv-loop μ-loop
 add-p c = omega arith
@@ -100,22 +92,16 @@ loop-less-5 c = omega arith
 
 loop-again-5 : tie.Need-loop-again-5 Inv-loop μ-loop
 loop-again-5 c =
-    let at-body = c .before .before .before .before .before .before .before in
-    let at-loop = at-body .before .before .before .before in
+    let R = record-at (c .before .before .before .before .before .before .before) in
     let is-head = c .before .before .if6 .taken in
-    let size = head-body (at-loop .loop .inv .1 .here (omega arith)) (omega arith) (at-body .body .ensures .is) is-head in
-    (refl, scan-head (at-loop .loop .inv .1 .here (omega arith)) (omega arith) (at-body .body .ensures .is) (λ z. omega arith) (omega arith) is-head (c .list .ensures .0) (c .list .ensures .1))
+    let size = head-body R is-head in
+    (refl, scan-head R (λ z. omega arith) (omega arith) is-head (c .list .ensures .0) (c .list .ensures .1))
 
 same-length : tie.Need-same-length Inv-loop μ-loop
-same-length c =
-    let at-loop = c .before .before .before .before .before .before .before .before .before .before in
-    at-loop .loop .inv .1 .long
+same-length c = c .before .before .before .before .before .before .before .before .before .before .loop .inv .1 .long
 
 returns-2 : tie.Need-returns-2 Inv-loop μ-loop
-returns-2 c =
-    let at-body = c .before .before .before .before .before .before in
-    let at-loop = at-body .before .before .before .before in
-    scan-unknown (at-loop .loop .inv .1 .here (omega arith)) (omega arith) (at-body .body .ensures .is) (c .if7 .taken)
+returns-2 c = scan-unknown (record-at (c .before .before .before .before .before .before)) (c .if7 .taken)
 
 mark-requires-5 : tie.Need-mark-requires-5 Inv-loop μ-loop
 mark-requires-5 c κs = (omega arith, omega arith, omega arith)
@@ -125,12 +111,8 @@ loop-less-6 c = omega arith
 
 loop-again-6 : tie.Need-loop-again-6 Inv-loop μ-loop
 loop-again-6 c =
-    let at-body = c .before .before .before .before .before .before .before .before .before .before in
-    let at-loop = at-body .before .before .before .before in (
-      refl,
-      scan-mark (at-loop .loop .inv .1 .here (omega arith)) (omega arith) (at-body .body .ensures .is) (c .before .before .before .before .if7 .left) (omega arith)
-          (c .before .before .before .before .before .if6 .left) (c .before .before .mark5 .ensures .0),
-    )
+    let at-if7 = c .before .before .before .before in
+    (refl, scan-mark (record-at (at-if7 .before .before .before .before .before .before)) (at-if7 .if7 .left) (omega arith) (at-if7 .before .if6 .left) (c .before .before .mark5 .ensures .0))
 
 same-length-2 : tie.Need-same-length-2 Inv-loop μ-loop
 same-length-2 c = c .before .before .loop .inv .1 .long

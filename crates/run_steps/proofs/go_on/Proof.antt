@@ -20,7 +20,7 @@ abbrev μ-loop : tie.MeasureT-loop
 loop-holds : tie.Need-loop-holds Inv-loop μ-loop
 loop-holds c =
     let S = c .before .before .before .before .before in
-    (going-start _ _ _ _ (S .pre .0), S .pre .1)
+    (going-start (S .pre .0), S .pre .1)
 
 sub-after : tie.Need-sub-after Inv-loop μ-loop
 sub-after c = omega arith
@@ -36,23 +36,23 @@ enum-known-plan c = search needs
 stop-requires : tie.Need-stop-requires Inv-loop μ-loop
 stop-requires c κs = search needs
 
-same-length : tie.Need-same-length Inv-loop μ-loop
-same-length c = c .before .before .before .before .before .before .before .before .loop .inv .0 .alike .main
-
-same-length-2 : tie.Need-same-length-2 Inv-loop μ-loop
-same-length-2 c = c .before .before .before .before .before .before .before .before .loop .inv .0 .alike .ptr
-
-same-length-3 : tie.Need-same-length-3 Inv-loop μ-loop
-same-length-3 c = c .before .before .before .before .before .before .before .before .loop .inv .0 .alike .ctl
-
-same-length-4 : tie.Need-same-length-4 Inv-loop μ-loop
-same-length-4 c = c .before .before .before .before .before .before .before .before .loop .inv .0 .alike .heap
-
 returns : tie.Need-returns Inv-loop μ-loop
 returns c =
     let L = c .before .before .before .before .before .before .before .before .loop in
     let late = stopped-raise (c .before .before .plan-at .ensures) (no-write _ (c .before .match .keys2)) in
     rw (c .stop .ensures) (record { going = L .inv .0; on? = L .inv .1; stopped = λ h. late })
+
+same-length : tie.Need-same-length Inv-loop μ-loop
+same-length c = returns c .going .alike .main
+
+same-length-2 : tie.Need-same-length-2 Inv-loop μ-loop
+same-length-2 c = returns c .going .alike .ptr
+
+same-length-3 : tie.Need-same-length-3 Inv-loop μ-loop
+same-length-3 c = returns c .going .alike .ctl
+
+same-length-4 : tie.Need-same-length-4 Inv-loop μ-loop
+same-length-4 c = returns c .going .alike .heap
 
 apply-requires : tie.Need-apply-requires Inv-loop μ-loop
 apply-requires c κs =
@@ -83,30 +83,6 @@ loop-again c =
 stop-requires-2 : tie.Need-stop-requires-2 Inv-loop μ-loop
 stop-requires-2 c κs = search needs
 
-same-length-5 : tie.Need-same-length-5 Inv-loop μ-loop
-same-length-5 c =
-    let at-apply = c .before .before .before .before .before .before .before .before .before .before in
-    let at-loop = at-apply .before .before .before .before .before .before .before .before .before .before .before .before .before .before in
-    at-apply .apply .kept .1 .0 ∙ at-loop .loop .inv .0 .alike .main
-
-same-length-6 : tie.Need-same-length-6 Inv-loop μ-loop
-same-length-6 c =
-    let at-apply = c .before .before .before .before .before .before .before .before .before .before in
-    let at-loop = at-apply .before .before .before .before .before .before .before .before .before .before .before .before .before .before in
-    at-apply .apply .kept .1 .1 .0 ∙ at-loop .loop .inv .0 .alike .ptr
-
-same-length-7 : tie.Need-same-length-7 Inv-loop μ-loop
-same-length-7 c =
-    let at-apply = c .before .before .before .before .before .before .before .before .before .before in
-    let at-loop = at-apply .before .before .before .before .before .before .before .before .before .before .before .before .before .before in
-    at-apply .apply .kept .1 .1 .1 .0 ∙ at-loop .loop .inv .0 .alike .ctl
-
-same-length-8 : tie.Need-same-length-8 Inv-loop μ-loop
-same-length-8 c =
-    let at-apply = c .before .before .before .before .before .before .before .before .before .before in
-    let at-loop = at-apply .before .before .before .before .before .before .before .before .before .before .before .before .before .before in
-    at-apply .apply .kept .1 .1 .1 .1 .0 ∙ at-loop .loop .inv .0 .alike .heap
-
 returns-2 : tie.Need-returns-2 Inv-loop μ-loop
 returns-2 c =
     let at-apply = c .before .before .before .before .before .before .before .before .before .before in
@@ -116,25 +92,37 @@ returns-2 c =
     let A = at-apply .apply in
     rw (c .stop2 .ensures) (paused-late (I .0) (I .1) (sym (at-plan .plan .given .1) ∙ at-plan-at .plan-at .ensures) refl (c .before .if1 .left) (A .ensures .0) (A .ensures .1 .1))
 
+same-length-5 : tie.Need-same-length-5 Inv-loop μ-loop
+same-length-5 c = returns-2 c .going .alike .main
+
+same-length-6 : tie.Need-same-length-6 Inv-loop μ-loop
+same-length-6 c = returns-2 c .going .alike .ptr
+
+same-length-7 : tie.Need-same-length-7 Inv-loop μ-loop
+same-length-7 c = returns-2 c .going .alike .ctl
+
+same-length-8 : tie.Need-same-length-8 Inv-loop μ-loop
+same-length-8 c = returns-2 c .going .alike .heap
+
 stop-requires-3 : tie.Need-stop-requires-3 Inv-loop μ-loop
 stop-requires-3 c κs = search needs
-
-same-length-9 : tie.Need-same-length-9 Inv-loop μ-loop
-same-length-9 c = c .before .before .loop .inv .0 .alike .main
-
-same-length-10 : tie.Need-same-length-10 Inv-loop μ-loop
-same-length-10 c = c .before .before .loop .inv .0 .alike .ptr
-
-same-length-11 : tie.Need-same-length-11 Inv-loop μ-loop
-same-length-11 c = c .before .before .loop .inv .0 .alike .ctl
-
-same-length-12 : tie.Need-same-length-12 Inv-loop μ-loop
-same-length-12 c = c .before .before .loop .inv .0 .alike .heap
 
 returns-3 : tie.Need-returns-3 Inv-loop μ-loop
 returns-3 c =
     let L = c .before .before .loop in
     rw (c .stop3 .ensures) (record { going = L .inv .0; on? = L .inv .1; stopped = λ h. absurd (omega (arith, h, c .before .loop-test .left)) })
+
+same-length-9 : tie.Need-same-length-9 Inv-loop μ-loop
+same-length-9 c = returns-3 c .going .alike .main
+
+same-length-10 : tie.Need-same-length-10 Inv-loop μ-loop
+same-length-10 c = returns-3 c .going .alike .ptr
+
+same-length-11 : tie.Need-same-length-11 Inv-loop μ-loop
+same-length-11 c = returns-3 c .going .alike .ctl
+
+same-length-12 : tie.Need-same-length-12 Inv-loop μ-loop
+same-length-12 c = returns-3 c .going .alike .heap
 
 pub go-on-spec : {M : Type 1} → statement M
 go-on-spec =
