@@ -156,14 +156,14 @@ module _ {l : Lent} {map table : List ℕ} {k : ℕ} {right? : Bool} (M : Measur
       clean-is : heapOf (l .heap) ≡ clean (objectsOf (l .heap))
       clean-is = audited-clean h-is e
 
-      pub admit-bytes : (length (l .bytes) ≡ 28 → ⊥) → AdmittedMarks l map table marks (Refuse 12 0)
-      admit-bytes n = refused 12 0 (λ rest. go-on rest ∙ rw (right w, clean-is, ne-eqb (length (l .bytes)) 28 n))
+      pub admit-bytes : (length (l .bytes) ≡ registerBytes → ⊥) → AdmittedMarks l map table marks (Refuse 12 0)
+      admit-bytes n = refused 12 0 (λ rest. go-on rest ∙ rw (right w, clean-is, ne-eqb (length (l .bytes)) registerBytes n))
 
-      pub admit-all : length (l .bytes) ≡ 28 → AdmittedMarks l map table marks (Pass k)
+      pub admit-all : length (l .bytes) ≡ registerBytes → AdmittedMarks l map table marks (Pass k)
       admit-all n =
           record {
             found = record {
-              is = λ rest. go-on rest ∙ rw (right w, clean-is, eq-eqb (length (l .bytes)) 28 n);
+              is = λ rest. go-on rest ∙ rw (right w, clean-is, eq-eqb (length (l .bytes)) registerBytes n);
               shown = λ j y.
                   let x : k ≡ j = cc in
                   record {

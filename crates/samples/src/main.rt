@@ -3,6 +3,8 @@
 // bytes in decimal; behind a slash the two budgets of a run cut in two. A line that starts with # is a comment.
 use libc::STDIN_FILENO;
 use libc::STDOUT_FILENO;
+use model::FILE_MOST;
+use model::REGISTER_BYTES;
 ghost use Prim.Native.Nat.{_≤_};
 ghost use lib.ListN.{length};
 ghost use Rattle.io.specs.Counts.{Counts};
@@ -51,13 +53,13 @@ fn go(
 
 // A run cut in two: budget n, then m.
 fn cut(text: &[u8], file: &[u8], n: u32, m: u32) {
-    let mut map = [0u16; 12288];
+    let mut map = [0u16; 3 * FILE_MOST];
     let mut main = [0u32; 256];
     let mut ptr = [0u32; 256];
     let mut ctl = [0u32; 250];
     let mut heap = [0u32; 1024];
     heap[0] = 2;
-    let mut regs = [0u8; 28];
+    let mut regs = [0u8; REGISTER_BYTES];
     begin(
         text,
         file,
@@ -195,7 +197,7 @@ fn lengths_of_lists() {
     let mut map = [0u16; 39];
     let mut main = [0u32; 2];
     let mut heap = [2u32, 0];
-    let mut regs = [0u8; 28];
+    let mut regs = [0u8; REGISTER_BYTES];
     on(
         b"A in short lists",
         &mut map,
@@ -214,7 +216,7 @@ fn lengths_of_lists() {
 fn on_heap(text: &[u8], heap: &mut [u32]) {
     let mut map = [0u16; 39];
     let mut main = [0u32; 2];
-    let mut regs = [0u8; 28];
+    let mut regs = [0u8; REGISTER_BYTES];
     on(text, &mut map, &mut main, heap, &mut regs);
 }
 
@@ -244,7 +246,7 @@ fn pointer() {
     let mut ptr = [0u32; 2];
     let mut ctl = [0u32; 5];
     let mut heap = [2u32, 0, 0, 0];
-    let mut regs = [0u8; 28];
+    let mut regs = [0u8; REGISTER_BYTES];
     begin(
         b"one form",
         &file,

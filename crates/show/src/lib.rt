@@ -2,6 +2,8 @@
 mod line;
 
 use model::Answer;
+use model::FILE_MOST;
+use model::REGISTER_BYTES;
 
 // Runs what the lists hold, and prints the line.
 pub fn go(
@@ -39,13 +41,13 @@ pub fn begin(
 
 // The bench: stacks of 256, 256 and 250 words, an empty heap of 1,024, a budget of 1,000.
 pub fn bench(file: &[u8]) {
-    let mut map = [0u16; 12288];
+    let mut map = [0u16; 3 * FILE_MOST];
     let mut main = [0u32; 256];
     let mut ptr = [0u32; 256];
     let mut ctl = [0u32; 250];
     let mut heap = [0u32; 1024];
     heap[0] = 2;
-    let mut regs = [0u8; 28];
+    let mut regs = [0u8; REGISTER_BYTES];
     begin(
         file,
         &mut map,
