@@ -37,8 +37,10 @@ ptrs-at-requires c κs = omega arith
 add-end : tie.Need-add-end Inv-loop μ-loop
 add-end c = omega (arith, c .ptrs-at .ensures .small)
 
+-- the object at the turn's place
 object : (c : tie.In-loop Inv-loop μ-loop) →
-    Object (c .before .before .before .before .before .before .before .args .heap .now) (c .before .loop .q) (markOf (c .before .before .before .before .before .before .before .args .heap .now))
+    let h = c .before .before .before .before .before .before .before .args .heap .now in
+    Object h (c .before .loop .q) (markOf h)
 object c = pointing-object _ _ _ _ _ (c .before .loop .inv) (c .before .before .word .ensures) (c .loop-test .taken)
 
 bad-pointer-requires : tie.Need-bad-pointer-requires Inv-loop μ-loop

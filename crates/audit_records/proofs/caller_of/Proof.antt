@@ -29,13 +29,16 @@ less-requires-2 c κs = search needs
 
 returns : tie.Need-returns
 returns c =
-    let inner = c .before .before .before .before .before .before .before .before .inner-at .ensures in
-    let m = c .before .before .before .before .before .main-at .ensures .is in
+    let at-less = c .before .before .before .before in
+    let at-inner = at-less .before .before .before .before in
+    let entry = at-inner .before .before in
+    let inner = at-inner .inner-at .ensures in
+    let m = at-less .before .main-at .ensures .is in
     let p = c .before .ptr-at .ensures .is in
-    let main = c .before .before .before .before .less .ensures in
+    let main = at-less .less .ensures in
     let ptr = c .less2 .ensures in
-    let a = c .before .before .before .before .before .before .before .before .before .before .args in
-    let pre = c .before .before .before .before .before .before .before .before .before .before .pre in
+    let a = entry .args in
+    let pre = entry .pre in
     let fits = pre .0 in (
       λ f lm lp e pops i. record {
         inner = inner .is i;

@@ -26,8 +26,9 @@ returns c =
     let inner = c .before .before .before .before .inner-at .ensures in
     let main = c .before .before .less .ensures in
     let ptr = c .less2 .ensures in
-    let r = c .before .before .before .before .before .before .args .regs in
-    let words = c .before .before .before .before .before .before .pre in (
+    let entry = c .before .before .before .before .before .before in
+    let r = entry .args .regs in
+    let words = entry .pre in (
       λ m i. record {
         inner = inner .is i;
         place = r .place;
