@@ -183,7 +183,8 @@ pub enum Below {
 // A handler's record, on top of `left` others, leads to the next outer one of its frame, or to the frame.
 fn read_handler(map: &[u16], ctl: &[u32], left: usize, s: Look) -> Below
     requires { ⌜ Near s × (left < 4294967296) × (recordWords * left + 4 < length (now ctl)) ⌝ }
-    ensures { λ r. ⌜ ((f : List ℕ) (lm lp : ℕ) → (s .inner ≡ none → ⊥) → RecordTells f (now (map .entry)) lm lp (recAt (now (ctl .entry)) left) (down (now (ctl .entry)) left) s r) ⌝ }
+    ensures { λ r. ⌜ ((f : List ℕ) (lm lp : ℕ) → (s .inner ≡ none → ⊥) →
+        RecordTells f (now (map .entry)) lm lp (recAt (now (ctl .entry)) left) (down (now (ctl .entry)) left) s r) ⌝ }
 {
     let w = control_stack::handler_at(ctl, left);
     if !handler_right(map, left, w, s) {

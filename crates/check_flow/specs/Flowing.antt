@@ -190,7 +190,8 @@ module _ {f m₀ table : List ℕ} {k : ℕ} (B : Begun f m₀ table k) where
           next-head : c < procs f → p < headOf f c
           next-head l =
               let w : Mem (getD (drop c (heads f)) 0 0) (drop c (heads f)) = first-in (drop c (heads f)) (some-left l) in
-              let v : getD (drop c (heads f)) 0 0 ≡ headOf f c = (let z : c + 0 ≡ c = omega arith in getD-drop c (heads f) 0 0 ∙ ap (λ (n : ℕ). getD (heads f) n 0) z ∙ (unfold headOf in refl)) in
+              let z : c + 0 ≡ c = omega arith in
+              let v : getD (drop c (heads f)) 0 0 ≡ headOf f c = getD-drop c (heads f) 0 0 ∙ ap (λ (n : ℕ). getD (heads f) n 0) z ∙ (unfold headOf in refl) in
               let u : Mem (headOf f c) (select (isHead f) (F .rest)) = rw (v, F .to-come) at w in
               let t = select-in (isHead f) (F .rest) (headOf f c) u in
               let a = walk-above f p (F .rest) walk-rest (headOf f c) (t .0) .0 in

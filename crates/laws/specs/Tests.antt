@@ -47,7 +47,3 @@ all-both (t ∷ ts) us = go (holds t) (all-both ts us)
         (if b then all (ts ++ us) else false) ≡ (if (if b then all ts else false) then all us else false)
     go true e = e
     go false e = refl
-
-pub alone : (b : Bool) → b ≡ (if b then true else false)
-alone true = refl
-alone false = refl
