@@ -28,7 +28,7 @@ walked-objects h t r n R W e = go (walked h) refl (sym (W .is) ∙ e)
     go (fault q) f g = cc
 
 pub walked-right : (h : List ℕ) (t : List Bool) (r : HeapAudit) (n : ℕ) → Range h → Walked h r n t → r ≡ Clean → Objects h firstObject (markOf h) (objectsFound h)
-walked-right h t r n R W e = rw (walked-objects h t r n R W e) at (walk-shows (length h) h firstObject (markOf h) (R .low) (omega (arith, R .high)))
+walked-right h t r n R W e = rw (walked-objects h t r n R W e) at (walk-shows (length h) h firstObject [] refl (R .low) (omega (arith, R .high)))
 
 bad-same : (P Q : ℕ → Bool) (is : List ℕ) → ((i : ℕ) → P i ≡ Q i) → firstBad P is ≡ firstBad Q is
 unfolding firstBad

@@ -1,101 +1,126 @@
--- What a word at fault is, in the terms of `Heap`: the mark out of range, a header or a size word behind objects that are right, a pointer
--- that is none, a free word that is not 0 (`AtFault`). A heap with a word at fault is not sound (`fault-unsound`), and the word
--- lies in it (`fault-within`).
-use Prim.Native.Nat.{ℕ, _+_, _<_, _≤_}
-use mathlib.Core.Path.{_≡_, refl, sym, _∙_}
-use mathlib.Core.Bool.{false, true≢false}
-use mathlib.Core.List.{List, [], _∷_}
+-- The first fault of a heap (`FirstFault`): there is one at most (`one-fault`), a heap that has one is not sound (`fault-unsound`), and the word
+-- lies in the heap (`fault-within`). No right object begins where the walk has its fault, and the objects of a heap are the only ones.
+use Prim.Native.Nat.{ℕ, _+_, _-_, _<_, _≤_}
+use mathlib.Core.Path.{_≡_, sym, _∙_}
+use mathlib.Core.Bool.{true≢false}
+use mathlib.Core.List.{List}
 use mathlib.Core.Logic.{_⊎_, inl, inr}
+use native.Mathlib.Decide.{decLt}
 use native.Mathlib.Omega.{arith}
 use lib.ListN.{length}
-use Rattle.model.specs.Choice.{Mem}
 use Rattle.model.specs.Words.{wordAt}
-use Rattle.model.specs.Heap.{markOf, firstObject, ptrsAt, sizeAt, kindOf, Object, Objects, Pointer, Heap}
-use Rattle.heap.specs.Objects.{object-of}
+use Rattle.model.specs.Heap.{markOf, firstObject, Object, Objects, Pointer, Heap}
+use Rattle.model.specs.Faults.{MarkInRange, WalkTo, HeaderFault, SizeFault, WalkFault, header, size-word, InPointerPart, BadPointer, NonzeroFree}
+use Rattle.model.specs.Faults.{Lowest, FirstFault, at-mark, on-walk, after-walk}
+use Rattle.heap.specs.Objects.{object-of, object-within, same-objects, next-object}
 
--- objects end to end from q to o, of which none goes past the mark
-abbrev pub Reaches : List ℕ → ℕ → ℕ → ℕ → List ℕ → Type 0
-Reaches h mark q o [] = q ≡ o
-Reaches h mark q o (p ∷ os) = (p ≡ q) × Object h q mark × Reaches h mark (q + sizeAt h q) o os
+module _ (h : List ℕ) where
+  -- a header or a size word at fault is no right object's
+  right-header : (q : ℕ) → Object h q (markOf h) → HeaderFault h q → ⊥
+  right-header q O (inl e) = true≢false (sym (O .ptrs) ∙ e)
+  right-header q O (inr l) = omega (arith, O .holds, O .ends)
 
--- what is wrong with a header: its kind, with that many pointer words, or that no word is left for the size
-abbrev pub WrongHeader : List ℕ → ℕ → ℕ → Type 0
-WrongHeader h o mark = (kindOf h o .ptrs (ptrsAt h o) ≡ false) ⊎ (mark ≤ o + 1)
+  right-size : (q : ℕ) → Object h q (markOf h) → SizeFault h q → ⊥
+  right-size q O (inl l) = omega (arith, O .holds)
+  right-size q O (inr (inl l)) = omega (arith, O .ends)
+  right-size q O (inr (inr e)) = true≢false (sym (O .size) ∙ e)
 
--- and with a size: too small, past the mark, or not the kind's
-abbrev pub WrongSize : List ℕ → ℕ → ℕ → Type 0
-WrongSize h o mark = (sizeAt h o < 2 + ptrsAt h o) ⊎ (mark < o + sizeAt h o) ⊎ (kindOf h o .size (ptrsAt h o) (sizeAt h o) ≡ false)
+  -- where the walk comes to its fault there is no right object
+  record Halt (p : ℕ) : Type 0 where
+    q : ℕ
+    to : WalkTo h q
+    none : Object h q (markOf h) → ⊥
 
--- behind such objects the header or the size word at p is at fault
-pub data Broken (h : List ℕ) (q mark p : ℕ) : Type 0 where
-  bad-header : (os : List ℕ) → Reaches h mark q p os → p < mark → WrongHeader h p mark → Broken h q mark p
-  bad-size : (os : List ℕ) (o : ℕ) → Reaches h mark q o os → p ≡ o + 1 → p < mark → WrongSize h o mark → Broken h q mark p
+  abbrev halt : (p : ℕ) → WalkFault h p → Halt p
+  halt p (header T F) = record { q = p; to = T; none = λ O. right-header p O F }
+  halt p (size-word q T n F e) = record { q = q; to = T; none = λ O. right-size q O F }
 
--- word i is a pointer word of an object
-pub record Inside (h os : List ℕ) (i : ℕ) : Type 0 where
-  pub q : ℕ
-  pub k : ℕ
-  pub mem : Mem q os
-  pub from : 2 ≤ k
-  pub to : k < 2 + ptrsAt h q
-  pub is : i ≡ q + k
-
-pub data AtFault (h : List ℕ) (i : ℕ) : Type 0 where
-  bad-mark : i ≡ 0 → (markOf h < firstObject) ⊎ (length h < markOf h) → AtFault h i
-  bad-object : markOf h ≤ length h → Broken h firstObject (markOf h) i → AtFault h i
-  bad-pointer : (os : List ℕ) → markOf h ≤ length h → Objects h firstObject (markOf h) os → (i ≡ 1) ⊎ Inside h os i →
-      (Pointer os (wordAt h i) → ⊥) → AtFault h i
-  bad-free : markOf h ≤ i → i < length h → (wordAt h i ≡ 0 → ⊥) → AtFault h i
-
-module _ (h : List ℕ) (mark : ℕ) where
-  -- the objects up to the mark go on where others end before it
-  reached-object : (q o : ℕ) (ps os : List ℕ) → Reaches h mark q o ps → o < mark → Objects h q mark os → Object h o mark
-  reached-object q o [] [] R l W = absurd (omega arith)
-  reached-object q o [] (p ∷ os) R l W = rw (← R) (W .1)
-  reached-object q o (p ∷ ps) [] R l W = let a = R .1 .holds in let b = R .1 .ends in absurd (omega arith)
-  reached-object q o (p ∷ ps) (p′ ∷ os) R l W = reached-object (q + sizeAt h q) o ps os (R .2) l (W .2)
-
-  -- the objects are the only ones
-  same-objects : (q : ℕ) (ps os : List ℕ) → Objects h q mark ps → Objects h q mark os → ps ≡ os
-  same-objects q [] [] U W = refl
-  same-objects q [] (p ∷ os) U W = let a = W .1 .holds in let b = W .1 .ends in absurd (omega arith)
-  same-objects q (p ∷ ps) [] U W = let a = U .1 .holds in let b = U .1 .ends in absurd (omega arith)
-  same-objects q (p ∷ ps) (p′ ∷ os) U W = rw (U .0, W .0, same-objects (q + sizeAt h q) ps os (U .2) (W .2))
-
-  broken-unsound : (q p : ℕ) (os : List ℕ) → Broken h q mark p → Objects h q mark os → ⊥
-  broken-unsound q p os (bad-header ps R l b) W = go b (reached-object q p ps os R l W)
+  -- so it stands at the end of any objects from word 2 on, or behind it
+  not-passed : (p mark : ℕ) (os : List ℕ) (H : Halt p) → Objects h firstObject mark os → mark ≤ markOf h → mark ≤ H .q
+  not-passed p mark os H W l = go (decLt (H .q) mark)
     where
-      go : WrongHeader h p mark → Object h p mark → ⊥
-      go (inl n) O = true≢false (sym (O .ptrs) ∙ n)
-      go (inr m) O = let a = O .holds in let b = O .ends in omega arith
-  broken-unsound q p os (bad-size ps o R e l b) W = go b (reached-object q o ps os R (omega arith) W)
+      go : Dec (H .q < mark) → mark ≤ H .q
+      go (yes b) =
+          let O = next-object h firstObject (H .q) mark (H .to .passed) os (H .to .objects) W b in
+          absurd (H .none (object-within h (H .q) mark (markOf h) O l))
+      go (no b) = omega arith
+
+  one-halt : (p p′ : ℕ) (H : Halt p) (H′ : Halt p′) → H .q ≡ H′ .q
+  one-halt p p′ H H′ =
+      let T = H .to in
+      let T′ = H′ .to in
+      let a = not-passed p (H′ .q) (T′ .passed) H (T′ .objects) (omega (arith, T′ .below)) in
+      let b = not-passed p′ (H .q) (T .passed) H′ (T .objects) (omega (arith, T .below)) in
+      omega arith
+
+  one-walk-fault : (p p′ : ℕ) → WalkFault h p → WalkFault h p′ → p ≡ p′
+  one-walk-fault p p′ F F′ = go F F′ (one-halt p p′ (halt p F) (halt p′ F′))
     where
-      go : WrongSize h o mark → Object h o mark → ⊥
-      go (inl n) O = let a = O .holds in omega arith
-      go (inr (inl m)) O = let b = O .ends in omega arith
-      go (inr (inr n)) O = true≢false (sym (O .size) ∙ n)
+      go : (F : WalkFault h p) (F′ : WalkFault h p′) → halt p F .q ≡ halt p′ F′ .q → p ≡ p′
+      go (header T F) (header T′ F′) e = e
+      go (header T F) (size-word q′ T′ n F′ f) e = absurd (n (rw e at F))
+      go (size-word q T n F f) (header T′ F′) e = absurd (n (rw e F′))
+      go (size-word q T n F f) (size-word q′ T′ n′ F′ f′) e = omega arith
 
-  broken-below : (q p : ℕ) → Broken h q mark p → p < mark
-  broken-below q p (bad-header os R l b) = l
-  broken-below q p (bad-size os o R e l b) = l
+  walk-unsound : (p : ℕ) (os : List ℕ) → WalkFault h p → Objects h firstObject (markOf h) os → ⊥
+  walk-unsound p os F W =
+      let H = halt p F in
+      omega (arith, not-passed p (markOf h) os H W (omega arith), H .to .below)
 
-module _ (h : List ℕ) (i : ℕ) where
-  pub fault-unsound : AtFault h i → (os : List ℕ) → Heap h os → ⊥
-  fault-unsound (bad-mark e (inl l)) os H = let a = H .low in omega arith
-  fault-unsound (bad-mark e (inr l)) os H = let a = H .high in omega arith
-  fault-unsound (bad-object g B) os H = broken-unsound h (markOf h) firstObject i os B (H .objects)
-  fault-unsound (bad-pointer ps g W (inl e) n) os H =
-      n (rw (e, same-objects h (markOf h) firstObject ps os W (H .objects)) (H .root))
-  fault-unsound (bad-pointer ps g W (inr I) n) os H =
-      let s = same-objects h (markOf h) firstObject ps os W (H .objects) in
-      n (rw (I .is, s) (H .inside (I .q) (I .k) (rw s at (I .mem)) (I .from) (I .to)))
-  fault-unsound (bad-free a b n) os H = n (H .free i a)
+  -- the walk's fault lies below the mark: a header that is right has a size word there
+  walk-below : (p : ℕ) → WalkFault h p → p < markOf h
+  walk-below p (header T F) = T .below
+  walk-below p (size-word q T n F e) = go (decLt (q + 1) (markOf h))
+    where
+      go : Dec (q + 1 < markOf h) → p < markOf h
+      go (yes l) = omega arith
+      go (no l) = absurd (n (inr (omega arith)))
 
-  pub fault-within : AtFault h i → 2 ≤ length h → i < length h
-  fault-within (bad-mark e m) t = omega arith
-  fault-within (bad-object g B) t = let a = broken-below h (markOf h) firstObject i B in omega arith
-  fault-within (bad-pointer os g W (inl e) n) t = omega arith
-  fault-within (bad-pointer os g W (inr I) n) t =
-      let O = object-of h firstObject (markOf h) os (I .q) W (I .mem) .1 in
-      omega (arith, O .holds, O .ends, I .to, I .is)
-  fault-within (bad-free a b n) t = b
+  -- so do the pointers
+  pub pointer-below : (i : ℕ) (os : List ℕ) → firstObject ≤ markOf h → Objects h firstObject (markOf h) os → (i ≡ 1) ⊎ InPointerPart h os i → i < markOf h
+  pointer-below i os l W (inl e) = omega arith
+  pointer-below i os l W (inr I) =
+      let O = object-of h firstObject (markOf h) os (I .object) W (I .mem) .1 in
+      omega (arith, O .holds, O .ends, I .to)
+
+  -- in a sound heap all of them are right
+  pub pointer-right : (i : ℕ) (os : List ℕ) → Heap h os → (i ≡ 1) ⊎ InPointerPart h os i → Pointer os (wordAt h i)
+  pointer-right i os H (inl e) = rw e (H .root)
+  pointer-right i os H (inr I) =
+      let k = i - I .object in
+      let e : i ≡ I .object + k = omega (arith, I .from) in
+      rw e (H .inside (I .object) k (I .mem) (omega (arith, I .from)) (omega (arith, I .from, I .to)))
+
+  pub one-fault : (p q : ℕ) → FirstFault h p → FirstFault h q → p ≡ q
+  one-fault p q (at-mark n e) (at-mark n′ e′) = omega arith
+  one-fault p q (at-mark n e) (on-walk R F) = absurd (n R)
+  one-fault p q (at-mark n e) (after-walk R os W L) = absurd (n R)
+  one-fault p q (on-walk R F) (at-mark n e) = absurd (n R)
+  one-fault p q (on-walk R F) (on-walk R′ F′) = one-walk-fault p q F F′
+  one-fault p q (on-walk R F) (after-walk R′ os W L) = absurd (walk-unsound p os F W)
+  one-fault p q (after-walk R os W L) (at-mark n e) = absurd (n R)
+  one-fault p q (after-walk R os W L) (on-walk R′ F) = absurd (walk-unsound q os F W)
+  one-fault p q (after-walk R os W L) (after-walk R′ os′ W′ L′) =
+      let e = same-objects h firstObject (markOf h) os′ os W′ W in
+      let M : Lowest (λ i. BadPointer h os i ⊎ NonzeroFree h i) q = rw e at L′ in
+      omega (arith, L .1 q (M .0), M .1 p (L .0))
+
+  pub fault-unsound : (q : ℕ) → FirstFault h q → (os : List ℕ) → Heap h os → ⊥
+  fault-unsound q (at-mark n e) os H = n (H .low, H .high)
+  fault-unsound q (on-walk R F) os H = walk-unsound q os F (H .objects)
+  fault-unsound q (after-walk R os′ W L) os H =
+      let e = same-objects h firstObject (markOf h) os′ os W (H .objects) in
+      go (rw e at (L .0))
+    where
+      go : BadPointer h os q ⊎ NonzeroFree h q → ⊥
+      go (inl B) = B .1 (pointer-right q os H (B .0))
+      go (inr F) = F .2 (H .free q (F .0))
+
+  pub fault-within : (q : ℕ) → FirstFault h q → 2 ≤ length h → q < length h
+  fault-within q (at-mark n e) t = omega arith
+  fault-within q (on-walk R F) t = omega (arith, walk-below q F)
+  fault-within q (after-walk R os W L) t = go (L .0)
+    where
+      go : BadPointer h os q ⊎ NonzeroFree h q → q < length h
+      go (inl B) = omega (arith, pointer-below q os (R .0) W (B .0))
+      go (inr F) = F .1

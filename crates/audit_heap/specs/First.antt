@@ -1,5 +1,5 @@
--- The lowest index at fault: a list of indices is tested in its order (`firstBad`). It has none exactly where every index passes, and
--- what it gives is in the list and does not pass.
+-- The lowest index at fault: a list of indices is tested in its order (`firstBad`). It has none exactly where every index passes; what it
+-- gives is in the list and does not pass, and where the list rises, all that is lower passes (`good-below`).
 use Prim.Native.Nat.{ℕ, zero, suc, _+_, _-_, _<_, _≤_}
 use mathlib.Core.Path.{_≡_, refl}
 use mathlib.Core.Bool.{Bool, true, false}
@@ -11,6 +11,7 @@ use lib.Dec.{eqb}
 use lib.ListN.{length}
 use Rattle.model.specs.Choice.{if_then_else_, Mem}
 use Rattle.model.specs.Words.{wordAt}
+use Rattle.laws.specs.Members.{Rising}
 use Rattle.model.specs.Heap.{markOf, firstObject, Audit, fault, clean, walk, isPointer, range, pointersFirst, zerosFirst}
 use Rattle.audit_heap.specs.declared.HeapAudit.{HeapAudit}
 use Rattle.audit_heap.specs.declared.HeapAudit.the-variants.{Clean, Fault}
@@ -104,10 +105,26 @@ module _ (P : ℕ → Bool) where
       go true u f w = let r = f w in (inr (r .0), r .1)
       go false u f w = let g : q ≡ i = cc in (inl g, rw g u)
 
+  pub good-below : (is : List ℕ) (q : ℕ) → Rising is → firstBad P is ≡ Fault q → (i : ℕ) → Mem i is → i < q → P i ≡ true
+  unfolding firstBad
+  good-below [] q R e i m l = absurd m
+  good-below (j ∷ is) q R e i m l = go (P j) refl (good-below is q (R .1)) e m
+    where
+      go : (t : Bool) → P j ≡ t → (firstBad P is ≡ Fault q → (i : ℕ) → Mem i is → i < q → P i ≡ true) →
+          (if t then firstBad P is else Fault j) ≡ Fault q → Mem i (j ∷ is) → P i ≡ true
+      go true u f w (inl m) = rw m u
+      go true u f w (inr m) = f w i m l
+      go false u f w (inl m) = let g : q ≡ j = cc in absurd (omega arith)
+      go false u f w (inr m) = let g : q ≡ j = cc in absurd (omega (arith, R .0 i m))
+
 -- the indices of a range
 pub range-mem : (q n i : ℕ) → Mem i (range q n) → (q ≤ i) × (i < q + n)
 range-mem q (suc n) i (inl e) = (omega arith, omega arith)
 range-mem q (suc n) i (inr m) = let r = range-mem (suc q) n i m in (omega arith, omega arith)
+
+pub range-rising : (q n : ℕ) → Rising (range q n)
+range-rising q zero = tt
+range-rising q (suc n) = (λ i m. omega (arith, range-mem (suc q) n i m .0), range-rising (suc q) n)
 
 pub mem-range : (q n i : ℕ) → q ≤ i → i < q + n → Mem i (range q n)
 mem-range q zero i a b = absurd (omega arith)

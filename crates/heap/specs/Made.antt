@@ -13,7 +13,7 @@ use Rattle.model.specs.Words.{wordAt}
 use Rattle.model.specs.Heap.{markOf, rootOf, firstObject, kindAt, ptrsAt, sizeAt, kinds, kindIn, kindOf, objectOf, made, Object, Objects, Pointer, Heap}
 use Rattle.laws.specs.Members.{mem-append, mem-more, mem-right}
 use Rattle.laws.specs.Stores.{sets-other, sets-at}
-use Rattle.heap.specs.Objects.{SameHeader, ptrs-alike, size-alike, objects-alike}
+use Rattle.heap.specs.Objects.{SameHeader, ptrs-alike, size-alike, objects-alike, objects-snoc}
 use Rattle.heap.specs.Stores.{object-lies}
 
 -- one object more
@@ -30,14 +30,6 @@ mem-last q m os i = go (mem-append q os (m ∷ []) i)
     go : Mem q os ⊎ Mem q (m ∷ []) → Mem q os ⊎ (q ≡ m)
     go (inl i) = inl i
     go (inr (inl e)) = inr e
-
-objects-snoc : (h : List ℕ) (p mark mark′ : ℕ) (os : List ℕ) → Objects h p mark os → Object h mark mark′ → mark + sizeAt h mark ≡ mark′ →
-    Objects h p mark′ (os ++ mark ∷ [])
-objects-snoc h p mark mark′ [] W O e = (sym W, rw W O, rw W e)
-objects-snoc h p mark mark′ (o ∷ os) W O e =
-    let n = W .1 .ends in
-    let first : Object h p mark′ = record { ptrs = W .1 .ptrs; holds = W .1 .holds; ends = omega arith; size = W .1 .size } in
-    (W .0, first, objects-snoc h (p + sizeAt h p) mark mark′ os (W .2) O e)
 
 -- what the new object leaves
 pub record WithNew (h os : List ℕ) (kind : ℕ) (ps ws : List ℕ) : Type 0 where

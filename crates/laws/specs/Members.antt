@@ -60,6 +60,14 @@ pub mem-right : (i : ℕ) (l r : List ℕ) → Mem i r → Mem i (l ++ r)
 mem-right i [] r m = m
 mem-right i (a ∷ l) r m = inr (mem-right i l r m)
 
+pub rising-append : (l r : List ℕ) → Rising l → Rising r → ((i j : ℕ) → Mem i l → Mem j r → i < j) → Rising (l ++ r)
+rising-append [] r L R f = R
+rising-append (a ∷ l) r L R f = (λ q m. go q (mem-append q l r m), rising-append l r (L .1) R (λ i j m. f i j (inr m)))
+  where
+    go : (q : ℕ) → Mem q l ⊎ Mem q r → a < q
+    go q (inl m) = L .0 q m
+    go q (inr m) = f a q (inl refl) m
+
 -- what a selection keeps
 module _ (t : ℕ → Bool) where
   pub select-in : (l : List ℕ) (q : ℕ) → Mem q (select t l) → Mem q l × (t q ≡ true)
