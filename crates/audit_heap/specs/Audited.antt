@@ -1,5 +1,5 @@
 -- The audit is the statement: `heapOf` answers the objects exactly of a sound heap (`heap-clean`, `clean-heap`), and otherwise the first
--- fault (`fault-first`, `first-fault`). The walk finds the only objects that there can be, each later test is a field of `Heap`, and the
+-- fault (`fault-exact`), so that there is one (`fault-exists`). The walk finds the only objects that there can be, each later test is a field of `Heap`, and the
 -- indices that are tested rise.
 use Prim.Native.Nat.{ℕ, zero, suc, _+_, _-_, _<_, _≤_}
 use mathlib.Core.Path.{_≡_, refl, sym, _∙_, ap}
@@ -17,7 +17,8 @@ use Rattle.laws.specs.Members.{Rising, mem-append, mem-more, mem-right, rising-
 use Rattle.model.specs.Heap.{markOf, rootOf, firstObject, ptrsAt, sizeAt, kindOf, Object, Objects, Pointer, Heap, Audit, fault, clean, andObject}
 use Rattle.model.specs.Heap.{badHeader, badSize, walk, isPointer, range, pointerWords, zerosFirst, judge, heapOf}
 use Rattle.model.specs.Faults.{MarkInRange, WalkTo, HeaderFault, SizeFault, WalkFault, header, size-word, InPointerPart, BadPointer, NonzeroFree}
-use Rattle.model.specs.Faults.{FirstFault, at-mark, on-walk, after-walk}
+use Rattle.model.specs.Faults.{FirstFault, mark-word, on-walk, after-walk}
+use Rattle.model.specs.Claim.{FaultExactly, FaultUnsound}
 use Rattle.heap.specs.Objects.{object-of, objects-snoc}
 use Rattle.heap.specs.Pointers.{pointer-true, true-pointer}
 use Rattle.audit_heap.specs.declared.HeapAudit.{HeapAudit}
@@ -154,14 +155,14 @@ words-inside h (q ∷ os) i m = go (mem-append i (range (q + 2) (ptrsAt h q)) (p
     go : Mem i (range (q + 2) (ptrsAt h q)) ⊎ Mem i (pointerWords h os) → (Mem i (pointerWords h os) → InPointerPart h os i) → InPointerPart h (q ∷ os) i
     go (inl m) f =
         let r = range-mem (q + 2) (ptrsAt h q) i m in
-        record { object = q; mem = inl refl; from = r .0; to = r .1 }
+        record { object = q; mem = inl refl; from = r .0; below = r .1 }
     go (inr m) f =
         let r = f m in
-        record { object = r .object; mem = inr (r .mem); from = r .from; to = r .to }
+        record { object = r .object; mem = inr (r .mem); from = r .from; below = r .below }
 
 inside-words : (h os : List ℕ) (i : ℕ) → InPointerPart h os i → Mem i (pointerWords h os)
 unfolding pointerWords
-inside-words h os i I = go os (I .object) (I .mem) (I .from) (I .to)
+inside-words h os i I = go os (I .object) (I .mem) (I .from) (I .below)
   where
     go : (os : List ℕ) (q : ℕ) → Mem q os → q + 2 ≤ i → i < q + 2 + ptrsAt h q → Mem i (pointerWords h os)
     go (o ∷ os) q (inl e) a b =
@@ -235,7 +236,7 @@ clean-heap h os H =
     zero-at i m = eq-eqb (wordAt h i) 0 (H .free i (range-mem (markOf h) (length h - markOf h) i m .0))
 
 -- what an answer of the audit shows
-abbrev Says : List ℕ → Audit → Type 0
+abbrev pub Says : List ℕ → Audit → Type 0
 Says h (clean os) = Heap h os
 Says h (fault q) = FirstFault h q
 
@@ -261,7 +262,7 @@ module _ (h os : List ℕ) (R : MarkInRange h) (W : Objects h firstObject (markO
         objects = W;
         root = pointer-true os (rootOf h) (good 1 (inl refl));
         inside = λ q k m a b.
-            let I : InPointerPart h os (q + k) = record { object = q; mem = m; from = omega arith; to = omega arith } in
+            let I : InPointerPart h os (q + k) = record { object = q; mem = m; from = omega arith; below = omega arith } in
             pointer-true os (wordAt h (q + k)) (good (q + k) (pointer-words h os (q + k) (inr I)));
         free = λ i a. free i a (decLt i (length h));
       }
@@ -313,7 +314,7 @@ module _ (h os : List ℕ) (R : MarkInRange h) (W : Objects h firstObject (markO
   words-say Clean e (Fault q) f = first-free q e f
   words-say (Fault q) e b f = first-pointer q e
 
-heap-says : (h : List ℕ) → Says h (heapOf h)
+pub heap-says : (h : List ℕ) → Says h (heapOf h)
 heap-says h = go (decLt (markOf h) firstObject) (decLt (length h) (markOf h))
   where
     walk-says : MarkInRange h → (r : Audit) → walked h ≡ r → Shows h firstObject r → Says h (heapOf h)
@@ -323,8 +324,8 @@ heap-says h = go (decLt (markOf h) firstObject) (decLt (length h) (markOf h))
         (words-say h os R s (firstBad (pointerAt h os) (1 ∷ pointerWords h os)) refl (firstBad (zeroAt h) (freeWords h)) refl)
 
     go : Dec (markOf h < firstObject) → Dec (length h < markOf h) → Says h (heapOf h)
-    go (yes a) b = rw (heap-mark-fault h (inl a)) (at-mark (λ R. omega (arith, R .0)) refl)
-    go (no a) (yes b) = rw (heap-mark-fault h (inr b)) (at-mark (λ R. omega (arith, R .1)) refl)
+    go (yes a) b = rw (heap-mark-fault h (inl a)) (mark-word (λ R. omega (arith, R .0)) refl)
+    go (no a) (yes b) = rw (heap-mark-fault h (inr b)) (mark-word (λ R. omega (arith, R .1)) refl)
     go (no a) (no b) =
         let R : MarkInRange h = (omega arith, omega arith) in
         walk-says R (walked h) refl (walk-shows (length h) h firstObject [] refl (R .0) (omega (arith, R .1)))
@@ -334,19 +335,16 @@ pub heap-clean : (h os : List ℕ) → heapOf h ≡ clean os → Heap h os
 heap-clean h os e = rw e at (heap-says h)
 
 -- and names the first fault of what is not
-pub fault-first : (h : List ℕ) (q : ℕ) → heapOf h ≡ fault q → FirstFault h q
-fault-first h q e = rw e at (heap-says h)
-
-pub first-fault : (h : List ℕ) (q : ℕ) → FirstFault h q → heapOf h ≡ fault q
-first-fault h q F = go (heapOf h) (heap-says h)
+pub fault-exact : FaultExactly
+fault-exact h q = (λ e. rw e at (heap-says h), λ F. go (heapOf h) (heap-says h) F)
   where
-    go : (r : Audit) → Says h r → r ≡ fault q
-    go (clean os) H = absurd (fault-unsound h q F os H)
-    go (fault p) F′ = ap fault (one-fault h p q F′ F)
+    go : (r : Audit) → Says h r → FirstFault h q → r ≡ fault q
+    go (clean os) H F = absurd (fault-unsound h q F os H)
+    go (fault p) F′ F = ap fault (one-fault h p q F′ F)
 
-pub unsound-fault : (h : List ℕ) → ((os : List ℕ) → Heap h os → ⊥) → (q : ℕ) × FirstFault h q
-unsound-fault h n = go (heapOf h) (heap-says h)
+pub fault-exists : FaultUnsound
+fault-exists h = (λ F. fault-unsound h (F .0) (F .1), λ n. go (heapOf h) (heap-says h) n)
   where
-    go : (r : Audit) → Says h r → (q : ℕ) × FirstFault h q
-    go (clean os) H = absurd (n os H)
-    go (fault q) F = (q, F)
+    go : (r : Audit) → Says h r → ((os : List ℕ) → Heap h os → ⊥) → (q : ℕ) × FirstFault h q
+    go (clean os) H n = absurd (n os H)
+    go (fault q) F n = (q, F)

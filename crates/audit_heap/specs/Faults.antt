@@ -11,7 +11,8 @@ use lib.ListN.{length}
 use Rattle.model.specs.Words.{wordAt}
 use Rattle.model.specs.Heap.{markOf, firstObject, Object, Objects, Pointer, Heap}
 use Rattle.model.specs.Faults.{MarkInRange, WalkTo, HeaderFault, SizeFault, WalkFault, header, size-word, InPointerPart, BadPointer, NonzeroFree}
-use Rattle.model.specs.Faults.{Lowest, FirstFault, at-mark, on-walk, after-walk}
+use Rattle.model.specs.Faults.{Lowest, FirstFault, mark-word, on-walk, after-walk}
+use Rattle.model.specs.Claim.{OneFault, FaultWithin}
 use Rattle.heap.specs.Objects.{object-of, object-within, same-objects, next-object}
 
 module _ (h : List ℕ) where
@@ -81,7 +82,7 @@ module _ (h : List ℕ) where
   pointer-below i os l W (inl e) = omega arith
   pointer-below i os l W (inr I) =
       let O = object-of h firstObject (markOf h) os (I .object) W (I .mem) .1 in
-      omega (arith, O .holds, O .ends, I .to)
+      omega (arith, O .holds, O .ends, I .below)
 
   -- in a sound heap all of them are right
   pub pointer-right : (i : ℕ) (os : List ℕ) → Heap h os → (i ≡ 1) ⊎ InPointerPart h os i → Pointer os (wordAt h i)
@@ -89,38 +90,38 @@ module _ (h : List ℕ) where
   pointer-right i os H (inr I) =
       let k = i - I .object in
       let e : i ≡ I .object + k = omega (arith, I .from) in
-      rw e (H .inside (I .object) k (I .mem) (omega (arith, I .from)) (omega (arith, I .from, I .to)))
+      rw e (H .inside (I .object) k (I .mem) (omega (arith, I .from)) (omega (arith, I .from, I .below)))
 
-  pub one-fault : (p q : ℕ) → FirstFault h p → FirstFault h q → p ≡ q
-  one-fault p q (at-mark n e) (at-mark n′ e′) = omega arith
-  one-fault p q (at-mark n e) (on-walk R F) = absurd (n R)
-  one-fault p q (at-mark n e) (after-walk R os W L) = absurd (n R)
-  one-fault p q (on-walk R F) (at-mark n e) = absurd (n R)
-  one-fault p q (on-walk R F) (on-walk R′ F′) = one-walk-fault p q F F′
-  one-fault p q (on-walk R F) (after-walk R′ os W L) = absurd (walk-unsound p os F W)
-  one-fault p q (after-walk R os W L) (at-mark n e) = absurd (n R)
-  one-fault p q (after-walk R os W L) (on-walk R′ F) = absurd (walk-unsound q os F W)
-  one-fault p q (after-walk R os W L) (after-walk R′ os′ W′ L′) =
-      let e = same-objects h firstObject (markOf h) os′ os W′ W in
-      let M : Lowest (λ i. BadPointer h os i ⊎ NonzeroFree h i) q = rw e at L′ in
-      omega (arith, L .1 q (M .0), M .1 p (L .0))
+pub one-fault : OneFault
+one-fault h p q (mark-word n e) (mark-word n′ e′) = omega arith
+one-fault h p q (mark-word n e) (on-walk R F) = absurd (n R)
+one-fault h p q (mark-word n e) (after-walk R os W L) = absurd (n R)
+one-fault h p q (on-walk R F) (mark-word n e) = absurd (n R)
+one-fault h p q (on-walk R F) (on-walk R′ F′) = one-walk-fault h p q F F′
+one-fault h p q (on-walk R F) (after-walk R′ os W L) = absurd (walk-unsound h p os F W)
+one-fault h p q (after-walk R os W L) (mark-word n e) = absurd (n R)
+one-fault h p q (after-walk R os W L) (on-walk R′ F) = absurd (walk-unsound h q os F W)
+one-fault h p q (after-walk R os W L) (after-walk R′ os′ W′ L′) =
+    let e = same-objects h firstObject (markOf h) os′ os W′ W in
+    let M : Lowest (λ i. BadPointer h os i ⊎ NonzeroFree h i) q = rw e at L′ in
+    omega (arith, L .1 q (M .0), M .1 p (L .0))
 
-  pub fault-unsound : (q : ℕ) → FirstFault h q → (os : List ℕ) → Heap h os → ⊥
-  fault-unsound q (at-mark n e) os H = n (H .low, H .high)
-  fault-unsound q (on-walk R F) os H = walk-unsound q os F (H .objects)
-  fault-unsound q (after-walk R os′ W L) os H =
-      let e = same-objects h firstObject (markOf h) os′ os W (H .objects) in
-      go (rw e at (L .0))
-    where
-      go : BadPointer h os q ⊎ NonzeroFree h q → ⊥
-      go (inl B) = B .1 (pointer-right q os H (B .0))
-      go (inr F) = F .2 (H .free q (F .0))
+pub fault-unsound : (h : List ℕ) (q : ℕ) → FirstFault h q → (os : List ℕ) → Heap h os → ⊥
+fault-unsound h q (mark-word n e) os H = n (H .low, H .high)
+fault-unsound h q (on-walk R F) os H = walk-unsound h q os F (H .objects)
+fault-unsound h q (after-walk R os′ W L) os H =
+    let e = same-objects h firstObject (markOf h) os′ os W (H .objects) in
+    go (rw e at (L .0))
+  where
+    go : BadPointer h os q ⊎ NonzeroFree h q → ⊥
+    go (inl B) = B .1 (pointer-right h q os H (B .0))
+    go (inr F) = F .2 (H .free q (F .0))
 
-  pub fault-within : (q : ℕ) → FirstFault h q → 2 ≤ length h → q < length h
-  fault-within q (at-mark n e) t = omega arith
-  fault-within q (on-walk R F) t = omega (arith, walk-below q F)
-  fault-within q (after-walk R os W L) t = go (L .0)
-    where
-      go : BadPointer h os q ⊎ NonzeroFree h q → q < length h
-      go (inl B) = omega (arith, pointer-below q os (R .0) W (B .0))
-      go (inr F) = F .1
+pub fault-within : FaultWithin
+fault-within h q (mark-word n e) t = omega arith
+fault-within h q (on-walk R F) t = omega (arith, walk-below h q F)
+fault-within h q (after-walk R os W L) t = go (L .0)
+  where
+    go : BadPointer h os q ⊎ NonzeroFree h q → q < length h
+    go (inl B) = omega (arith, pointer-below h q os (R .0) W (B .0))
+    go (inr F) = F .1

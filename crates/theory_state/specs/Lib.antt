@@ -6,4 +6,5 @@ pub mod Rules
 pub mod Runs
 pub mod Registers
 pub mod Claims
+pub mod FaultPlace
 pub mod Demand
