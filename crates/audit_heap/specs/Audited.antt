@@ -186,11 +186,11 @@ words-rising h p mark (q ∷ os) W =
     let O = W .1 in
     rising-append (range (q + 2) (ptrsAt h q)) (pointerWords h os) (range-rising (q + 2) (ptrsAt h q)) (words-rising h (p + sizeAt h p) mark os (W .2))
     (λ i j m n.
-        let I = words-inside h os j n in
-        let r = range-mem (q + 2) (ptrsAt h q) i m in
-        let a = object-of h (p + sizeAt h p) mark os (I .object) (W .2) (I .mem) .0 in
-        let e : ptrsAt h q ≡ ptrsAt h p = rw (W .0) in
-        omega (arith, W .0, O .holds, I .from, r .1, a, e))
+    let I = words-inside h os j n in
+    let r = range-mem (q + 2) (ptrsAt h q) i m in
+    let a = object-of h (p + sizeAt h p) mark os (I .object) (W .2) (I .mem) .0 in
+    let e : ptrsAt h q ≡ ptrsAt h p = rw (W .0) in
+    omega (arith, W .0, O .holds, I .from, r .1, a, e))
 
 -- The whole audit
 

@@ -220,16 +220,57 @@ fn on_heap(text: &[u8], heap: &mut [u32]) {
     on(text, &mut map, &mut main, heap, &mut regs);
 }
 
-// Refusal 11: the mark, the root, a word behind the mark; and an object that points to itself.
-fn heaps() {
-    let mut mark = [1u32, 0];
-    on_heap(b"11", &mut mark);
+// A view's header without pointer words; a header of kind 2, which is unknown.
+const VIEW: u32 = 0x1000000;
+
+const KIND_2: u32 = 0x2000000;
+
+// Refusal 11, first step: the mark below 2, and one past the heap's length with a bad root and a bad header beside it.
+fn marks_of_heaps() {
+    let mut low = [1u32, 0];
+    on_heap(b"11", &mut low);
+    let mut high = [5u32, 9, KIND_2, 0];
+    on_heap(b"11 mark of length + 1", &mut high);
+    let mut full = [4u32, 2, VIEW, 2];
+    on_heap(b"mark of the length", &mut full);
+}
+
+// Second step: headers and size words, upwards.
+fn walks_of_heaps() {
+    let mut kind = [4u32, 0, KIND_2, 2];
+    on_heap(b"11 kind", &mut kind);
+    let mut last = [3u32, 0, VIEW, 2];
+    on_heap(b"11 no size word", &mut last);
+    let mut short = [4u32, 0, VIEW + 1, 2];
+    on_heap(b"11 size too small", &mut short);
+    let mut past = [4u32, 0, VIEW, 3, 0];
+    on_heap(b"11 size past the mark", &mut past);
+    let mut wraps = [4u32, 0, VIEW, 0xfffffffe];
+    on_heap(b"11 size that would wrap", &mut wraps);
+    let mut both = [4u32, 0, KIND_2 + 3, 0];
+    on_heap(b"11 header and size word", &mut both);
+    let mut root = [4u32, 9, VIEW, 9];
+    on_heap(b"11 root and size word", &mut root);
+    let mut later = [7u32, 9, VIEW + 1, 3, 9, KIND_2, 2, 7];
+    on_heap(b"11 all, a later header", &mut later);
+}
+
+// Third step: the lowest of the root, the pointer words and the free words; and an object that points to itself.
+fn words_of_heaps() {
     let mut root = [2u32, 7, 0];
     on_heap(b"11 root", &mut root);
     let mut rest = [2u32, 0, 5];
     on_heap(b"11 free word", &mut rest);
-    let mut own = [5u32, 2, 0x1000001, 3, 2, 0];
+    let mut all = [6u32, 5, VIEW + 2, 4, 3, 9, 1];
+    on_heap(b"11 root, pointers, free word", &mut all);
+    let mut two = [6u32, 0, VIEW + 2, 4, 3, 9, 1];
+    on_heap(b"11 two pointers, free word", &mut two);
+    let mut names = [5u32, 2, VIEW + 1, 3, 5, 7];
+    on_heap(b"11 pointer to a free word", &mut names);
+    let mut own = [5u32, 2, VIEW + 1, 3, 2, 0];
     on_heap(b"own pointer", &mut own);
+    let mut free = [5u32, 2, VIEW + 1, 3, 2, 7, 7];
+    on_heap(b"11 own pointer, free words", &mut free);
 }
 
 fn put(l: &mut [u32], w: u32) {
@@ -238,8 +279,8 @@ fn put(l: &mut [u32], w: u32) {
     }
 }
 
-// Refusal 12: a pointer stack of 3 with an object at 2 only. 7 form 0 0; 12 73.
-fn pointer() {
+// A view is made, at heap index 2; then the pointer to it and the mark are these. 7 form 0 0; 12 73.
+fn view_made(text: &[u8], pointer: u32, mark: u32) {
     let file = [240u8, 0, 0, 0, 1, 0, 1, 36, 0, 0, 0, 0, 73];
     let mut map = [0u16; 39];
     let mut main = [0u32; 1];
@@ -258,21 +299,10 @@ fn pointer() {
         &mut regs,
         1,
     );
-    put(&mut ptr, 3);
+    put(&mut ptr, pointer);
+    put(&mut heap, mark);
     go(
-        b"12",
-        &file,
-        &mut map,
-        &mut main,
-        &mut ptr,
-        &mut ctl,
-        &mut heap,
-        &mut regs,
-        1,
-    );
-    put(&mut ptr, 2);
-    go(
-        b"as it was",
+        text,
         &file,
         &mut map,
         &mut main,
@@ -290,6 +320,10 @@ fn main() {
     lines(&text[..n]);
     lengths();
     lengths_of_lists();
-    heaps();
-    pointer();
+    marks_of_heaps();
+    walks_of_heaps();
+    words_of_heaps();
+    view_made(b"12", 3, 4);
+    view_made(b"11 in run", 2, 3);
+    view_made(b"as it was", 2, 4);
 }
