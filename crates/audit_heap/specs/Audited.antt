@@ -1,6 +1,6 @@
 -- The audit is the statement: `heapOf` answers the objects exactly of a sound heap (`heap-clean`, `clean-heap`), and otherwise the first
--- fault (`fault-exact`), so that there is one (`fault-exists`). The walk finds the only objects that there can be, each later test is a field of `Heap`, and the
--- indices that are tested rise.
+-- fault (`fault-exact`), so that there is one (`fault-exists`). The walk finds the only objects that there can be, each later test is a
+-- field of `Heap`, and the indices that are tested rise.
 use Prim.Native.Nat.{ℕ, zero, suc, _+_, _-_, _<_, _≤_}
 use mathlib.Core.Path.{_≡_, refl, sym, _∙_, ap}
 use mathlib.Core.Bool.{Bool, true, false, not, _&&_, _||_, true≢false}
@@ -10,7 +10,7 @@ use native.Mathlib.Decide.{decLt}
 use native.Mathlib.Omega.{arith}
 use lib.Dec.{leb, ltb}
 use lib.ListN.{length, List·getD-eq-default}
-use borrow.Author.Tests.{eq-eqb, eqb-true, eqb-false, leb-true, leb-false, le-leb, lt-leb, ltb-true, ltb-false, le-ltb, not-true, not-false}
+use borrow.Author.Tests.{eqb-true, eqb-false, leb-true, leb-false, le-leb, lt-leb, ltb-true, ltb-false, not-true, not-false}
 use Rattle.model.specs.Choice.{if_then_else_, Mem}
 use Rattle.model.specs.Words.{wordAt}
 use Rattle.laws.specs.Members.{Rising, mem-append, mem-more, mem-right, rising-append}
@@ -19,26 +19,15 @@ use Rattle.model.specs.Heap.{badHeader, badSize, walk, isPointer, range, pointe
 use Rattle.model.specs.Faults.{MarkInRange, WalkTo, HeaderFault, SizeFault, WalkFault, header, size-word, InPointerPart, BadPointer, NonzeroFree}
 use Rattle.model.specs.Faults.{FirstFault, mark-word, on-walk, after-walk}
 use Rattle.model.specs.Claim.{FaultExactly, FaultUnsound}
-use Rattle.heap.specs.Objects.{object-of, objects-snoc}
+use Rattle.heap.specs.Objects.{object-of, objects-snoc, same-objects}
 use Rattle.heap.specs.Pointers.{pointer-true, true-pointer}
 use Rattle.audit_heap.specs.declared.HeapAudit.{HeapAudit}
 use Rattle.audit_heap.specs.declared.HeapAudit.the-variants.{Clean, Fault}
-use Rattle.audit_heap.specs.First.{firstBad, walked, freeWords, orAudit, pointerAt, zeroAt, pointers-first, zeros-first, all-good, none-bad}
+use Rattle.audit_heap.specs.First.{firstBad, walked, freeWords, orAudit, pointerAt, zeroAt, pointers-first, zeros-first, all-good}
 use Rattle.audit_heap.specs.First.{bad-in, good-below, range-mem, range-rising, mem-range}
-use Rattle.audit_heap.specs.Faults.{pointer-below, pointer-right, one-fault, fault-unsound}
+use Rattle.audit_heap.specs.Faults.{pointer-below, one-fault, fault-unsound}
 
 -- The walk
-
-pub header-good : (h : List ℕ) (q mark : ℕ) → Object h q mark → badHeader h q mark ≡ false
-unfolding badHeader
-header-good h q mark O =
-    let a = O .holds in
-    let b = O .ends in
-    rw (O .ptrs) (lt-leb mark (q + 1) (omega arith))
-
-pub size-good : (h : List ℕ) (q mark : ℕ) → Object h q mark → badSize h q mark ≡ false
-unfolding badSize
-size-good h q mark O = rw (le-ltb (sizeAt h q) (2 + ptrsAt h q) (O .holds), le-ltb mark (q + sizeAt h q) (O .ends), O .size)
 
 or-false : (s t : Bool) → s || t ≡ false → (s ≡ false) × (t ≡ false)
 or-false true t e = absurd (true≢false e)
@@ -91,22 +80,6 @@ size-bad h q e =
         SizeFault h q
     go (inl f) = bounds (or-true (ltb (sizeAt h q) (2 + ptrsAt h q)) (ltb (markOf h) (q + sizeAt h q)) f)
     go (inr f) = inr (inr (not-true (kindOf h q .size (ptrsAt h q) (sizeAt h q)) f))
-
-pub objects-walk : (n : ℕ) (h : List ℕ) (q mark : ℕ) (os : List ℕ) → Objects h q mark os → mark ≤ q + n → walk n h q mark ≡ clean os
-unfolding walk
-objects-walk zero h q mark [] W l = refl
-objects-walk (suc n) h q mark [] W l = rw (le-leb mark q (omega arith))
-objects-walk zero h q mark (o ∷ os) W l = let a = W .1 .holds in let b = W .1 .ends in absurd (omega arith)
-objects-walk (suc n) h q mark (o ∷ os) W l =
-    let a = W .1 .holds in
-    let b = W .1 .ends in
-    rw (
-      lt-leb mark q (omega arith),
-      header-good h q mark (W .1),
-      size-good h q mark (W .1),
-      objects-walk n h (q + sizeAt h q) mark os (W .2) (omega arith),
-      W .0,
-    )
 
 -- what an answer of the walk shows
 abbrev Shows : List ℕ → ℕ → Audit → Type 0
@@ -222,19 +195,6 @@ heap-mark-fault h (inr e) = rw (lt-leb (markOf h) (length h) e) (go (leb firstOb
     go true = refl
     go false = refl
 
-pub clean-heap : (h os : List ℕ) → Heap h os → heapOf h ≡ clean os
-unfolding zeroAt
-clean-heap h os H =
-    let W = objects-walk (length h) h firstObject (markOf h) os (H .objects) (omega (arith, H .high)) in
-    heap-judged h os (H .low) (H .high) W
-    ∙ rw (none-bad (pointerAt h os) (1 ∷ pointerWords h os) right, none-bad (zeroAt h) (freeWords h) zero-at)
-  where
-    right : (i : ℕ) → Mem i (1 ∷ pointerWords h os) → pointerAt h os i ≡ true
-    right i m = true-pointer os (wordAt h i) (pointer-right h i os H (words-pointer h os i m))
-
-    zero-at : (i : ℕ) → Mem i (freeWords h) → zeroAt h i ≡ true
-    zero-at i m = eq-eqb (wordAt h i) 0 (H .free i (range-mem (markOf h) (length h - markOf h) i m .0))
-
 -- what an answer of the audit shows
 abbrev pub Says : List ℕ → Audit → Type 0
 Says h (clean os) = Heap h os
@@ -330,9 +290,16 @@ heap-says h = go (decLt (markOf h) firstObject) (decLt (length h) (markOf h))
         let R : MarkInRange h = (omega arith, omega arith) in
         walk-says R (walked h) refl (walk-shows (length h) h firstObject [] refl (R .0) (omega (arith, R .1)))
 
--- the audit lets through what is sound
+-- the audit lets through what is sound, with its objects
 pub heap-clean : (h os : List ℕ) → heapOf h ≡ clean os → Heap h os
 heap-clean h os e = rw e at (heap-says h)
+
+pub clean-heap : (h os : List ℕ) → Heap h os → heapOf h ≡ clean os
+clean-heap h os H = go (heapOf h) (heap-says h)
+  where
+    go : (r : Audit) → Says h r → r ≡ clean os
+    go (clean os′) H′ = ap clean (same-objects h firstObject (markOf h) os′ os (H′ .objects) (H .objects))
+    go (fault q) F = absurd (fault-unsound h q F os H)
 
 -- and names the first fault of what is not
 pub fault-exact : FaultExactly

@@ -10,7 +10,7 @@ use native.Mathlib.Omega.{arith}
 use lib.ListN.{length}
 use Rattle.model.specs.Words.{wordAt}
 use Rattle.model.specs.Heap.{markOf, firstObject, Object, Objects, Pointer, Heap}
-use Rattle.model.specs.Faults.{MarkInRange, WalkTo, HeaderFault, SizeFault, WalkFault, header, size-word, InPointerPart, BadPointer, NonzeroFree}
+use Rattle.model.specs.Faults.{WalkTo, HeaderFault, SizeFault, WalkFault, header, size-word, InPointerPart, BadPointer, NonzeroFree}
 use Rattle.model.specs.Faults.{Lowest, FirstFault, mark-word, on-walk, after-walk}
 use Rattle.model.specs.Claim.{OneFault, FaultWithin}
 use Rattle.heap.specs.Objects.{object-of, object-within, same-objects, next-object}
@@ -85,7 +85,7 @@ module _ (h : List ℕ) where
       omega (arith, O .holds, O .ends, I .below)
 
   -- in a sound heap all of them are right
-  pub pointer-right : (i : ℕ) (os : List ℕ) → Heap h os → (i ≡ 1) ⊎ InPointerPart h os i → Pointer os (wordAt h i)
+  pointer-right : (i : ℕ) (os : List ℕ) → Heap h os → (i ≡ 1) ⊎ InPointerPart h os i → Pointer os (wordAt h i)
   pointer-right i os H (inl e) = rw e (H .root)
   pointer-right i os H (inr I) =
       let k = i - I .object in

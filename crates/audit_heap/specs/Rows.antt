@@ -1,6 +1,6 @@
 -- The sample heaps (`heapRows`): the words found by hand are their first faults, and those without one are sound. The audit finds them, and
 -- what it finds is that.
-use mathlib.Core.List.{List, [], _∷_, map}
+use mathlib.Core.List.{List, _∷_, map}
 use mathlib.Core.Logic.{inl, inr}
 use mathlib.Core.Path.{_≡_, subst}
 use Rattle.model.specs.Choice.{Mem}

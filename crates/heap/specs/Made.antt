@@ -1,7 +1,7 @@
 -- A new object at the mark, right by its kind's row, keeps a sound heap sound, with one object more at the end (`made-kept`). It reaches
 -- the mark and the free words only, so the older objects and the free words behind it stay. One law for every row of the table.
 use Prim.Native.Nat.{ℕ, suc, _+_, _-_, _*_, _/_, _<_, _≤_}
-use mathlib.Core.Path.{_≡_, refl, ap, sym, _∙_}
+use mathlib.Core.Path.{_≡_, refl, ap, _∙_}
 use mathlib.Core.Bool.{true}
 use mathlib.Core.List.{List, [], _∷_, _++_}
 use mathlib.Core.Logic.{_⊎_, inl, inr}
@@ -10,7 +10,7 @@ use lib.ListN.{length, length-set, length-append, List·getD-append}
 use lib.Seq.{sets, length-sets, getD-set-same, getD-set-other}
 use Rattle.model.specs.Choice.{Mem}
 use Rattle.model.specs.Words.{wordAt}
-use Rattle.model.specs.Heap.{markOf, rootOf, firstObject, kindAt, ptrsAt, sizeAt, kinds, kindIn, kindOf, objectOf, made, Object, Objects, Pointer, Heap}
+use Rattle.model.specs.Heap.{markOf, rootOf, firstObject, kindAt, ptrsAt, sizeAt, kinds, kindIn, kindOf, objectOf, made, Pointer, Heap}
 use Rattle.laws.specs.Members.{mem-append, mem-more, mem-right}
 use Rattle.laws.specs.Stores.{sets-other, sets-at}
 use Rattle.heap.specs.Objects.{SameHeader, ptrs-alike, size-alike, objects-alike, objects-snoc}

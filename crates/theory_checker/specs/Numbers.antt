@@ -2,14 +2,14 @@
 use Prim.Native.Nat.{ℕ, _≤_}
 use mathlib.Core.Bool.{Bool, true, false, _&&_}
 use mathlib.Core.List.{List, [], _∷_}
-use mathlib.Core.Path.{_≡_, refl, subst}
+use mathlib.Core.Path.{_≡_, subst}
 use native.Mathlib.Omega.{arith}
 use lib.Dec.{leb}
 use lib.ListN.{length}
 use Rattle.model.specs.Choice.{if_then_else_, all}
 use Rattle.model.specs.File.{Ins, fileMost, Records, broken, starts, recordsOf, Heads, wrong, right, headsOf, insAt, instructions, procs}
 use Rattle.model.specs.Checker.{State, Known, isSet, stateAt, sameState, firsts, innermost, Taking, bad, good, Flow, refused, passed, need, meet, andTake}
-use Rattle.model.specs.Checker.{goOn, passOne, passAll, passes, targetTests, nextTests, depthTests, leaveTests, takeWith, takeOne, takeAll, flow}
+use Rattle.model.specs.Checker.{goOn, passAll, passes, targetTests, nextTests, depthTests, leaveTests, takeWith, takeOne, takeAll, flow}
 use Rattle.model.specs.Calls.{Verdict, pass, refuse, mapSize, flowed, headed, scanned, verdictOf}
 
 abbrev TakenFew : Taking Known → Type 0

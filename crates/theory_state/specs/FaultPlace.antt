@@ -1,18 +1,17 @@
 -- The place of refusal 11: start and run answer 11 at q exactly where tests 1 to 10 find nothing and q is the heap's first fault
 -- (`refused-eleven`), so that two calls with one heap name one word (`same-word`). The tests are met in their order; no other answers 11.
 use Prim.Native.Nat.{ℕ}
-use mathlib.Core.Bool.{Bool, true, false, true≢false}
+use mathlib.Core.Bool.{Bool, true, false}
 use mathlib.Core.List.{List}
-use mathlib.Core.Path.{_≡_, refl, sym, _∙_, subst}
+use mathlib.Core.Path.{_≡_, refl, subst}
 use native.Mathlib.Omega.{arith}
 use Rattle.model.specs.Choice.{if_then_else_, all, All, all-true, true-all}
-use Rattle.model.specs.Heap.{Heap, Audit, fault, clean, heapOf}
+use Rattle.model.specs.Heap.{Audit, fault, clean, heapOf}
 use Rattle.model.specs.Faults.{FirstFault}
 use Rattle.model.specs.Step.{runOn}
-use Rattle.model.specs.Calls.{Verdict, pass, refuse, verdictOf, checked, answered, checkOf, Lent, machineOf, withMap, lengthTests, registerTests, soundTests}
+use Rattle.model.specs.Calls.{Verdict, pass, refuse, verdictOf, answered, checkOf, Lent, machineOf, withMap, lengthTests, registerTests, soundTests}
 use Rattle.model.specs.Calls.{After, answers, demand, audited, afterMap, afterCheck, tested, leaving, started, startOf, ranFrom, runOf}
 use Rattle.model.specs.Claim.{Call, check, start, run, callOf, Stopped, HeapFault, RefusedEleven, SameWord}
-use Rattle.model.specs.declared.Answer.{Answer}
 use Rattle.model.specs.declared.Answer.the-variants.{Passed, Ready, Refused}
 use Rattle.theory_checker.specs.Numbers.{verdict-number}
 use Rattle.theory_checker.specs.Leaves.{run-leaves}
