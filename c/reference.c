@@ -444,56 +444,85 @@ static bool lengths_fault(const uint8_t *file, size_t main_len, size_t ptr_len,
         || main_len < file[5] || ptr_len < file[6];
 }
 
+/* What the walk finds in a heap word. */
+enum { W_OTHER = 0, W_HEADER = 1, W_POINTER = 2 };
+
 /* nil or the index of an object's word 0 */
-static bool is_pointer(uint32_t word, const uint8_t *objects, size_t heap_len)
+static bool is_pointer(uint32_t word, const uint8_t *sorts, size_t heap_len)
 {
-    return word == 0 || (word < heap_len && objects[word] != 0);
+    return word == 0 || (word < heap_len && sorts[word] == W_HEADER);
+}
+
+/* Order 1, the walk: a header of unknown kind or without a size word below the mark. */
+static bool bad_header(const uint32_t *heap, size_t mark, size_t at)
+{
+    return heap[at] >> 24 != 1 || at + 1 >= mark;
 }
 
 /*
- * 11: the heap (Manual 6.7), and which word is named (Manual 6.8). Marks
- * the first words of objects in a table of heap_len bytes.
+ * Order 1, the walk: a size word below 2 plus the pointer words or running
+ * past the mark. None is wrong for its kind: kind 1 has no rule of its own.
  */
-static bool heap_fault(const uint32_t *heap, size_t heap_len, uint8_t *objects, size_t *place)
+static bool bad_size(const uint32_t *heap, size_t mark, size_t at)
 {
-    memset(objects, 0, heap_len);
-    if (heap[0] < 2 || heap[0] > heap_len) {
-        *place = 0;
-        return true;
-    }
-    size_t mark = heap[0];
+    return heap[at + 1] < 2 + (heap[at] & 0xffffffu) || heap[at + 1] > mark - at;
+}
+
+/*
+ * Order 1, second (Manual 6.8.2): the objects walked upwards, header before
+ * size word, up to the first fault. The table gets the headers and pointer
+ * words of the objects passed.
+ */
+static bool walk_fault(const uint32_t *heap, size_t mark, uint8_t *sorts, size_t *place)
+{
     for (size_t at = 2; at < mark; at += heap[at + 1]) {
-        uint32_t pointers = heap[at] & 0xffffffu;
-        if (heap[at] >> 24 != 1 || at + 1 >= mark) {
+        if (bad_header(heap, mark, at)) {
             *place = at;
             return true;
         }
-        if (heap[at + 1] < 2 + pointers || heap[at + 1] > mark - at) {
+        if (bad_size(heap, mark, at)) {
             *place = at + 1;
             return true;
         }
-        objects[at] = 1;
+        sorts[at] = W_HEADER;
+        memset(sorts + at + 2, W_POINTER, heap[at] & 0xffffffu);
     }
-    if (!is_pointer(heap[1], objects, heap_len)) {
-        *place = 1;
-        return true;
-    }
-    for (size_t at = 2; at < mark; at += heap[at + 1]) {
-        uint32_t pointers = heap[at] & 0xffffffu;
-        for (size_t i = at + 2; i < at + 2 + pointers; i++) {
-            if (!is_pointer(heap[i], objects, heap_len)) {
-                *place = i;
-                return true;
-            }
-        }
-    }
-    for (size_t i = mark; i < heap_len; i++) {
-        if (heap[i] != 0) {
+    return false;
+}
+
+/*
+ * Order 1, third (Manual 6.8.3), after a clean walk: the lowest index that is
+ * a bad pointer, the root included, or a nonzero free word. One minimum.
+ */
+static bool word_fault(const uint32_t *heap, size_t heap_len, size_t mark,
+                       const uint8_t *sorts, size_t *place)
+{
+    for (size_t i = 1; i < heap_len; i++) {
+        bool bad_pointer = sorts[i] == W_POINTER && !is_pointer(heap[i], sorts, heap_len);
+        bool bad_free = i >= mark && heap[i] != 0;
+        if (bad_pointer || bad_free) {
             *place = i;
             return true;
         }
     }
     return false;
+}
+
+/*
+ * 11: the heap (Manual 6.7), and the one word that is named (Manual 6.8).
+ * Fills a table of heap_len bytes with what each word is.
+ */
+static bool heap_fault(const uint32_t *heap, size_t heap_len, uint8_t *sorts, size_t *place)
+{
+    size_t mark = heap[0];
+    memset(sorts, W_OTHER, heap_len);
+    sorts[1] = W_POINTER; /* the root */
+    if (mark < 2 || mark > heap_len) {
+        *place = 0; /* order 1, first (Manual 6.8.1): the mark is out of range */
+        return true;
+    }
+    return walk_fault(heap, mark, sorts, place)
+        || word_fault(heap, heap_len, mark, sorts, place);
 }
 
 /* Words above a top are 0. */
@@ -597,7 +626,7 @@ static bool state_sound(const uint8_t *file, size_t file_len, const uint16_t *ma
                         const uint32_t *main_stack, size_t main_len,
                         const uint32_t *ptr_stack, size_t ptr_len,
                         const uint32_t *ctl, size_t ctl_len,
-                        const uint8_t *objects, size_t heap_len,
+                        const uint8_t *sorts, size_t heap_len,
                         const registers *reg)
 {
     if (reg->state > 1)
@@ -607,7 +636,7 @@ static bool state_sound(const uint8_t *file, size_t file_len, const uint16_t *ma
         || !clear_above(ctl, ctl_len, reg->ctl_top))
         return false;
     for (size_t i = 0; i < reg->ptr_top; i++)
-        if (!is_pointer(ptr_stack[i], objects, heap_len))
+        if (!is_pointer(ptr_stack[i], sorts, heap_len))
             return false;
     if (reg->state == 1) /* procedure 0's results alone remain */
         return reg->place == 0 && reg->frame == 0 && reg->handler == 0
@@ -666,14 +695,14 @@ ref_reply ref_start(const uint8_t *file, size_t file_len,
                     uint8_t *regs, size_t regs_len)
 {
     layout lay;
-    uint8_t objects[HEAP_MAX];
+    uint8_t sorts[HEAP_MAX];
     size_t place = 0;
     ref_reply checked = check_file(file, file_len, map, map_len, &lay);
     if (checked.kind != REF_PASSED)
         return checked;
     if (lengths_fault(file, main_len, ptr_len, ctl_len, heap_len))
         return refused(10, 0);
-    if (heap_fault(heap, heap_len, objects, &place))
+    if (heap_fault(heap, heap_len, sorts, &place))
         return refused(11, place);
     if (regs_len != REG_BYTES)
         return refused(12, 0);
@@ -699,20 +728,20 @@ ref_reply ref_run(const uint8_t *file, size_t file_len,
                   uint32_t budget)
 {
     layout lay;
-    uint8_t objects[HEAP_MAX];
+    uint8_t sorts[HEAP_MAX];
     size_t fault = 0;
     ref_reply checked = check_file(file, file_len, map, map_len, &lay);
     if (checked.kind != REF_PASSED)
         return checked;
     if (lengths_fault(file, main_len, ptr_len, ctl_len, heap_len))
         return refused(10, 0);
-    if (heap_fault(heap, heap_len, objects, &fault))
+    if (heap_fault(heap, heap_len, sorts, &fault))
         return refused(11, fault);
     if (regs_len != REG_BYTES)
         return refused(12, 0);
     registers reg = read_registers(regs);
     if (!state_sound(file, file_len, map, &lay, main_stack, main_len, ptr_stack, ptr_len,
-                     ctl_stack, ctl_len, objects, heap_len, &reg))
+                     ctl_stack, ctl_len, sorts, heap_len, &reg))
         return refused(12, 0);
     /* finished is looked at before spent */
     if (reg.state == 1)
