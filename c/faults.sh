@@ -32,7 +32,7 @@ plant() {
 plant "wrong place of a fault in the heap" 's/\*place = at + 1;/*place = at;/'
 # Order 1, the word that 11 names: the mark and the walk,
 plant "a mark of length + 1 let pass" 's/mark > heap_len)/mark > heap_len + 1)/
-    s/^    return walk_fault(/    if (mark > heap_len)\
+    s/^    if (walk_fault(/    if (mark > heap_len)\
         mark = heap_len;\
 &/'
 plant "the size word tested before the header" 's/^        if (bad_header(heap, mark, at)) {/\
@@ -43,36 +43,32 @@ plant "the second bad header instead of the first" 's/^        if (bad_header(he
             size_t next = at + 1 < mark \&\& !bad_size(heap, mark, at) ? at + heap[at + 1] : mark;\
             if (next < mark \&\& bad_header(heap, mark, next))\
                 at = next;/'
-plant "the root judged before the walk" 's/^    return walk_fault(/    if (heap[1] >= mark) {\
+plant "the root judged before the walk" 's/^    if (walk_fault(/    if (heap[1] >= mark) {\
         *place = 1;\
         return true;\
     }\
 &/'
-plant "pointers judged before a later fault of the walk" 's/^    return walk_fault(/\
-    bool walk = walk_fault(heap, mark, sorts, place);\
-    sorts[1] = W_OTHER;\
-    if (walk \&\& word_fault(heap, *place, mark, sorts, place))\
-        return true;\
-    sorts[1] = W_POINTER;\
-&/'
+plant "pointers judged before a later fault of the walk" 's/^    if (walk_fault(.*/&\
+    {\
+        size_t low = lowest_bad_pointer(heap, heap_len, *place - 1, objects);\
+        if (low > 1 \&\& low < *place)\
+            *place = low;/
+    /^    if (walk_fault(/,/return true;/s/return true;/&\
+    }/'
 # and, after a clean walk, the one minimum.
-plant "free words judged before pointers" 's/^    for (size_t i = 1; i < heap_len; i++) {/\
-    for (size_t i = mark; i < heap_len; i++)\
-        if (heap[i] != 0 \&\& is_pointer(heap[1], sorts, heap_len)) {\
-            *place = i;\
-            return true;\
-        }\
-&/'
-plant "the last bad pointer instead of the first" 's/^        if (bad_pointer || bad_free) {/\
-        for (size_t k = i + 1; bad_pointer \&\& i > 1 \&\& k < mark; k++)\
-            if (sorts[k] == W_POINTER \&\& !is_pointer(heap[k], sorts, heap_len))\
-                i = k;\
-&/'
-plant "the root judged after the others" 's/^    for (size_t i = 1; i < heap_len; i++) {/\
-    for (size_t k = 2; k <= heap_len; k++) {\
-        size_t i = k < heap_len ? k : 1;/'
-plant "the root not judged" 's/^    for (size_t i = 1; i < heap_len/    for (size_t i = 2; i < heap_len/'
-plant "the heap's last word not judged" 's/^    for (size_t i = 1; i < heap_len/    for (size_t i = 1; i + 1 < heap_len/'
+plant "free words judged before pointers" \
+    's/\*place = pointer < free_word ?/*place = pointer < free_word \&\& (pointer == 1 || free_word == heap_len) ?/'
+plant "the last bad pointer instead of the first" 's/^    if (!is_pointer(heap\[1\]/    size_t last = heap_len;\
+&/
+    s/^                return i;/                last = i;/
+    s/^    return heap_len;/    return last;/'
+plant "the root judged after the other pointers" 's/^        return 1;/        (void)objects;/
+    s/^    return heap_len;/    return is_pointer(heap[1], objects, heap_len) ? heap_len : 1;/'
+plant "the root judged after the free words" \
+    's/\*place = pointer < free_word ?/*place = pointer < free_word \&\& (pointer > 1 || free_word == heap_len) ?/'
+plant "the root not judged" 's/^        return 1;/        (void)objects;/'
+plant "the heap's last free word not judged" \
+    's/while (i < heap_len \&\& heap\[i\] == 0)/while (i < heap_len \&\& (heap[i] == 0 || i + 1 == heap_len))/'
 # The rest.
 plant "wrong place of an uncaught exception" 's/REF_UNCAUGHT, exception, place, steps/REF_UNCAUGHT, exception, place + 1, steps/'
 plant "a popped word not zeroed" 's/^    list\[\*top\] = 0;/    (void)list;/'

@@ -444,13 +444,10 @@ static bool lengths_fault(const uint8_t *file, size_t main_len, size_t ptr_len,
         || main_len < file[5] || ptr_len < file[6];
 }
 
-/* What the walk finds in a heap word. */
-enum { W_OTHER = 0, W_HEADER = 1, W_POINTER = 2 };
-
 /* nil or the index of an object's word 0 */
-static bool is_pointer(uint32_t word, const uint8_t *sorts, size_t heap_len)
+static bool is_pointer(uint32_t word, const uint8_t *objects, size_t heap_len)
 {
-    return word == 0 || (word < heap_len && sorts[word] == W_HEADER);
+    return word == 0 || (word < heap_len && objects[word] != 0);
 }
 
 /* Order 1, the walk: a header of unknown kind or without a size word below the mark. */
@@ -470,10 +467,9 @@ static bool bad_size(const uint32_t *heap, size_t mark, size_t at)
 
 /*
  * Order 1, second (Manual 6.8.2): the objects walked upwards, header before
- * size word, up to the first fault. The table gets the headers and pointer
- * words of the objects passed.
+ * size word, up to the first fault. Marks the first words of those passed.
  */
-static bool walk_fault(const uint32_t *heap, size_t mark, uint8_t *sorts, size_t *place)
+static bool walk_fault(const uint32_t *heap, size_t mark, uint8_t *objects, size_t *place)
 {
     for (size_t at = 2; at < mark; at += heap[at + 1]) {
         if (bad_header(heap, mark, at)) {
@@ -484,45 +480,54 @@ static bool walk_fault(const uint32_t *heap, size_t mark, uint8_t *sorts, size_t
             *place = at + 1;
             return true;
         }
-        sorts[at] = W_HEADER;
-        memset(sorts + at + 2, W_POINTER, heap[at] & 0xffffffu);
+        objects[at] = 1;
     }
     return false;
 }
 
-/*
- * Order 1, third (Manual 6.8.3), after a clean walk: the lowest index that is
- * a bad pointer, the root included, or a nonzero free word. One minimum.
- */
-static bool word_fault(const uint32_t *heap, size_t heap_len, size_t mark,
-                       const uint8_t *sorts, size_t *place)
+/* Order 1, third: the lowest bad pointer, the root included; heap_len if none is bad. */
+static size_t lowest_bad_pointer(const uint32_t *heap, size_t heap_len, size_t mark,
+                                 const uint8_t *objects)
 {
-    for (size_t i = 1; i < heap_len; i++) {
-        bool bad_pointer = sorts[i] == W_POINTER && !is_pointer(heap[i], sorts, heap_len);
-        bool bad_free = i >= mark && heap[i] != 0;
-        if (bad_pointer || bad_free) {
-            *place = i;
-            return true;
-        }
+    if (!is_pointer(heap[1], objects, heap_len))
+        return 1;
+    for (size_t at = 2; at < mark; at += heap[at + 1]) {
+        size_t plain = at + 2 + (heap[at] & 0xffffffu);
+        for (size_t i = at + 2; i < plain; i++)
+            if (!is_pointer(heap[i], objects, heap_len))
+                return i;
     }
-    return false;
+    return heap_len;
+}
+
+/* Order 1, third: the lowest nonzero free word; heap_len if there is none. */
+static size_t lowest_nonzero_free(const uint32_t *heap, size_t heap_len, size_t mark)
+{
+    size_t i = mark;
+    while (i < heap_len && heap[i] == 0)
+        i++;
+    return i;
 }
 
 /*
  * 11: the heap (Manual 6.7), and the one word that is named (Manual 6.8).
- * Fills a table of heap_len bytes with what each word is.
+ * Marks the first words of objects in a table of heap_len bytes.
  */
-static bool heap_fault(const uint32_t *heap, size_t heap_len, uint8_t *sorts, size_t *place)
+static bool heap_fault(const uint32_t *heap, size_t heap_len, uint8_t *objects, size_t *place)
 {
     size_t mark = heap[0];
-    memset(sorts, W_OTHER, heap_len);
-    sorts[1] = W_POINTER; /* the root */
+    memset(objects, 0, heap_len);
     if (mark < 2 || mark > heap_len) {
         *place = 0; /* order 1, first (Manual 6.8.1): the mark is out of range */
         return true;
     }
-    return walk_fault(heap, mark, sorts, place)
-        || word_fault(heap, heap_len, mark, sorts, place);
+    if (walk_fault(heap, mark, objects, place))
+        return true;
+    /* order 1, third (Manual 6.8.3), after a clean walk: one minimum over both */
+    size_t free_word = lowest_nonzero_free(heap, heap_len, mark);
+    size_t pointer = lowest_bad_pointer(heap, heap_len, mark, objects);
+    *place = pointer < free_word ? pointer : free_word;
+    return *place < heap_len;
 }
 
 /* Words above a top are 0. */
@@ -626,7 +631,7 @@ static bool state_sound(const uint8_t *file, size_t file_len, const uint16_t *ma
                         const uint32_t *main_stack, size_t main_len,
                         const uint32_t *ptr_stack, size_t ptr_len,
                         const uint32_t *ctl, size_t ctl_len,
-                        const uint8_t *sorts, size_t heap_len,
+                        const uint8_t *objects, size_t heap_len,
                         const registers *reg)
 {
     if (reg->state > 1)
@@ -636,7 +641,7 @@ static bool state_sound(const uint8_t *file, size_t file_len, const uint16_t *ma
         || !clear_above(ctl, ctl_len, reg->ctl_top))
         return false;
     for (size_t i = 0; i < reg->ptr_top; i++)
-        if (!is_pointer(ptr_stack[i], sorts, heap_len))
+        if (!is_pointer(ptr_stack[i], objects, heap_len))
             return false;
     if (reg->state == 1) /* procedure 0's results alone remain */
         return reg->place == 0 && reg->frame == 0 && reg->handler == 0
@@ -695,14 +700,14 @@ ref_reply ref_start(const uint8_t *file, size_t file_len,
                     uint8_t *regs, size_t regs_len)
 {
     layout lay;
-    uint8_t sorts[HEAP_MAX];
+    uint8_t objects[HEAP_MAX];
     size_t place = 0;
     ref_reply checked = check_file(file, file_len, map, map_len, &lay);
     if (checked.kind != REF_PASSED)
         return checked;
     if (lengths_fault(file, main_len, ptr_len, ctl_len, heap_len))
         return refused(10, 0);
-    if (heap_fault(heap, heap_len, sorts, &place))
+    if (heap_fault(heap, heap_len, objects, &place))
         return refused(11, place);
     if (regs_len != REG_BYTES)
         return refused(12, 0);
@@ -728,20 +733,20 @@ ref_reply ref_run(const uint8_t *file, size_t file_len,
                   uint32_t budget)
 {
     layout lay;
-    uint8_t sorts[HEAP_MAX];
+    uint8_t objects[HEAP_MAX];
     size_t fault = 0;
     ref_reply checked = check_file(file, file_len, map, map_len, &lay);
     if (checked.kind != REF_PASSED)
         return checked;
     if (lengths_fault(file, main_len, ptr_len, ctl_len, heap_len))
         return refused(10, 0);
-    if (heap_fault(heap, heap_len, sorts, &fault))
+    if (heap_fault(heap, heap_len, objects, &fault))
         return refused(11, fault);
     if (regs_len != REG_BYTES)
         return refused(12, 0);
     registers reg = read_registers(regs);
     if (!state_sound(file, file_len, map, &lay, main_stack, main_len, ptr_stack, ptr_len,
-                     ctl_stack, ctl_len, sorts, heap_len, &reg))
+                     ctl_stack, ctl_len, objects, heap_len, &reg))
         return refused(12, 0);
     /* finished is looked at before spent */
     if (reg.state == 1)
