@@ -4,6 +4,8 @@
  *   compare SEED CASES
  * Stops at the first difference with a dump. A case depends on the seed and
  * its own number alone: compare SEED CASES FIRST begins with case FIRST.
+ * Ends with 1 on a difference, with 2 if a run of 20,000 cases or more has
+ * not met all that the table counts.
  */
 #include "reference.h"
 #include "yalgovim.h"
@@ -832,6 +834,204 @@ static bool guards_whole(const list *l, int which)
     return true;
 }
 
+/* ---- heaps refused as 11: the word named, and what else is wrong ---- */
+
+typedef struct {
+    const char *name;
+    uint64_t count;
+} counter;
+
+enum {
+    AT_MARK, AT_HEADER, AT_SIZE, AT_ROOT, AT_POINTER, AT_FREE,
+    MARK_LOW, MARK_NEXT, MARK_HIGH, KIND_UNKNOWN, SIZE_MISSING, SIZE_LOW, SIZE_HIGH,
+    LONG_HEAP, LAST_WORD, LAST_OF_ALL,
+    MARK_ROOT, HEADER_SIZE, WALK_WALK, WALK_ROOT, WALK_POINTER, WALK_FREE,
+    ROOT_POINTER, ROOT_FREE, POINTER_POINTER, POINTER_FREE, FREE_FREE,
+    HEAP_COUNTERS
+};
+
+/* The word that the reference names; the fault there; pairs of faults in one heap. */
+static counter heap_met[HEAP_COUNTERS] = {
+    [AT_MARK] = { "word 0", 0 },
+    [AT_HEADER] = { "a header", 0 },
+    [AT_SIZE] = { "a size word", 0 },
+    [AT_ROOT] = { "the root", 0 },
+    [AT_POINTER] = { "another pointer word", 0 },
+    [AT_FREE] = { "a free word", 0 },
+    [MARK_LOW] = { "mark below 2", 0 },
+    [MARK_NEXT] = { "mark of length + 1", 0 },
+    [MARK_HIGH] = { "mark above that", 0 },
+    [KIND_UNKNOWN] = { "unknown kind", 0 },
+    [SIZE_MISSING] = { "header at mark - 1", 0 },
+    [SIZE_LOW] = { "size below 2 plus pointers", 0 },
+    [SIZE_HIGH] = { "size past the mark", 0 },
+    [LONG_HEAP] = { "heap above 2,048", 0 },
+    [LAST_WORD] = { "the heap's last word", 0 },
+    [LAST_OF_ALL] = { "word 16,383", 0 },
+    [MARK_ROOT] = { "mark and root", 0 },
+    [HEADER_SIZE] = { "header and its size word", 0 },
+    [WALK_WALK] = { "two objects", 0 },
+    [WALK_ROOT] = { "walk and root", 0 },
+    [WALK_POINTER] = { "walk and pointer before it", 0 },
+    [WALK_FREE] = { "walk and free word", 0 },
+    [ROOT_POINTER] = { "root and pointer", 0 },
+    [ROOT_FREE] = { "root and free word", 0 },
+    [POINTER_POINTER] = { "two pointers", 0 },
+    [POINTER_FREE] = { "pointer and free word", 0 },
+    [FREE_FREE] = { "two free words", 0 }
+};
+
+/* The objects from word 2 on, as far as they are in order. */
+static struct {
+    size_t at[8192], count;
+    size_t stop; /* the mark, or the first object that is not in order */
+    uint8_t begins[16384];
+} walked;
+
+/* The words at fault besides those of the walk: how many, and the lowest. */
+typedef struct {
+    bool root;
+    size_t pointers, pointer, frees, free_word;
+} bad_words;
+
+static uint32_t pointers_of(size_t at)
+{
+    return word(L_HEAP, at) & 0xffffffu;
+}
+
+static bool size_fits(size_t at, size_t mark)
+{
+    return at + 1 < mark && word(L_HEAP, at + 1) >= 2 + pointers_of(at)
+        && word(L_HEAP, at + 1) <= mark - at;
+}
+
+static bool in_order(size_t at, size_t mark)
+{
+    return word(L_HEAP, at) >> 24 == 1 && size_fits(at, mark);
+}
+
+static void walk_heap(void)
+{
+    size_t n = lists[L_HEAP].len, mark = n == 0 ? 0 : word(L_HEAP, 0);
+    memset(walked.begins, 0, sizeof walked.begins);
+    walked.count = 0;
+    walked.stop = 2;
+    if (n > 16384 || mark > n)
+        return;
+    while (walked.stop < mark && in_order(walked.stop, mark)) {
+        walked.at[walked.count++] = walked.stop;
+        walked.begins[walked.stop] = 1;
+        walked.stop += word(L_HEAP, walked.stop + 1);
+    }
+}
+
+/* No pointer, whatever lies from the walk's end to the mark. */
+static bool no_pointer(uint32_t w, size_t mark)
+{
+    return w != 0 && (w >= mark || (w < walked.stop && walked.begins[w] == 0));
+}
+
+static bad_words find_bad_words(size_t mark)
+{
+    bad_words bad = { no_pointer(word(L_HEAP, 1), mark), 0, 0, 0, 0 };
+    for (size_t k = 0; k < walked.count; k++) {
+        size_t first = walked.at[k] + 2;
+        for (size_t i = first; i < first + pointers_of(walked.at[k]); i++)
+            if (no_pointer(word(L_HEAP, i), mark) && bad.pointers++ == 0)
+                bad.pointer = i;
+    }
+    for (size_t i = mark; i < lists[L_HEAP].len; i++)
+        if (word(L_HEAP, i) != 0 && bad.frees++ == 0)
+            bad.free_word = i;
+    return bad;
+}
+
+static void meet(int what, bool met)
+{
+    heap_met[what].count += met;
+}
+
+/* Counts what the place is; the heap has this fault there. */
+static void meet_place(int what, size_t expected, size_t place)
+{
+    meet(what, true);
+    if (place == expected)
+        return;
+    printf("\n11 names word %zu; %s, word %zu, comes first: seed %" PRIu64 " case %" PRIu64 "\n",
+           place, heap_met[what].name, expected, seed, case_no);
+    exit(1);
+}
+
+/* The mark is out of range. */
+static void meet_mark(size_t n, uint32_t mark, size_t place)
+{
+    uint32_t root = word(L_HEAP, 1);
+    meet(MARK_LOW, mark < 2);
+    meet(MARK_NEXT, mark == n + 1);
+    meet(MARK_HIGH, mark > n + 1);
+    meet(MARK_ROOT, root == 1 || root >= n);
+    meet_place(AT_MARK, 0, place);
+}
+
+/* The walk ends below the mark. */
+static void meet_walk(size_t mark, bad_words bad, size_t place)
+{
+    size_t at = walked.stop, next = at;
+    bool kind = word(L_HEAP, at) >> 24 != 1, missing = at + 1 >= mark;
+    bool low = !missing && word(L_HEAP, at + 1) < 2 + pointers_of(at);
+    bool high = !missing && word(L_HEAP, at + 1) > mark - at;
+    while (next < mark && size_fits(next, mark) && (next == at || in_order(next, mark)))
+        next += word(L_HEAP, next + 1);
+    meet(KIND_UNKNOWN, kind);
+    meet(SIZE_MISSING, missing);
+    meet(SIZE_LOW, !kind && low);
+    meet(SIZE_HIGH, !kind && high);
+    meet(HEADER_SIZE, kind && (low || high));
+    meet(WALK_WALK, next > at && next < mark);
+    meet(WALK_ROOT, bad.root);
+    meet(WALK_POINTER, bad.pointers > 0);
+    meet(WALK_FREE, bad.frees > 0);
+    if (kind || missing)
+        meet_place(AT_HEADER, at, place);
+    else
+        meet_place(AT_SIZE, at + 1, place);
+}
+
+/* The walk is clean. */
+static void meet_words(bad_words bad, size_t place)
+{
+    meet(ROOT_POINTER, bad.root && bad.pointers > 0);
+    meet(ROOT_FREE, bad.root && bad.frees > 0);
+    meet(POINTER_POINTER, !bad.root && bad.pointers > 1);
+    meet(POINTER_FREE, !bad.root && bad.pointers > 0 && bad.frees > 0);
+    meet(FREE_FREE, !bad.root && bad.pointers == 0 && bad.frees > 1);
+    if (bad.root)
+        meet_place(AT_ROOT, 1, place);
+    else if (bad.pointers > 0)
+        meet_place(AT_POINTER, bad.pointer, place);
+    else
+        meet_place(AT_FREE, bad.free_word, place);
+}
+
+/* Counts a heap that was refused as 11, this word being named. */
+static void meet_heap(size_t place)
+{
+    size_t n = lists[L_HEAP].len;
+    uint32_t mark = word(L_HEAP, 0);
+    meet(LONG_HEAP, n > 2048);
+    meet(LAST_WORD, place == n - 1);
+    meet(LAST_OF_ALL, place == 16383);
+    walk_heap();
+    if (mark < 2 || mark > n)
+        meet_mark(n, mark, place);
+    else if (walked.stop < mark)
+        meet_walk(mark, find_bad_words(mark), place);
+    else
+        meet_words(find_bad_words(mark), place);
+}
+
+/* ---- the calls ---- */
+
 static snapshot before_call; /* for the dump */
 static bool have_before;
 
@@ -891,6 +1091,8 @@ static ref_reply both(int call, uint32_t budget)
     answers[call][ref.kind > 5 ? 5 : ref.kind]++;
     if (ref.kind == REF_REFUSED)
         refusals[call][ref.number > 12 ? 0 : ref.number]++;
+    if (ref.kind == REF_REFUSED && ref.number == 11)
+        meet_heap(ref.place);
     if (ref.kind == REF_UNCAUGHT)
         raised[ref.number >= 1 && ref.number <= 5 ? ref.number : 6]++;
     steps_total += ref.steps;
@@ -909,12 +1111,13 @@ static void lend_file(const uint8_t *f, size_t n)
     set_bytes(L_FILE, f);
 }
 
+static const uint8_t kinds[] = {
+    1, 2, 3, 4, 5, 6, 20, 21, 22, 23, 30, 31, 32, 33, 36, 54, 56, 57, 58, 59, 60, 62, 64,
+    72, 73, 130, 131, 195, 198, 201, 204, 140, 141, 142, 143, 145, 144, 146, 160, 161, 162, 240
+};
+
 static uint8_t known_kind(void)
 {
-    static const uint8_t kinds[] = {
-        1, 2, 3, 4, 5, 6, 20, 21, 22, 23, 30, 31, 32, 33, 36, 54, 56, 57, 58, 59, 60, 62, 64,
-        72, 73, 130, 131, 195, 198, 201, 204, 140, 141, 142, 143, 145, 144, 146, 160, 161, 162, 240
-    };
     return kinds[below(sizeof kinds)];
 }
 
@@ -1099,22 +1302,111 @@ static void damage_words(int which, uint32_t used)
     set_word(which, i, nudge(word(which, i)));
 }
 
+/* A word that is no pointer; an object lies at this index, or none in the heap. */
+static uint32_t stray(size_t at)
+{
+    uint32_t mark = word(L_HEAP, 0);
+    switch (below(6)) {
+    case 0: return 1;
+    case 1: return mark;
+    case 2: return (uint32_t)lists[L_HEAP].len;
+    case 3: return (uint32_t)at + 1;
+    case 4: return (uint32_t)at | 1u << (16 + below(16));
+    default: return mark - 1;
+    }
+}
+
+static uint32_t bad_size(uint32_t pointers, uint32_t room)
+{
+    switch (below(5)) {
+    case 0: return 1 + pointers;
+    case 1: return below(2 + pointers);
+    case 2: return room + 1;
+    case 3: return room + below(20);
+    default: return 0xffffffffu - below(4);
+    }
+}
+
+/* The sorts of faults, by the words that 11 can name. */
+enum { IN_MARK, IN_ROOT, IN_FREE, IN_HEADER, IN_SIZE, IN_POINTER, IN_LAST_HEADER };
+
+/* A fault of this sort, from object o on; those from IN_HEADER on need an object. */
+static void fault_heap(uint32_t sort, size_t o)
+{
+    size_t n = lists[L_HEAP].len, at = walked.count > 0 ? walked.at[o] : 2;
+    uint32_t mark = word(L_HEAP, 0);
+    switch (sort) {
+    case IN_MARK:
+        set_word(L_HEAP, 0, one_in(2) ? below(2) : (uint32_t)n + 1 + (one_in(2) ? below(9) : 0));
+        break;
+    case IN_ROOT:
+        set_word(L_HEAP, 1, stray(at));
+        break;
+    case IN_FREE:
+        if (mark >= 2 && mark < n)
+            set_word(L_HEAP, one_in(3) ? n - 1 : one_in(2) ? mark : mark + below((uint32_t)n - mark),
+                     1 + below(9));
+        break;
+    case IN_HEADER: /* its pointer words stay */
+        set_word(L_HEAP, at, (one_in(3) ? 0 : 2 + below(254)) << 24 | pointers_of(at));
+        break;
+    case IN_SIZE:
+        set_word(L_HEAP, at + 1, bad_size(pointers_of(at), mark - (uint32_t)at));
+        break;
+    case IN_POINTER:
+        while (o + 1 < walked.count && pointers_of(walked.at[o]) == 0)
+            o++;
+        at = walked.at[o];
+        if (pointers_of(at) > 0)
+            set_word(L_HEAP, at + 2 + below(pointers_of(at)), stray(at));
+        break;
+    default: /* the mark right behind a header */
+        set_word(L_HEAP, 0, (uint32_t)at + 1);
+        break;
+    }
+}
+
+/* One fault or two, of one sort or any, in one object or any. */
+static void fault_heap_twice(void)
+{
+    static const uint8_t sorts[] = {
+        IN_MARK, IN_ROOT, IN_ROOT, IN_FREE, IN_FREE, IN_HEADER, IN_HEADER, IN_SIZE, IN_SIZE,
+        IN_POINTER, IN_POINTER, IN_POINTER, IN_LAST_HEADER
+    };
+    walk_heap();
+    uint32_t count = (uint32_t)walked.count, choice = count > 0 ? sizeof sorts : 5;
+    size_t o = below(count);
+    uint32_t sort = sorts[below(choice)];
+    fault_heap(sort, o);
+    if (one_in(4))
+        return;
+    if (one_in(2))
+        o = one_in(2) && o + 1 < count ? o + 1 : below(count);
+    fault_heap(one_in(3) ? sort : sorts[below(choice)], o);
+}
+
 static void damage_heap(void)
 {
     size_t n = lists[L_HEAP].len;
-    if (n == 0)
+    if (n < 2)
         return;
     uint32_t mark = word(L_HEAP, 0);
-    switch (below(4)) {
+    if (n == 16384 && one_in(2)) {
+        set_word(L_HEAP, n - 1, nudge(word(L_HEAP, n - 1)));
+        return;
+    }
+    switch (below(8)) {
     case 0:
         set_word(L_HEAP, 0, nudge(mark));
         break;
     case 1:
-        if (n > 1)
-            set_word(L_HEAP, 1, one_in(2) ? below(12) : nudge(word(L_HEAP, 1)));
+        set_word(L_HEAP, 1, one_in(2) ? below(12) : nudge(word(L_HEAP, 1)));
+        break;
+    case 2: case 3:
+        damage_words(L_HEAP, mark);
         break;
     default:
-        damage_words(L_HEAP, mark);
+        fault_heap_twice();
         break;
     }
 }
@@ -1128,6 +1420,17 @@ static uint32_t some_place(uint8_t kind)
         if ((kind == 0 ? l->ref[i] != 240 : l->ref[i] == kind) && one_in(++seen))
             found = (uint32_t)i;
     return found;
+}
+
+/* The return place of the call right behind the one that returns here, or right before it, or of any call. */
+static uint32_t other_return(uint32_t here)
+{
+    const list *l = &lists[L_FILE];
+    if (here < l->len && l->ref[here] == 72 && one_in(2))
+        return here + 3;
+    if (here >= 6 && here <= l->len && l->ref[here - 6] == 72 && one_in(2))
+        return here - 3;
+    return some_place(72) + 3;
 }
 
 /* Damage that keeps close to what is sound. */
@@ -1146,7 +1449,9 @@ static void damage_closely(uint32_t k)
         if (one_in(2) && reg(1) > 1 && reg(1) <= records)
             at = 5 * (size_t)(reg(1) - 1); /* the topmost frame */
         switch (below(8)) {
-        case 0: case 1: case 2: case 3: set_word(L_CTL, at + 3, some_place(72) + 3); break;
+        case 0: case 1: case 2: case 3:
+            set_word(L_CTL, at + 3, other_return(word(L_CTL, at + 3)));
+            break;
         case 4: case 5: set_word(L_CTL, at + 3, some_place(0) + 3); break;
         case 6: set_word(L_CTL, at + 2, below(4)); break;
         default: set_word(L_CTL, at, some_place(160)); break;
@@ -1278,7 +1583,8 @@ static void one_case(void)
     lend(L_MAIN, around(x == 0 ? 1 : x, 4096, 80));
     lend(L_PTR, around(y == 0 ? 1 : y, 4096, 60));
     lend(L_CTL, around(5, 1280, one_in(4) ? 300 : 60));
-    lend(L_HEAP, around(2, 16384, one_in(10) ? 2000 : one_in(2) ? 60 : 400));
+    lend(L_HEAP, one_in(60) ? 16384
+         : around(2, 16384, one_in(40) ? 16383 : one_in(10) ? 2000 : one_in(2) ? 60 : 400));
     lend(L_REGS, one_in(60) ? below(60) : 28);
     fill_junk(L_MAIN);
     fill_junk(L_PTR);
@@ -1336,19 +1642,36 @@ static void one_case(void)
 
 /* ---- the table ---- */
 
+enum { MANY = 20000 }; /* cases that meet everything */
+
+static const char *const made_name[] = {
+    "valid", "damaged", "cut short", "random", "records", "long", "many procedures"
+};
+static const char *const damage_name[] = {
+    "registers", "registers", "control words", "control words", "main words",
+    "pointer words", "heap words", "heap words", "a length", "register length",
+    "map length", "file byte", "lists cut at their tops", "another call or handler",
+    "another place"
+};
+
+static void heap_line(const char *title, int from, int to)
+{
+    printf("%s", title);
+    for (int i = from; i <= to; i++)
+        printf(" %s %" PRIu64 "%s", heap_met[i].name, heap_met[i].count, i < to ? "," : "\n");
+}
+
+static void heap_table(void)
+{
+    heap_line("refused 11, the word named:", AT_MARK, AT_FREE);
+    heap_line("refused 11, the fault:", MARK_LOW, LAST_OF_ALL);
+    heap_line("refused 11, two faults:", MARK_ROOT, FREE_FREE);
+}
+
 static void table(void)
 {
     static const char *const kind_name[] = {
         "passed", "ready", "finished", "spent", "uncaught", "refused"
-    };
-    static const char *const made_name[] = {
-        "valid", "damaged", "cut short", "random", "records", "long", "many procedures"
-    };
-    static const char *const damage_name[] = {
-        "registers", "registers", "control words", "control words", "main words",
-        "pointer words", "heap words", "heap words", "a length", "register length",
-        "map length", "file byte", "lists cut at their tops", "another call or handler",
-        "another place"
     };
     printf("files:");
     for (int i = 0; i < 7; i++)
@@ -1370,6 +1693,7 @@ static void table(void)
     for (int k = 1; k <= 12; k++)
         printf("refused %-4d %12" PRIu64 " %12" PRIu64 " %12" PRIu64 "\n", k,
                refusals[0][k], refusals[1][k], refusals[2][k]);
+    heap_table();
     printf("uncaught codes:");
     for (int k = 1; k <= 5; k++)
         printf(" %d: %" PRIu64 ",", k, raised[k]);
@@ -1379,6 +1703,48 @@ static void table(void)
         if (stepped[k] > 0)
             printf(" %d: %" PRIu64, k, stepped[k]);
     printf("\ncalls: %" PRIu64 ", steps: %" PRIu64 "\n", calls, steps_total);
+}
+
+static bool met(const char *group, const char *name, uint64_t count)
+{
+    if (count == 0)
+        printf("NOT MET: %s: %s\n", group, name);
+    return count > 0;
+}
+
+static bool met_number(const char *group, int number, uint64_t count)
+{
+    char name[16];
+    snprintf(name, sizeof name, "%d", number);
+    return met(group, name, count);
+}
+
+/* Nothing that the table counts is 0. */
+static bool all_met(void)
+{
+    static const char *const by[] = { "refused by check", "refused by start", "refused by run" };
+    static const char *const edge[] = {
+        "4,096 bytes and passed", "4,097 bytes", "64 procedures and passed",
+        "65 procedures refused as 4", "0 bytes"
+    };
+    bool all = true;
+    for (int call = CHECK; call <= RUN; call++)
+        for (int k = 1; k <= (call == CHECK ? 9 : 12); k++)
+            all = met_number(by[call], k, refusals[call][k]) && all;
+    for (int k = 1; k <= 5; k++)
+        all = met_number("uncaught", k, raised[k]) && all;
+    for (size_t i = 0; i < sizeof kinds; i++)
+        if (kinds[i] != 240)
+            all = met_number("single step", kinds[i], stepped[kinds[i]]) && all;
+    for (int i = 0; i < HEAP_COUNTERS; i++)
+        all = met("refused 11", heap_met[i].name, heap_met[i].count) && all;
+    for (int i = 0; i < 7; i++)
+        all = met("files", made_name[i], made[i]) && all;
+    for (int i = 0; i < 15; i++)
+        all = met("damage", damage_name[i], damages[i]) && all;
+    for (int i = 0; i < 5; i++)
+        all = met("files", edge[i], edges[i]) && all;
+    return all;
 }
 
 int main(int argc, char **argv)
@@ -1406,5 +1772,5 @@ int main(int argc, char **argv)
     }
     if (have_before)
         snap_free(&before_call);
-    return 0;
+    return cases < MANY || all_met() ? 0 : 2;
 }

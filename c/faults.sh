@@ -17,15 +17,59 @@ plant() {
         return
     fi
     ${CC:-gcc} -std=c11 -O2 -w -I. -o "$build/fault" compare.c "$copy" "$library" || exit 1
-    if "$build/fault" 1 100000 >"$build/fault.txt" 2>&1; then
+    "$build/fault" 1 100000 >"$build/fault.txt" 2>&1
+    case $? in
+    0 | 2) # 2: no difference, and something not met
         echo "$1: NOT FOUND"
         bad=1
-    else
+        ;;
+    *)
         echo "$1: found: $(grep -a -m 1 DIFFERENCE "$build/fault.txt" || echo "the copy stopped by itself")"
-    fi
+        ;;
+    esac
 }
 
 plant "wrong place of a fault in the heap" 's/\*place = at + 1;/*place = at;/'
+# Order 1, the word that 11 names: the mark and the walk,
+plant "a mark of length + 1 let pass" 's/mark > heap_len)/mark > heap_len + 1)/
+    s/^    if (walk_fault(/    if (mark > heap_len)\
+        mark = heap_len;\
+&/'
+plant "the size word tested before the header" 's/^        if (bad_header(heap, mark, at)) {/\
+        if (bad_header(heap, mark, at) \&\& (at + 1 >= mark || !bad_size(heap, mark, at))) {/'
+plant "a header at mark - 1 named by its size word" 's/^        if (bad_header(heap, mark, at)) {/&\
+            at += heap[at] >> 24 == 1;/'
+plant "the second bad header instead of the first" 's/^        if (bad_header(heap, mark, at)) {/&\
+            size_t next = at + 1 < mark \&\& !bad_size(heap, mark, at) ? at + heap[at + 1] : mark;\
+            if (next < mark \&\& bad_header(heap, mark, next))\
+                at = next;/'
+plant "the root judged before the walk" 's/^    if (walk_fault(/    if (heap[1] >= mark) {\
+        *place = 1;\
+        return true;\
+    }\
+&/'
+plant "pointers judged before a later fault of the walk" 's/^    if (walk_fault(.*/&\
+    {\
+        size_t low = lowest_bad_pointer(heap, heap_len, *place - 1, objects);\
+        if (low > 1 \&\& low < *place)\
+            *place = low;/
+    /^    if (walk_fault(/,/return true;/s/return true;/&\
+    }/'
+# and, after a clean walk, the one minimum.
+plant "free words judged before pointers" \
+    's/\*place = pointer < free_word ?/*place = pointer < free_word \&\& (pointer == 1 || free_word == heap_len) ?/'
+plant "the last bad pointer instead of the first" 's/^    if (!is_pointer(heap\[1\]/    size_t last = heap_len;\
+&/
+    s/^                return i;/                last = i;/
+    s/^    return heap_len;/    return last;/'
+plant "the root judged after the other pointers" 's/^        return 1;/        (void)objects;/
+    s/^    return heap_len;/    return is_pointer(heap[1], objects, heap_len) ? heap_len : 1;/'
+plant "the root judged after the free words" \
+    's/\*place = pointer < free_word ?/*place = pointer < free_word \&\& (pointer > 1 || free_word == heap_len) ?/'
+plant "the root not judged" 's/^        return 1;/        (void)objects;/'
+plant "the heap's last free word not judged" \
+    's/while (i < heap_len \&\& heap\[i\] == 0)/while (i < heap_len \&\& (heap[i] == 0 || i + 1 == heap_len))/'
+# The rest.
 plant "wrong place of an uncaught exception" 's/REF_UNCAUGHT, exception, place, steps/REF_UNCAUGHT, exception, place + 1, steps/'
 plant "a popped word not zeroed" 's/^    list\[\*top\] = 0;/    (void)list;/'
 plant "finished one step short" 's/REF_FINISHED, 0, 0, steps)/REF_FINISHED, 0, 0, steps - 1)/'

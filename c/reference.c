@@ -450,50 +450,84 @@ static bool is_pointer(uint32_t word, const uint8_t *objects, size_t heap_len)
     return word == 0 || (word < heap_len && objects[word] != 0);
 }
 
-/*
- * 11: the heap (Manual 6.7), and which word is named (Manual 6.8). Marks
- * the first words of objects in a table of heap_len bytes.
- */
-static bool heap_fault(const uint32_t *heap, size_t heap_len, uint8_t *objects, size_t *place)
+/* Order 1, the walk: a header of unknown kind or without a size word below the mark. */
+static bool bad_header(const uint32_t *heap, size_t mark, size_t at)
 {
-    memset(objects, 0, heap_len);
-    if (heap[0] < 2 || heap[0] > heap_len) {
-        *place = 0;
-        return true;
-    }
-    size_t mark = heap[0];
+    return heap[at] >> 24 != 1 || at + 1 >= mark;
+}
+
+/*
+ * Order 1, the walk: a size word below 2 plus the pointer words or running
+ * past the mark. None is wrong for its kind: kind 1 has no rule of its own.
+ */
+static bool bad_size(const uint32_t *heap, size_t mark, size_t at)
+{
+    return heap[at + 1] < 2 + (heap[at] & 0xffffffu) || heap[at + 1] > mark - at;
+}
+
+/*
+ * Order 1, second (Manual 6.8.2): the objects walked upwards, header before
+ * size word, up to the first fault. Marks the first words of those passed.
+ */
+static bool walk_fault(const uint32_t *heap, size_t mark, uint8_t *objects, size_t *place)
+{
     for (size_t at = 2; at < mark; at += heap[at + 1]) {
-        uint32_t pointers = heap[at] & 0xffffffu;
-        if (heap[at] >> 24 != 1 || at + 1 >= mark) {
+        if (bad_header(heap, mark, at)) {
             *place = at;
             return true;
         }
-        if (heap[at + 1] < 2 + pointers || heap[at + 1] > mark - at) {
+        if (bad_size(heap, mark, at)) {
             *place = at + 1;
             return true;
         }
         objects[at] = 1;
     }
-    if (!is_pointer(heap[1], objects, heap_len)) {
-        *place = 1;
+    return false;
+}
+
+/* Order 1, third: the lowest bad pointer, the root included; heap_len if none is bad. */
+static size_t lowest_bad_pointer(const uint32_t *heap, size_t heap_len, size_t mark,
+                                 const uint8_t *objects)
+{
+    if (!is_pointer(heap[1], objects, heap_len))
+        return 1;
+    for (size_t at = 2; at < mark; at += heap[at + 1]) {
+        size_t plain = at + 2 + (heap[at] & 0xffffffu);
+        for (size_t i = at + 2; i < plain; i++)
+            if (!is_pointer(heap[i], objects, heap_len))
+                return i;
+    }
+    return heap_len;
+}
+
+/* Order 1, third: the lowest nonzero free word; heap_len if there is none. */
+static size_t lowest_nonzero_free(const uint32_t *heap, size_t heap_len, size_t mark)
+{
+    size_t i = mark;
+    while (i < heap_len && heap[i] == 0)
+        i++;
+    return i;
+}
+
+/*
+ * 11: the heap (Manual 6.7), and the one word that is named (Manual 6.8).
+ * Marks the first words of objects in a table of heap_len bytes.
+ */
+static bool heap_fault(const uint32_t *heap, size_t heap_len, uint8_t *objects, size_t *place)
+{
+    size_t mark = heap[0];
+    memset(objects, 0, heap_len);
+    if (mark < 2 || mark > heap_len) {
+        *place = 0; /* order 1, first (Manual 6.8.1): the mark is out of range */
         return true;
     }
-    for (size_t at = 2; at < mark; at += heap[at + 1]) {
-        uint32_t pointers = heap[at] & 0xffffffu;
-        for (size_t i = at + 2; i < at + 2 + pointers; i++) {
-            if (!is_pointer(heap[i], objects, heap_len)) {
-                *place = i;
-                return true;
-            }
-        }
-    }
-    for (size_t i = mark; i < heap_len; i++) {
-        if (heap[i] != 0) {
-            *place = i;
-            return true;
-        }
-    }
-    return false;
+    if (walk_fault(heap, mark, objects, place))
+        return true;
+    /* order 1, third (Manual 6.8.3), after a clean walk: one minimum over both */
+    size_t free_word = lowest_nonzero_free(heap, heap_len, mark);
+    size_t pointer = lowest_bad_pointer(heap, heap_len, mark, objects);
+    *place = pointer < free_word ? pointer : free_word;
+    return *place < heap_len;
 }
 
 /* Words above a top are 0. */

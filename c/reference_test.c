@@ -1754,7 +1754,7 @@ static ref_reply judge_deep_heap(const rig *sound, int list, size_t i, uint32_t 
         break;
     case 5: case 9:
         return sound_reply(sound);
-    default: /* 10 and 11 are free */
+    default: /* words 10 and 11 are free words */
         at = (uint32_t)i;
         break;
     }
@@ -2022,6 +2022,11 @@ static void heap_case(int line, int place, const uint32_t *heap, size_t len)
     heap_case(__LINE__, place, (const uint32_t[]){ __VA_ARGS__ }, \
               sizeof((const uint32_t[]){ __VA_ARGS__ }) / 4)
 
+/*
+ * The word that 11 names (order 1): word 0 if the mark is out of range; else
+ * the walk's first fault, header before size word; else the lowest index that
+ * is a bad pointer, the root included, or a nonzero free word.
+ */
 static void test_heap(void)
 {
     const uint32_t v = 0x01000000; /* a view's header without pointer words */
@@ -2031,7 +2036,7 @@ static void test_heap(void)
     HEAP_CASE(0, 0, 0);
     HEAP_CASE(0, 3, 0);
     HEAP_CASE(0, 0xffffffffu, 0);
-    HEAP_CASE(0, 5, 9, 7, 7);
+    HEAP_CASE(0, 5, 9, 7, 7); /* length + 1, before a bad root, header, size word */
     HEAP_CASE(-1, 2, 0);
     HEAP_CASE(-1, 2, 0, 0, 0, 0);
     /* the root, free words: the lowest index of both */
@@ -2045,8 +2050,8 @@ static void test_heap(void)
     HEAP_CASE(1, 2, 2, v, 2); /* a header in the free words is no object */
     HEAP_CASE(2, 2, 0, v, 2);
     /* headers */
-    HEAP_CASE(2, 3, 0, v);
-    HEAP_CASE(2, 3, 0, v, 2);
+    HEAP_CASE(2, 3, 0, v); /* at mark - 1: no size word */
+    HEAP_CASE(2, 3, 0, v, 2); /* nor one from the mark on */
     HEAP_CASE(-1, 4, 0, v, 2);
     HEAP_CASE(-1, 4, 2, v, 2);
     HEAP_CASE(1, 4, 3, v, 2);
@@ -2067,8 +2072,17 @@ static void test_heap(void)
     HEAP_CASE(3, 4, 0, v + 1, 2);
     HEAP_CASE(3, 4, 0, 0x01ffffff, 2);
     HEAP_CASE(3, 5, 0, v + 2, 3, 0);
-    HEAP_CASE(3, 4, 9, v, 1, 7);
-    /* plain words are free */
+    HEAP_CASE(3, 4, 9, v, 1, 7); /* the walk comes before root and rest */
+    /* header and size word both bad: the header comes first */
+    HEAP_CASE(2, 4, 0, 0x02000000, 1); /* below 2 */
+    HEAP_CASE(2, 4, 0, 0, 3); /* past the mark */
+    HEAP_CASE(2, 4, 0, 0x02000001, 2); /* below 2 + 1 */
+    /* two objects at fault: the walk ends at the first */
+    HEAP_CASE(2, 6, 0, 0, 2, 0, 2); /* headers 2 and 4 */
+    HEAP_CASE(2, 6, 0, 0, 2, v, 3); /* header 2, size word 5 */
+    HEAP_CASE(3, 6, 0, v, 1, 0, 2); /* size word 3, header 4 */
+    HEAP_CASE(4, 6, 0, v, 2, 0, 9); /* the object at 2 is in order */
+    /* plain words hold anything */
     HEAP_CASE(-1, 5, 0, v, 3, 0xffffffffu);
     HEAP_CASE(-1, 5, 0, v, 3, 1, 0);
     /* pointer words: nil, itself, forwards */
@@ -2086,13 +2100,19 @@ static void test_heap(void)
     HEAP_CASE(6, 7, 4, v, 2, v + 1, 3, 5);
     HEAP_CASE(7, 8, 4, v, 2, v + 2, 4, 0, 3);
     /* the lowest of several: root, pointer word, free word */
-    HEAP_CASE(1, 5, 7, v + 1, 3, 7, 7);
-    HEAP_CASE(4, 5, 2, v + 1, 3, 7, 7);
-    HEAP_CASE(5, 5, 2, v + 1, 3, 2, 7);
+    HEAP_CASE(1, 5, 7, v + 1, 3, 7, 7); /* all three */
+    HEAP_CASE(4, 5, 2, v + 1, 3, 7, 7); /* the root right */
+    HEAP_CASE(5, 5, 2, v + 1, 3, 2, 7); /* all but the free word right */
+    HEAP_CASE(1, 5, 3, v + 1, 3, 3); /* root and pointer word alone */
+    HEAP_CASE(1, 5, 5, v + 1, 3, 2, 7); /* root and free word, the pointer word right */
+    HEAP_CASE(4, 6, 2, v + 2, 4, 3, 9); /* two pointer words of one object */
+    HEAP_CASE(4, 8, 2, v + 1, 3, 3, v + 1, 3, 4); /* of two objects, words 4 and 7 */
     /* a fault of the walk in a later object beats a bad pointer before it */
-    HEAP_CASE(5, 7, 9, v + 1, 3, 9, 0, 2);
-    HEAP_CASE(6, 7, 9, v + 1, 3, 9, v, 3);
-    HEAP_CASE(5, 6, 9, v + 1, 3, 9, v);
+    HEAP_CASE(5, 7, 9, v + 1, 3, 9, 0, 2); /* header 5; root and word 4 bad */
+    HEAP_CASE(6, 7, 9, v + 1, 3, 9, v, 3); /* size word 6 */
+    HEAP_CASE(5, 6, 9, v + 1, 3, 9, v); /* header 5 at mark - 1 */
+    HEAP_CASE(5, 7, 2, v + 1, 3, 9, 0, 2); /* the root right */
+    HEAP_CASE(5, 7, 5, v, 3, 0, 2, 2); /* the root names the object at fault */
     /* objects end exactly at the mark */
     HEAP_CASE(4, 5, 0, v, 2, 0);
     HEAP_CASE(4, 5, 0, v, 2, v);
@@ -2133,6 +2153,13 @@ static void test_heap(void)
     heap_case(__LINE__, -1, big, 16384);
     big[2] = v + 16381;
     heap_case(__LINE__, 3, big, 16384);
+    /* the object ends at 16,383: a header there has no size word */
+    big[2] = v;
+    big[3] = 16381;
+    big[16383] = v;
+    heap_case(__LINE__, 16383, big, 16384);
+    big[0] = 16385; /* length + 1 */
+    heap_case(__LINE__, 0, big, 16384);
 }
 
 static ref_reply judge_one_pointer(const rig *sound, int list, size_t i, uint32_t v)

@@ -25,6 +25,11 @@
  * A refusal writes nothing but the map: 1 and 2 leave it as it was, 3 to 9
  * fill its first 3 x file_len numbers with 65,535, 10 to 12 leave the
  * finished map.
+ *
+ * Refusal 11 names one word of the heap (docs/MANUAL.md 6.8): word 0 if the
+ * mark is out of range; else the first fault met in walking the objects
+ * upwards, header before size word; else the lowest index that is a bad
+ * pointer, the root included, or a free word that is not 0.
  */
 #ifndef YALGOVIM_H
 #define YALGOVIM_H
@@ -67,7 +72,7 @@ enum {
 typedef struct {
     uint32_t kind;   /* one of YALGOVIM_PASSED to YALGOVIM_REFUSED */
     uint32_t number; /* of a refusal; the code of an uncaught exception; else 0 */
-    size_t place;    /* of either: offset in the file, for 11 index in the heap; else 0 */
+    size_t place;    /* of either: offset in the file, for 11 that word's heap index; else 0 */
     uint32_t steps;  /* done by this run: finished, spent, uncaught; else 0 */
 } yalgovim_reply;
 
