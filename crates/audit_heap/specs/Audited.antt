@@ -1,5 +1,5 @@
 -- The audit is the statement: `heapOf` answers the objects exactly of a sound heap (`heap-clean`, `clean-heap`), and otherwise the first
--- fault (`fault-exact`), so that there is one (`fault-exists`). The walk finds the only objects that there can be, each later test is a
+-- fault (`fault-exact`), so that there is one (`fault-unsound`). The walk finds the only objects that there can be, each later test is a
 -- field of `Heap`, and the indices that are tested rise.
 use Prim.Native.Nat.{ℕ, zero, suc, _+_, _-_, _<_, _≤_}
 use mathlib.Core.Path.{_≡_, refl, sym, _∙_, ap}
@@ -25,7 +25,7 @@ use Rattle.audit_heap.specs.declared.HeapAudit.{HeapAudit}
 use Rattle.audit_heap.specs.declared.HeapAudit.the-variants.{Clean, Fault}
 use Rattle.audit_heap.specs.First.{firstBad, walked, freeWords, orAudit, pointerAt, zeroAt, pointers-first, zeros-first, all-good}
 use Rattle.audit_heap.specs.First.{bad-in, good-below, range-mem, range-rising, mem-range}
-use Rattle.audit_heap.specs.Faults.{pointer-below, one-fault, fault-unsound}
+use Rattle.audit_heap.specs.Faults.{pointer-below, one-fault, fault-not-sound}
 
 -- The walk
 
@@ -299,18 +299,18 @@ clean-heap h os H = go (heapOf h) (heap-says h)
   where
     go : (r : Audit) → Says h r → r ≡ clean os
     go (clean os′) H′ = ap clean (same-objects h firstObject (markOf h) os′ os (H′ .objects) (H .objects))
-    go (fault q) F = absurd (fault-unsound h q F os H)
+    go (fault q) F = absurd (fault-not-sound h q F os H)
 
 -- and names the first fault of what is not
 pub fault-exact : FaultExactly
 fault-exact h q = (λ e. rw e at (heap-says h), λ F. go (heapOf h) (heap-says h) F)
   where
     go : (r : Audit) → Says h r → FirstFault h q → r ≡ fault q
-    go (clean os) H F = absurd (fault-unsound h q F os H)
+    go (clean os) H F = absurd (fault-not-sound h q F os H)
     go (fault p) F′ F = ap fault (one-fault h p q F′ F)
 
-pub fault-exists : FaultUnsound
-fault-exists h = (λ F. fault-unsound h (F .0) (F .1), λ n. go (heapOf h) (heap-says h) n)
+pub fault-unsound : FaultUnsound
+fault-unsound h = (λ F. fault-not-sound h (F .0) (F .1), λ n. go (heapOf h) (heap-says h) n)
   where
     go : (r : Audit) → Says h r → ((os : List ℕ) → Heap h os → ⊥) → (q : ℕ) × FirstFault h q
     go (clean os) H n = absurd (n os H)

@@ -1,4 +1,4 @@
--- The first fault of a heap (`FirstFault`): there is one at most (`one-fault`), a heap that has one is not sound (`fault-unsound`), and the word
+-- The first fault of a heap (`FirstFault`): there is one at most (`one-fault`), a heap that has one is not sound (`fault-not-sound`), and the word
 -- lies in the heap (`fault-within`). No right object begins where the walk has its fault, and the objects of a heap are the only ones.
 use Prim.Native.Nat.{ℕ, _+_, _-_, _<_, _≤_}
 use mathlib.Core.Path.{_≡_, sym, _∙_}
@@ -106,10 +106,10 @@ one-fault h p q (after-walk R os W L) (after-walk R′ os′ W′ L′) =
     let M : Lowest (λ i. BadPointer h os i ⊎ NonzeroFree h i) q = rw e at L′ in
     omega (arith, L .1 q (M .0), M .1 p (L .0))
 
-pub fault-unsound : (h : List ℕ) (q : ℕ) → FirstFault h q → (os : List ℕ) → Heap h os → ⊥
-fault-unsound h q (mark-word n e) os H = n (H .low, H .high)
-fault-unsound h q (on-walk R F) os H = walk-unsound h q os F (H .objects)
-fault-unsound h q (after-walk R os′ W L) os H =
+pub fault-not-sound : (h : List ℕ) (q : ℕ) → FirstFault h q → (os : List ℕ) → Heap h os → ⊥
+fault-not-sound h q (mark-word n e) os H = n (H .low, H .high)
+fault-not-sound h q (on-walk R F) os H = walk-unsound h q os F (H .objects)
+fault-not-sound h q (after-walk R os′ W L) os H =
     let e = same-objects h firstObject (markOf h) os′ os W (H .objects) in
     go (rw e at (L .0))
   where

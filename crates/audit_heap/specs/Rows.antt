@@ -1,5 +1,5 @@
--- The sample heaps (`heapRows`): the words found by hand are their first faults, and those without one are sound. The audit finds them, and
--- what it finds is that.
+-- The sample heaps (`heapRows`): the words found by hand are their first faults, and those without one are sound. By `heap-rows-hold` the
+-- audit finds them, by `heap-says` what it finds is right.
 use mathlib.Core.List.{List, _∷_, map}
 use mathlib.Core.Logic.{inl, inr}
 use mathlib.Core.Path.{_≡_, subst}

@@ -14,7 +14,7 @@ ghost use Rattle.audit_heap.specs.Table.{Unmarked, Marks, isMarked, mark
 ghost use Rattle.numbers.specs.Small.{Small};
 ghost use Rattle.model.specs.Calls.{heapMost};
 
-// What the audit answers: the heap is sound, or the index of the word at fault.
+// What the audit answers: the heap is sound, or the index of its first fault.
 pub enum HeapAudit {
     Clean,
     Fault(usize),

@@ -22,7 +22,7 @@ pub record WalkTo (h : List ℕ) (q : ℕ) : Type 0 where
   pub objects : Objects h firstObject q passed
 
 -- Manual 6.8.2: a header "of unknown kind or without a size word below the mark". A kind's row says which numbers of pointer words are right:
--- of a view every number, of an unknown kind none, so that today the first case is the unknown kind alone
+-- of a view every number, of an unknown kind none, so that the first case is the unknown kind alone while a view is the only kind
 abbrev pub HeaderFault : List ℕ → ℕ → Type 0
 HeaderFault h q = (kindOf h q .ptrs (ptrsAt h q) ≡ false) ⊎ (markOf h ≤ q + 1)
 

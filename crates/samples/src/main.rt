@@ -225,7 +225,8 @@ const VIEW: u32 = 0x1000000;
 
 const KIND_2: u32 = 0x2000000;
 
-// Refusal 11, first step: the mark below 2, and one past the heap's length with a bad root and a bad header beside it.
+// Refusal 11, first step: the mark below 2, and one past the heap's length with a bad root and a bad header beside it; a mark of the length is
+// right.
 fn marks_of_heaps() {
     let mut low = [1u32, 0];
     on_heap(b"11", &mut low);
@@ -255,7 +256,7 @@ fn walks_of_heaps() {
     on_heap(b"11 all, a later header", &mut later);
 }
 
-// Third step: the lowest of the root, the pointer words and the free words; and an object that points to itself.
+// Third step: the lowest of the root, the pointer words and the free words; and an object that points to itself, with a plain word behind.
 fn words_of_heaps() {
     let mut root = [2u32, 7, 0];
     on_heap(b"11 root", &mut root);
@@ -269,6 +270,8 @@ fn words_of_heaps() {
     on_heap(b"11 pointer to a free word", &mut names);
     let mut own = [5u32, 2, VIEW + 1, 3, 2, 0];
     on_heap(b"own pointer", &mut own);
+    let mut plain = [6u32, 2, VIEW + 1, 4, 2, 9, 0];
+    on_heap(b"plain word", &mut plain);
     let mut free = [5u32, 2, VIEW + 1, 3, 2, 7, 7];
     on_heap(b"11 own pointer, free words", &mut free);
 }
@@ -279,38 +282,45 @@ fn put(l: &mut [u32], w: u32) {
     }
 }
 
-// A view is made, at heap index 2; then the pointer to it and the mark are these. 7 form 0 0; 12 73.
-fn view_made(text: &[u8], pointer: u32, mark: u32) {
+// A view is made, at heap index 2; then the pointer to it and the mark are these, and then as they were. 7 form 0 0; 12 73.
+fn view_changed(
+    text: &[u8],
+    map: &mut [u16],
+    main: &mut [u32],
+    ptr: &mut [u32],
+    ctl: &mut [u32],
+    heap: &mut [u32],
+    regs: &mut [u8],
+    pointer: u32,
+    mark: u32,
+) {
     let file = [240u8, 0, 0, 0, 1, 0, 1, 36, 0, 0, 0, 0, 73];
+    begin(b"one form", &file, map, main, ptr, ctl, heap, regs, 1);
+    put(ptr, pointer);
+    put(heap, mark);
+    go(text, &file, map, main, ptr, ctl, heap, regs, 1);
+    put(ptr, 2);
+    put(heap, 4);
+    go(b"as it was", &file, map, main, ptr, ctl, heap, regs, 1);
+}
+
+fn view_made(text: &[u8], pointer: u32, mark: u32) {
     let mut map = [0u16; 39];
     let mut main = [0u32; 1];
     let mut ptr = [0u32; 2];
     let mut ctl = [0u32; 5];
     let mut heap = [2u32, 0, 0, 0];
     let mut regs = [0u8; REGISTER_BYTES];
-    begin(
-        b"one form",
-        &file,
-        &mut map,
-        &mut main,
-        &mut ptr,
-        &mut ctl,
-        &mut heap,
-        &mut regs,
-        1,
-    );
-    put(&mut ptr, pointer);
-    put(&mut heap, mark);
-    go(
+    view_changed(
         text,
-        &file,
         &mut map,
         &mut main,
         &mut ptr,
         &mut ctl,
         &mut heap,
         &mut regs,
-        1,
+        pointer,
+        mark,
     );
 }
 
@@ -325,5 +335,4 @@ fn main() {
     words_of_heaps();
     view_made(b"12", 3, 4);
     view_made(b"11 in run", 2, 3);
-    view_made(b"as it was", 2, 4);
 }

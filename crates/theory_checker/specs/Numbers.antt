@@ -1,4 +1,4 @@
--- Tests 1 to 9 refuse with the numbers 1 to 9 (`verdict-number`): each test carries its own.
+-- Tests 1 to 9 refuse with a number of at most 9 (`verdict-number`): each test carries its own.
 use Prim.Native.Nat.{ℕ, _≤_}
 use mathlib.Core.Bool.{Bool, true, false, _&&_}
 use mathlib.Core.List.{List, [], _∷_}

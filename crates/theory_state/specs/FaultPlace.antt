@@ -18,14 +18,14 @@ use Rattle.theory_checker.specs.Leaves.{run-leaves}
 use Rattle.audit_heap.specs.Audited.{fault-exact}
 use Rattle.audit_heap.specs.Faults.{one-fault}
 
--- refusals with other numbers are not 11, nor is any other answer
+-- equal refusals have equal numbers and places
 refused-number : (n m p q : ℕ) → Refused n p ≡ Refused m q → n ≡ m
 refused-number n m p q e = cc
 
 refused-place : (n m p q : ℕ) → Refused n p ≡ Refused m q → p ≡ q
 refused-place n m p q e = cc
 
--- what comes behind all the tests does not answer 11
+-- what comes behind the test of the register list's length does not answer 11
 abbrev Behind : (Lent → After) → ℕ → Type 0
 Behind rest q = (l : Lent) → rest l .answer ≡ Refused 11 q → ⊥
 
@@ -94,9 +94,9 @@ refused-eleven l q = (
 )
 
 -- check does not answer 11
-check-behind : (l : Lent) (q : ℕ) → checkOf (l .file) (l .map) .answer ≡ Refused 11 q → ⊥
+check-not-eleven : (l : Lent) (q : ℕ) → checkOf (l .file) (l .map) .answer ≡ Refused 11 q → ⊥
 unfolding checkOf
-check-behind l q e = go (verdictOf (l .file) (l .map)) refl e
+check-not-eleven l q e = go (verdictOf (l .file) (l .map)) refl e
   where
     go : (v : Verdict) → verdictOf (l .file) (l .map) ≡ v → answered v .answer ≡ Refused 11 q → ⊥
     go (pass m) f e = let z : _≡_ {A = ℕ} 0 1 = cc in omega arith
@@ -104,7 +104,7 @@ check-behind l q e = go (verdictOf (l .file) (l .map)) refl e
 
 call-eleven : (c : Call) (l : Lent) (q : ℕ) → callOf c l .answer ≡ Refused 11 q → FirstFault (l .heap) q
 unfolding callOf
-call-eleven check l q e = absurd (check-behind l q e)
+call-eleven check l q e = absurd (check-not-eleven l q e)
 call-eleven start l q e = refused-eleven l q .0 .0 e .first
 call-eleven (run n) l q e = refused-eleven l q .1 n .0 e .first
 
