@@ -282,9 +282,10 @@ fn put(l: &mut [u32], w: u32) {
     }
 }
 
-// A view is made, at heap index 2; then the pointer to it and the mark are these, and then as they were. 7 form 0 0; 12 73.
-fn view_changed(
+// Runs on with this pointer and this mark.
+fn go_with(
     text: &[u8],
+    file: &[u8],
     map: &mut [u16],
     main: &mut [u32],
     ptr: &mut [u32],
@@ -294,25 +295,40 @@ fn view_changed(
     pointer: u32,
     mark: u32,
 ) {
-    let file = [240u8, 0, 0, 0, 1, 0, 1, 36, 0, 0, 0, 0, 73];
-    begin(b"one form", &file, map, main, ptr, ctl, heap, regs, 1);
     put(ptr, pointer);
     put(heap, mark);
-    go(text, &file, map, main, ptr, ctl, heap, regs, 1);
-    put(ptr, 2);
-    put(heap, 4);
-    go(b"as it was", &file, map, main, ptr, ctl, heap, regs, 1);
+    go(text, file, map, main, ptr, ctl, heap, regs, 1);
 }
 
+// A view is made at heap index 2; then the pointer to it and the mark are these.
+fn form_and_go(
+    text: &[u8],
+    file: &[u8],
+    map: &mut [u16],
+    main: &mut [u32],
+    ptr: &mut [u32],
+    ctl: &mut [u32],
+    heap: &mut [u32],
+    regs: &mut [u8],
+    pointer: u32,
+    mark: u32,
+) {
+    begin(b"one form", file, map, main, ptr, ctl, heap, regs, 1);
+    go_with(text, file, map, main, ptr, ctl, heap, regs, pointer, mark);
+}
+
+// And then they are as they were. 7 form 0 0; 12 73.
 fn view_made(text: &[u8], pointer: u32, mark: u32) {
+    let file = [240u8, 0, 0, 0, 1, 0, 1, 36, 0, 0, 0, 0, 73];
     let mut map = [0u16; 39];
     let mut main = [0u32; 1];
     let mut ptr = [0u32; 2];
     let mut ctl = [0u32; 5];
     let mut heap = [2u32, 0, 0, 0];
     let mut regs = [0u8; REGISTER_BYTES];
-    view_changed(
+    form_and_go(
         text,
+        &file,
         &mut map,
         &mut main,
         &mut ptr,
@@ -321,6 +337,18 @@ fn view_made(text: &[u8], pointer: u32, mark: u32) {
         &mut regs,
         pointer,
         mark,
+    );
+    go_with(
+        b"as it was",
+        &file,
+        &mut map,
+        &mut main,
+        &mut ptr,
+        &mut ctl,
+        &mut heap,
+        &mut regs,
+        2,
+        4,
     );
 }
 
