@@ -1,5 +1,5 @@
 -- The place of refusal 11: start and run answer 11 at q exactly where tests 1 to 10 find nothing and q is the heap's first fault
--- (`refused-eleven`), so that two calls with one heap name one word (`same-word`). The tests are met in their order; no other answers 11.
+-- (`refused-eleven`), so that two calls with one heap name one word (`one-dump`). The tests are met in their order; no other answers 11.
 use Prim.Native.Nat.{ℕ}
 use mathlib.Core.Bool.{Bool, true, false}
 use mathlib.Core.List.{List}
@@ -11,7 +11,7 @@ use Rattle.model.specs.Faults.{FirstFault}
 use Rattle.model.specs.Step.{runOn}
 use Rattle.model.specs.Calls.{Verdict, pass, refuse, verdictOf, answered, checkOf, Lent, machineOf, withMap, lengthTests, registerTests, soundTests}
 use Rattle.model.specs.Calls.{After, answers, demand, audited, afterMap, afterCheck, tested, leaving, started, startOf, ranFrom, runOf}
-use Rattle.model.specs.Claim.{Call, check, start, run, callOf, Stopped, HeapFault, RefusedEleven, SameWord}
+use Rattle.model.specs.Claim.{Call, check, start, run, callOf, Stopped, HeapFault, RefusedEleven, OneDump}
 use Rattle.model.specs.declared.Answer.the-variants.{Passed, Ready, Refused}
 use Rattle.theory_checker.specs.Numbers.{verdict-number}
 use Rattle.theory_checker.specs.Leaves.{run-leaves}
@@ -26,12 +26,12 @@ refused-place : (n m p q : ℕ) → Refused n p ≡ Refused m q → p ≡ q
 refused-place n m p q e = cc
 
 -- what comes behind the test of the register list's length does not answer 11
-abbrev Behind : (Lent → After) → ℕ → Type 0
-Behind rest q = (l : Lent) → rest l .answer ≡ Refused 11 q → ⊥
+abbrev NeverEleven : (Lent → After) → ℕ → Type 0
+NeverEleven rest q = (l : Lent) → rest l .answer ≡ Refused 11 q → ⊥
 
 module _ (l : Lent) (q : ℕ) (rest : Lent → After) where
   -- the tests behind the check, m being the map that it left
-  after-eleven : (m : List ℕ) → Behind rest q → checkOf (l .file) (l .map) .answer ≡ Passed →
+  after-eleven : (m : List ℕ) → NeverEleven rest q → checkOf (l .file) (l .map) .answer ≡ Passed →
       afterMap (withMap m l) (rest (withMap m l)) .answer ≡ Refused 11 q → HeapFault l q
   unfolding lengthTests
   after-eleven m B P e = lengths (all (lengthTests l)) refl e
@@ -53,7 +53,7 @@ module _ (l : Lent) (q : ℕ) (rest : Lent → After) where
       lengths true u e = heap (heapOf (l .heap)) refl (all-true (lengthTests l) u) e
       lengths false u e = absurd (omega (arith, refused-number 10 11 0 q e))
 
-  tested-eleven : Behind rest q → tested l rest .answer ≡ Refused 11 q → HeapFault l q
+  tested-eleven : NeverEleven rest q → tested l rest .answer ≡ Refused 11 q → HeapFault l q
   unfolding checkOf
   tested-eleven B e = go (verdictOf (l .file) (l .map)) refl e
     where
@@ -70,27 +70,27 @@ module _ (l : Lent) (q : ℕ) (rest : Lent → After) where
       go (refuse n p m) e = cc
 
 -- a run never refuses
-run-behind : (n q : ℕ) → Behind (ranFrom n) q
-run-behind n q l e =
+run-not-eleven : (n q : ℕ) → NeverEleven (ranFrom n) q
+run-not-eleven n q l e =
     let r = runOn (l .file) n 0 (machineOf l) in
     let L = run-leaves (l .file) n 0 (machineOf l) in
     subst (Stopped (l .file) n 0 (L .steps) (r .state)) e (L .stopped)
 
-sound-behind : (n q : ℕ) → Behind (λ l. demand (soundTests l) 12 l (ranFrom n l)) q
-sound-behind n q l e = go (all (soundTests l)) e
+sound-not-eleven : (n q : ℕ) → NeverEleven (λ l. demand (soundTests l) 12 l (ranFrom n l)) q
+sound-not-eleven n q l e = go (all (soundTests l)) e
   where
     go : (t : Bool) → (if t then ranFrom n l else answers (Refused 12 0) l) .answer ≡ Refused 11 q → ⊥
-    go true e = run-behind n q l e
+    go true e = run-not-eleven n q l e
     go false e = omega (arith, refused-number 12 11 0 q e)
 
-ready-behind : (rest : Lent → Lent) (q : ℕ) → Behind (λ l. answers Ready (rest l)) q
-ready-behind rest q l e = let z : _≡_ {A = ℕ} 0 1 = cc in omega arith
+ready-not-eleven : (rest : Lent → Lent) (q : ℕ) → NeverEleven (λ l. answers Ready (rest l)) q
+ready-not-eleven rest q l e = let z : _≡_ {A = ℕ} 0 1 = cc in omega arith
 
 pub refused-eleven : RefusedEleven
 unfolding startOf runOf
 refused-eleven l q = (
-  (tested-eleven l q _ (ready-behind (λ k. leaving k (started k)) q), eleven-tested l q _),
-  λ n. (tested-eleven l q _ (sound-behind n q), eleven-tested l q _),
+  (tested-eleven l q _ (ready-not-eleven (λ k. leaving k (started k)) q), eleven-tested l q _),
+  λ n. (tested-eleven l q _ (sound-not-eleven n q), eleven-tested l q _),
 )
 
 -- check does not answer 11
@@ -108,5 +108,5 @@ call-eleven check l q e = absurd (check-not-eleven l q e)
 call-eleven start l q e = refused-eleven l q .0 .0 e .first
 call-eleven (run n) l q e = refused-eleven l q .1 n .0 e .first
 
-pub same-word : SameWord
-same-word c d l k p q h e f = one-fault (k .heap) p q (rw h at (call-eleven c l p e)) (call-eleven d k q f)
+pub one-dump : OneDump
+one-dump c d l k p q h e f = one-fault (k .heap) p q (rw h at (call-eleven c l p e)) (call-eleven d k q f)
