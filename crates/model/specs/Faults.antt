@@ -21,12 +21,12 @@ pub record WalkTo (h : List ℕ) (q : ℕ) : Type 0 where
   pub passed : List ℕ
   pub objects : Objects h firstObject q passed
 
--- Manual 6.8.2: a header "of unknown kind or without a size word below the mark". A kind's row says which numbers of pointer words are right:
--- of a view every number, of an unknown kind none, so that the first case is the unknown kind alone while a view is the only kind
+-- Manual 6.8.2: a header "of unknown kind or without a size word below the mark"; "pointer words wrong for a kind fault the header". A kind's row
+-- says which numbers of pointer words are right, of an unknown kind none
 abbrev pub HeaderFault : List ℕ → ℕ → Type 0
 HeaderFault h q = (kindOf h q .ptrs (ptrsAt h q) ≡ false) ⊎ (markOf h ≤ q + 1)
 
--- Manual 6.8.2: a size word "below 2 plus the pointer words, running past the mark or wrong for its kind"; for a view no size is wrong
+-- Manual 6.8.2: a size word "below 2 plus the pointer words, running past the mark or wrong for its kind"
 abbrev pub SizeFault : List ℕ → ℕ → Type 0
 SizeFault h q =
     (sizeAt h q < 2 + ptrsAt h q) ⊎ (markOf h < q + sizeAt h q) ⊎ (kindOf h q .size (ptrsAt h q) (sizeAt h q) ≡ false)
