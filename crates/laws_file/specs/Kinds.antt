@@ -73,7 +73,7 @@ abbrev pub codesButRaise : List ℕ
 codesButRaise =
     1 ∷ 3 ∷ 2 ∷ 4 ∷ 5 ∷ 6 ∷ 20 ∷ 21 ∷ 22 ∷ 23 ∷ 30 ∷ 31 ∷ 32 ∷ 33 ∷ 36 ∷ 54 ∷ 56 ∷ 57 ∷ 58 ∷ 59
     ∷ 60 ∷ 62 ∷ 64 ∷ 72 ∷ 73 ∷ 130 ∷ 131 ∷ 195 ∷ 198 ∷ 201 ∷ 204 ∷ 140 ∷ 141 ∷ 142 ∷ 143 ∷ 145 ∷ 144 ∷ 146 ∷ 160 ∷ 161
-    ∷ []
+    ∷ 80 ∷ 81 ∷ 82 ∷ 83 ∷ 84 ∷ 85 ∷ []
 
 pub ins-other : (nss : List (List ℕ)) → T (each? (among nss) codesButRaise) → (f : List ℕ) (p k : ℕ) → NoneOf nss k → insOf f p k ≡ raise
 unfolding insOf
@@ -122,6 +122,12 @@ ins-other nss t f p k h =
       ne-eqb k 146 (out 146 tt),
       ne-eqb k 160 (out 160 tt),
       ne-eqb k 161 (out 161 tt),
+      ne-eqb k 80 (out 80 tt),
+      ne-eqb k 81 (out 81 tt),
+      ne-eqb k 82 (out 82 tt),
+      ne-eqb k 83 (out 83 tt),
+      ne-eqb k 84 (out 84 tt),
+      ne-eqb k 85 (out 85 tt),
     )
 
 -- a number that is no row's has no body

@@ -1,4 +1,4 @@
--- Manual 6.8: the word that refusal 11 names, in the three steps and the words of order 1 (`FirstFault`). It speaks of the heap's words alone,
+-- Manual 6.8: the word that refusal 11 names, in the three steps and the words of orders 1 and 2 (`FirstFault`). It speaks of the heap's words alone,
 -- not of how they are searched. That the audit names this word, that a heap has one at most, and one exactly if it is not sound: Claim.
 use Prim.Native.Nat.{ℕ, _+_, _<_, _≤_}
 use mathlib.Core.Bool.{false}

@@ -24,7 +24,7 @@ firstElement onPtr = 2
 
 -- Manual 2.7: how many elements the vector at q has
 unfoldable pub elementsAt : Side → List ℕ → ℕ → ℕ
-elementsAt onMain h q = sizeAt h q - 3
+elementsAt onMain h q = sizeAt h q - firstElement onMain
 elementsAt onPtr h q = ptrsAt h q
 
 -- Manual 4.29, 4.30: what 82 to 85 find: the heap index of the element's word; a nil vector; no such element
@@ -33,8 +33,8 @@ pub data Element : Type 0 where
   ofNil : Element
   nowhere : Element
 
--- Manual 4.29: the element with n others before it has the index bound + n. So an index less the bound, as whole numbers, is below 0 under the
--- bound, and from the number of elements on past the last one
+-- Manual 4.29: the element with n others before it has the index bound + n. An index less the bound, as whole numbers, is negative if the index
+-- is below the bound, and at least the number of elements if it is past the last one
 abbrev pub elementIn : ℕ → ℕ → ℤ → Element
 elementIn first count (pos n) = if ltb n count then found (first + n) else nowhere
 elementIn first count (negsuc n) = nowhere

@@ -4,7 +4,7 @@ use mathlib.Core.Logic.{_⊎_, ⊎-elim, inl, inr}
 use Prim.Native.Nat.{suc, _<_}
 use mathlib.Core.Path.{_≡_, _∙_, refl, ap}
 use native.Mathlib.Omega.{arith}
-use Rattle.model.specs.File.{codes, bodies, bodyOf, insOf}
+use Rattle.model.specs.File.{codes, bodies, bodyOf, makerPops, insOf}
 use Rattle.model.specs.Checker.{basicEffect}
 use Rattle.check_rows.specs.Shape.{Next, shapeOf}
 use Rattle.check_rows.specs.Site.{body-room, low}
@@ -69,6 +69,24 @@ step-requires-12 c κs = (c .before .before .pre .5, low (c .before .before .pre
 step-requires-13 : tie.Need-step-requires-13
 step-requires-13 c κs = (c .before .before .pre .5, low (c .before .before .pre .1), omega arith, omega arith, omega arith)
 
+step-requires-14 : tie.Need-step-requires-14
+step-requires-14 c κs = (c .before .before .pre .5, low (c .before .before .pre .1), omega arith, omega arith, omega arith)
+
+step-requires-15 : tie.Need-step-requires-15
+step-requires-15 c κs = (c .before .before .pre .5, low (c .before .before .pre .1), omega arith, omega arith, omega arith)
+
+step-requires-16 : tie.Need-step-requires-16
+step-requires-16 c κs = (c .before .before .pre .5, low (c .before .before .pre .1), omega arith, omega arith, omega arith)
+
+step-requires-17 : tie.Need-step-requires-17
+step-requires-17 c κs = (c .before .before .pre .5, low (c .before .before .pre .1), omega arith, omega arith, omega arith)
+
+step-requires-18 : tie.Need-step-requires-18
+step-requires-18 c κs = (c .before .before .pre .5, low (c .before .before .pre .1), omega arith, omega arith, omega arith)
+
+step-requires-19 : tie.Need-step-requires-19
+step-requires-19 c κs = (c .before .before .pre .5, low (c .before .before .pre .1), omega arith, omega arith, omega arith)
+
 locals-requires : tie.Need-locals-requires
 locals-requires c κs =
     let entry = c .before .before .before .before in
@@ -123,35 +141,61 @@ unfolding insOf bodyOf bodies codes
 returns-11 c = at-row _ _ _ _ _ (c .before .before .before .pre .2 ∙ c .before .match .keys11) refl refl (c .calls .ensures)
 
 returns-12 : tie.Need-returns-12
-unfolding insOf shapeOf basicEffect bodyOf bodies codes
+unfolding insOf shapeOf basicEffect makerPops bodyOf bodies codes
 returns-12 c = at-row _ _ _ _ _ (c .before .before .before .pre .2 ∙ c .before .match .keys12) refl refl (c .step10 .ensures)
 
 returns-13 : tie.Need-returns-13
-unfolding insOf shapeOf basicEffect bodyOf bodies codes
-returns-13 c =
-    at-rows _ _ _ _ _ 1 (rowShape Next (row 1 0 1 0 0 0)) (144 ∷ 146 ∷ [])
-    ((refl, refl), ((refl, refl), tt)) (c .before .before .before .pre .2) (c .before .match .keys13) (c .step11 .ensures)
+unfolding insOf shapeOf basicEffect makerPops bodyOf bodies codes
+returns-13 c = at-row _ _ _ _ _ (c .before .before .before .pre .2 ∙ c .before .match .keys13) refl refl (c .step11 .ensures)
 
 returns-14 : tie.Need-returns-14
 unfolding insOf shapeOf basicEffect bodyOf bodies codes
-returns-14 c =
-    at-rows _ _ _ _ _ 1 (rowShape Next (row 2 0 1 0 0 0)) (130 ∷ 140 ∷ 142 ∷ 145 ∷ 195 ∷ 198 ∷ 201 ∷ 204 ∷ [])
-    ((refl, refl), ((refl, refl), ((refl, refl), ((refl, refl), ((refl, refl), ((refl, refl), ((refl, refl), ((refl, refl), tt))))))))
-    (c .before .before .before .pre .2) (c .before .match .keys14) (c .step12 .ensures)
+returns-14 c = at-row _ _ _ _ _ (c .before .before .before .pre .2 ∙ c .before .match .keys14) refl refl (c .step12 .ensures)
 
 returns-15 : tie.Need-returns-15
 unfolding insOf shapeOf basicEffect bodyOf bodies codes
-returns-15 c =
-    at-rows _ _ _ _ _ 1 (rowShape Next (row 2 0 1 0 0 0)) (141 ∷ 143 ∷ [])
-    ((refl, refl), ((refl, refl), tt)) (c .before .before .before .pre .2) (c .before .match .keys15) (c .step13 .ensures)
+returns-15 c = at-row _ _ _ _ _ (c .before .before .before .pre .2 ∙ c .before .match .keys15) refl refl (c .step13 .ensures)
 
 returns-16 : tie.Need-returns-16
-returns-16 c =
-    at-row _ _ _ _ _ (c .before .before .before .before .before .pre .2) (ap suc (body-locals _ (omega arith) (omega arith))) refl (c .locals .ensures)
+unfolding insOf shapeOf basicEffect bodyOf bodies codes
+returns-16 c = at-row _ _ _ _ _ (c .before .before .before .pre .2 ∙ c .before .match .keys16) refl refl (c .step14 .ensures)
 
 returns-17 : tie.Need-returns-17
+unfolding insOf shapeOf basicEffect bodyOf bodies codes
+returns-17 c = at-row _ _ _ _ _ (c .before .before .before .pre .2 ∙ c .before .match .keys17) refl refl (c .step15 .ensures)
+
+returns-18 : tie.Need-returns-18
+unfolding insOf shapeOf basicEffect bodyOf bodies codes
+returns-18 c = at-row _ _ _ _ _ (c .before .before .before .pre .2 ∙ c .before .match .keys18) refl refl (c .step16 .ensures)
+
+returns-19 : tie.Need-returns-19
+unfolding insOf shapeOf basicEffect bodyOf bodies codes
+returns-19 c =
+    at-rows _ _ _ _ _ 1 (rowShape Next (row 1 0 1 0 0 0)) (144 ∷ 146 ∷ [])
+    ((refl, refl), ((refl, refl), tt))
+    (c .before .before .before .pre .2) (c .before .match .keys19) (c .step17 .ensures)
+
+returns-20 : tie.Need-returns-20
+unfolding insOf shapeOf basicEffect bodyOf bodies codes
+returns-20 c =
+    at-rows _ _ _ _ _ 1 (rowShape Next (row 2 0 1 0 0 0)) (130 ∷ 140 ∷ 142 ∷ 145 ∷ 195 ∷ 198 ∷ 201 ∷ 204 ∷ [])
+    ((refl, refl), ((refl, refl), ((refl, refl), ((refl, refl), ((refl, refl), ((refl, refl), ((refl, refl), ((refl, refl), tt))))))))
+    (c .before .before .before .pre .2) (c .before .match .keys20) (c .step18 .ensures)
+
+returns-21 : tie.Need-returns-21
+unfolding insOf shapeOf basicEffect bodyOf bodies codes
+returns-21 c =
+    at-rows _ _ _ _ _ 1 (rowShape Next (row 2 0 1 0 0 0)) (141 ∷ 143 ∷ [])
+    ((refl, refl), ((refl, refl), tt))
+    (c .before .before .before .pre .2) (c .before .match .keys21) (c .step19 .ensures)
+
+returns-22 : tie.Need-returns-22
+returns-22 c =
+    at-row _ _ _ _ _ (c .before .before .before .before .before .pre .2) (ap suc (body-locals _ (omega arith) (omega arith))) refl (c .locals .ensures)
+
+returns-23 : tie.Need-returns-23
 unfolding shapeOf
-returns-17 c =
+returns-23 c =
     let entry = c .before .before .before .before in
     let f = entry .args .file .now in
     let p = entry .args .p in
@@ -181,6 +225,12 @@ plain-at-spec =
     step-requires-11
     step-requires-12
     step-requires-13
+    step-requires-14
+    step-requires-15
+    step-requires-16
+    step-requires-17
+    step-requires-18
+    step-requires-19
     locals-requires
     raises-requires
     returns
@@ -199,4 +249,10 @@ plain-at-spec =
     returns-14
     returns-15
     returns-16
-    returns-17)
+    returns-17
+    returns-18
+    returns-19
+    returns-20
+    returns-21
+    returns-22
+    returns-23)
