@@ -15,7 +15,6 @@ use Rattle.model.specs.Choice.{if_then_else_, member}
 use Rattle.model.specs.Words.{wordAt}
 use Rattle.model.specs.Heap.{markOf, firstObject, kindAt, ptrsAt, sizeAt, viewKind, kindOf, Object, Objects, Audit, fault, clean, andObject, badHeader}
 use Rattle.model.specs.Heap.{badSize, walk, isPointer, range, pointerWords}
-use Rattle.heap.specs.Views.{row-ptrs, row-view}
 use Rattle.audit_heap.specs.declared.HeapAudit.{HeapAudit}
 use Rattle.audit_heap.specs.declared.HeapAudit.the-variants.{Clean, Fault}
 use Rattle.audit_heap.specs.First.{firstBad, walked, orElse, orAudit, zeroAt, bad-append}
@@ -77,9 +76,49 @@ zero-good h i e = eq-eqb (wordAt h i) 0 e
 -- One object
 
 module _ (h : List ℕ) (q mark : ℕ) where
-  pub judged-kind : (r : Bool) → r ≡ eqb (kindAt h q) viewKind → not r ≡ true → Fault q ≡ faultAt h q mark
-  unfolding faultAt badHeader
-  judged-kind r e f = rw (row-ptrs h q (ptrsAt h q), ← e, not-true r f)
+  -- r tells whether the header is right for its kind
+  module _ (r : Bool) (e : r ≡ kindOf h q .ptrs (ptrsAt h q)) where
+    pub judged-kind : not r ≡ true → Fault q ≡ faultAt h q mark
+    unfolding faultAt badHeader
+    judged-kind f = rw (← e, not-true r f)
+
+    module _ (f : not r ≡ false) (a : q + 1 < mark) where
+      judged-size : faultAt h q mark ≡ (if badSize h q mark then Fault (q + 1) else Clean)
+      unfolding faultAt badHeader
+      judged-size = rw (← e, not-false r f, lt-leb mark (q + 1) a)
+
+      -- the size, and what else the kind asks of it
+      module _ (size b : ℕ) (S : Small b (sizeAt h q) size) where
+        pub judged-small : (ptrs d : ℕ) → Small d (ptrsAt h q) ptrs → size < 2 + ptrs → Fault (q + 1) ≡ faultAt h q mark
+        unfolding badSize
+        judged-small ptrs d T w =
+            let w′ : sizeAt h q < 2 + ptrsAt h q = rw (S .is, T .is) at w in
+            sym (judged-size ∙ rw (lt-ltb (sizeAt h q) (2 + ptrsAt h q) w′))
+
+        pub judged-long : mark < q + size → Fault (q + 1) ≡ faultAt h q mark
+        unfolding badSize
+        judged-long w =
+            let w′ : mark < q + sizeAt h q = rw (S .is) at w in
+            sym (judged-size ∙ rw (lt-ltb mark (q + sizeAt h q) w′) (go (ltb (sizeAt h q) (2 + ptrsAt h q))))
+          where
+            go : (t : Bool) → (if t || true || not (kindOf h q .size (ptrsAt h q) (sizeAt h q)) then Fault (q + 1) else Clean) ≡ Fault (q + 1)
+            go true = refl
+            go false = refl
+
+        module _ (ptrs d : ℕ) (T : Small d (ptrsAt h q) ptrs) (w : 2 + ptrs ≤ size) (v : q + size ≤ mark)
+            (u : Bool) (g : u ≡ kindOf h q .size (ptrsAt h q) (sizeAt h q)) where
+          judged-row : faultAt h q mark ≡ (if not u then Fault (q + 1) else Clean)
+          unfolding badSize
+          judged-row =
+              let w′ : 2 + ptrsAt h q ≤ sizeAt h q = rw (S .is, T .is) at w in
+              let v′ : q + sizeAt h q ≤ mark = rw (S .is) at v in
+              judged-size ∙ rw (le-ltb (sizeAt h q) (2 + ptrsAt h q) w′, le-ltb mark (q + sizeAt h q) v′, g)
+
+          pub judged-wrong : not u ≡ true → Fault (q + 1) ≡ faultAt h q mark
+          judged-wrong z = sym (judged-row ∙ rw z)
+
+          pub judged-right : not u ≡ false → Clean ≡ faultAt h q mark
+          judged-right z = sym (judged-row ∙ rw z)
 
   pub judged-cut : mark ≤ q + 1 → Fault q ≡ faultAt h q mark
   unfolding faultAt badHeader
@@ -88,38 +127,6 @@ module _ (h : List ℕ) (q mark : ℕ) where
       go : (t : Bool) → Fault q ≡ (if t || true then Fault q else if badSize h q mark then Fault (q + 1) else Clean)
       go true = refl
       go false = refl
-
-  pub judged-size : (r : Bool) → r ≡ eqb (kindAt h q) viewKind → not r ≡ false → q + 1 < mark →
-      faultAt h q mark ≡ (if badSize h q mark then Fault (q + 1) else Clean)
-  unfolding faultAt badHeader
-  judged-size r e f a = rw (row-ptrs h q (ptrsAt h q), ← e, not-false r f, lt-leb mark (q + 1) a)
-
-  pub judged-small : (r : Bool) → r ≡ eqb (kindAt h q) viewKind → not r ≡ false → q + 1 < mark →
-      (size ptrs b d : ℕ) → Small b (sizeAt h q) size → Small d (ptrsAt h q) ptrs → size < 2 + ptrs → Fault (q + 1) ≡ faultAt h q mark
-  unfolding badSize
-  judged-small r e f a size ptrs b d S T w =
-      let w′ : sizeAt h q < 2 + ptrsAt h q = rw (S .is, T .is) at w in
-      sym (judged-size r e f a ∙ rw (lt-ltb (sizeAt h q) (2 + ptrsAt h q) w′))
-
-  pub judged-long : (r : Bool) → r ≡ eqb (kindAt h q) viewKind → not r ≡ false → q + 1 < mark →
-      (size b : ℕ) → Small b (sizeAt h q) size → mark < q + size → Fault (q + 1) ≡ faultAt h q mark
-  unfolding badSize
-  judged-long r e f a size b S w =
-      let w′ : mark < q + sizeAt h q = rw (S .is) at w in
-      sym (judged-size r e f a ∙ rw (lt-ltb mark (q + sizeAt h q) w′) (go (ltb (sizeAt h q) (2 + ptrsAt h q))))
-    where
-      go : (t : Bool) → (if t || true || not (kindOf h q .size (ptrsAt h q) (sizeAt h q)) then Fault (q + 1) else Clean) ≡ Fault (q + 1)
-      go true = refl
-      go false = refl
-
-  pub judged-right : (r : Bool) → r ≡ eqb (kindAt h q) viewKind → not r ≡ false → q + 1 < mark →
-      (size ptrs b d : ℕ) → Small b (sizeAt h q) size → Small d (ptrsAt h q) ptrs → 2 + ptrs ≤ size → q + size ≤ mark → Clean ≡ faultAt h q mark
-  unfolding badSize
-  judged-right r e f a size ptrs b d S T w v =
-      let w′ : 2 + ptrsAt h q ≤ sizeAt h q = rw (S .is, T .is) at w in
-      let v′ : q + sizeAt h q ≤ mark = rw (S .is) at v in
-      let k = row-view h q (ptrsAt h q) (row-ptrs h q (ptrsAt h q) ∙ sym e ∙ not-false r f) in
-      sym (judged-size r e f a ∙ rw (le-ltb (sizeAt h q) (2 + ptrsAt h q) w′, le-ltb mark (q + sizeAt h q) v′, k))
 
   pub judged-object : faultAt h q mark ≡ Clean → Object h q mark
   unfolding faultAt

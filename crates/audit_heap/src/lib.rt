@@ -32,7 +32,7 @@ fn judge_object(heap: &[u32], q: usize, mark: usize) -> HeapAudit
     ensures { λ r. ⌜ r ≡ faultAt (now (heap .entry)) q mark ⌝ }
 {
     let next = q + 1;
-    if !heap::is_view(heap, q) {
+    if !heap::ptrs_right(heap, q) {
         return HeapAudit::Fault(q);
     }
     if mark <= next {
@@ -43,6 +43,9 @@ fn judge_object(heap: &[u32], q: usize, mark: usize) -> HeapAudit
         return HeapAudit::Fault(next);
     }
     if mark < q + size {
+        return HeapAudit::Fault(next);
+    }
+    if !heap::size_right(heap, q) {
         return HeapAudit::Fault(next);
     }
     HeapAudit::Clean
