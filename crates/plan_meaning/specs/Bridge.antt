@@ -6,34 +6,38 @@ use mathlib.Core.Bool.{Bool, true, false}
 use mathlib.Core.List.{List, [], _∷_}
 use mathlib.Core.Logic.{_≢_}
 use native.Mathlib.Omega.{arith}
-use lib.ListN.{length, set}
+use lib.IntN.{pos, negsuc}
+use lib.ListN.{length, set, replicate, length-replicate}
 use lib.Seq.{length-slice}
-use lib.Dec.{leb, eqb}
+use lib.Dec.{ltb, leb, eqb}
 use borrow.Author.Tests.{eqb-false, leb-true}
 use Rattle.model.specs.Choice.{if_then_else_, all, all-true}
+use Rattle.laws.specs.Choices.{both-true}
 use Rattle.laws.specs.Cuts.{cut-same}
-use Rattle.model.specs.Words.{wordAt, truth, operate, operate1, cut}
-use Rattle.model.specs.File.{onMain, onPtr, keepMain, keepPtr, keepNone, Basic, local, assign, field, setField, make, form, makerPops, literal, nil}
-use Rattle.model.specs.File.{root, setRoot, retract, binary, samePtr, unary, Ins, basic, jump, branch, branchKeep, call, return, enter, exit, raise}
-use Rattle.model.specs.File.{after, insAt}
+use Rattle.model.specs.Words.{signed, wordAt, truth, operate, operate1, cut}
+use Rattle.model.specs.File.{Side, onMain, onPtr, keepMain, keepPtr, keepNone, Maker, Basic, local, assign, field, setField, make, form, vector}
+use Rattle.model.specs.File.{makerPops, literal, nil, root, setRoot, retract, binary, samePtr, unary, element, setElement, Ins, basic, jump, branch}
+use Rattle.model.specs.File.{branchKeep, call, return, enter, exit, raise, after, insAt}
 use Rattle.model.specs.Checker.{basicEffect, effectOf}
-use Rattle.model.specs.Heap.{markOf, viewKind, inPtrs, inPlain, maySetPlain, maySetPtr}
-use Rattle.model.specs.Control.{Machine, running, records, recordWords}
+use Rattle.model.specs.Heap.{markOf, viewKind, wordVectorKind, ptrVectorKind, kindOf, ptrsAt, inPtrs, inPlain, maySetPlain, maySetPtr, made}
+use Rattle.model.specs.Vectors.{Element, found, ofNil, nowhere, elementOf}
+use Rattle.model.specs.Control.{Machine, running, records, recordWords, setHeap}
 use Rattle.model.specs.Moves.{mtop, ptop, mainWord, ptrWord, mainWords, ptrWords, goTo, inFrame, popMain, popPtr, pushNew, finished}
-use Rattle.model.specs.Instructions.{codeOf, nilObject, noSuchWord, heapFull, noRoom, Result, done, throws, fails, andGo, onValue, onObject, newOf}
-use Rattle.model.specs.Instructions.{makes, calleeTests, basicRule, rule}
+use Rattle.model.specs.Instructions.{codeOf, nilObject, noSuchWord, heapFull, noRoom, Result, done, throws, fails, andGo, onValue, onObject, onElement}
+use Rattle.model.specs.Instructions.{New, object, ofLength, newOf, onNew, makes, calleeTests, basicRule, rule}
 use Rattle.model.specs.Step.{next, outcome, instruct, step}
 use Rattle.model.specs.declared.Value.{Value}
 use Rattle.model.specs.declared.Value.the-variants.{Word, Outside}
 use Rattle.laws_file.specs.Codes.{call-byte, callee-is, call-after}
-use Rattle.plan_meaning.specs.declared.Into.the-variants.{Nothing, Pop, View}
+use Rattle.plan_meaning.specs.declared.Into.the-variants.{Nothing, Pop, View, WordVector, PtrVector}
+use Rattle.plan_meaning.specs.declared.Into.{Into}
 use Rattle.plan_meaning.specs.declared.Put.{Put}
 use Rattle.plan_meaning.specs.declared.Plan.{Plan}
-use Rattle.plan_meaning.specs.declared.Plan.the-variants.{NilObject, NoSuchWord, HeapFull}
+use Rattle.plan_meaning.specs.declared.Plan.the-variants.{NilObject, NoSuchWord, HeapFull, VectorFault}
 use Rattle.plan_meaning.specs.Planned.{basicPlan, planOf, planAt}
 use Rattle.plan_meaning.specs.Planned as plan
-use Rattle.plan_meaning.specs.Settled.{popRec, returned, applyInto, applied, settle}
-use Rattle.plan_meaning.specs.Suits.{Pops, Suited}
+use Rattle.plan_meaning.specs.Settled.{ptrSet, newSet, popRec, returned, applyInto, applied, settle}
+use Rattle.plan_meaning.specs.Suits.{Pops, Suits, Suited}
 
 -- a word that is set may have been popped before
 over : (l : List ℕ) (t w : ℕ) → set (cut (suc t) l) t w ≡ set (cut t l) t w
@@ -45,6 +49,11 @@ over (v ∷ l) (suc t) w = ap (λ (k : List ℕ). v ∷ k) (over l t w)
 -- the word of a new top: at is under it
 set-over : (l : List ℕ) (u at t w : ℕ) → at ≡ t → u ≡ suc t → set (cut u l) at w ≡ set (cut t l) t w
 set-over l u at t w e d = rw (e, d) (over l t w)
+
+-- a word that 32 may store in is a plain word
+plain-set : (h : List ℕ) (o s : ℕ) → maySetPlain h o s ≡ true → inPlain h o s ≡ true
+unfolding maySetPlain
+plain-set h o s e = both-true (inPlain h o s) (kindOf h o .setPlain (s - (2 + ptrsAt h o))) e .0
 
 -- what is asked of the machine, at the instruction x: all of it holds of every sound state that runs
 pub record Apt (f : List ℕ) (m : Machine) (x : Ins) : Type 0 where
@@ -61,11 +70,12 @@ pub record Apt (f : List ℕ) (m : Machine) (x : Ins) : Type 0 where
   -- the frame word that 22 or 23 names
   pub assign-main : (s : ℕ) → x ≡ basic (assign onMain s) → running m .mainBase + s < mtop m
   pub assign-ptr : (s : ℕ) → x ≡ basic (assign onPtr s) → running m .ptrBase + s < ptop m
-  -- the topmost pointer, if it is not nil, is an object whose words 32 and 33 may store in, and they lie in the heap, as the root does
-  pub may-plain : (s : ℕ) → ptrWord m 1 ≢ 0 → maySetPlain (m .heap) (ptrWord m 1) s ≡ inPlain (m .heap) (ptrWord m 1) s
+  -- the topmost pointer, if it is not nil, is an object whose pointer words 33 may store in; its words lie in the heap, as the root does, and
+  -- so does an element that is found
   pub may-ptr : (s : ℕ) → ptrWord m 1 ≢ 0 → maySetPtr (m .heap) (ptrWord m 1) s ≡ inPtrs (m .heap) (ptrWord m 1) s
   pub plain-in : (s : ℕ) → ptrWord m 1 ≢ 0 → inPlain (m .heap) (ptrWord m 1) s ≡ true → ptrWord m 1 + s < length (m .heap)
   pub ptr-in : (s : ℕ) → ptrWord m 1 ≢ 0 → inPtrs (m .heap) (ptrWord m 1) s ≡ true → ptrWord m 1 + s < length (m .heap)
+  pub element-in : (d : Side) (a : ℕ) → elementOf d (m .heap) (ptrWord m 1) (mainWord m 1) ≡ found a → a < length (m .heap)
   pub root-in : 2 ≤ length (m .heap)
   -- the instruction is not cut short; the control records are whole; at a 161 a handler is open
   pub in-file : after f (m .regs .place) ≤ length f
@@ -133,36 +143,85 @@ module _ (f : List ℕ) (m : Machine) (q : ℕ) where
     ptr-push : (w : ℕ) → set (cut (ptop m + 1) (m .ptr)) (ptop m) w ≡ set (m .ptr) (ptop m) w
     ptr-push w = ap (λ (l : List ℕ). set l (ptop m) w) (cut-same (ptop m + 1) (m .ptr) (λ i h. A .ptr-zero i (omega arith)))
 
-  -- a new view: its size is the number of words popped, and two
+  on-element : (e : Element) (p : ℕ → Plan) (r : ℕ → Result) → ((a : ℕ) → e ≡ found a → Comes (p a) (andGo q (r a))) →
+      Comes (plan.planElement e p) (andGo q (onElement e r))
+  unfolding settle
+  on-element (found a) p r k = k a refl
+  on-element ofNil p r k = comes refl tt
+  on-element nowhere p r k = comes refl tt
+
+  -- what is written for a new object
+  abbrev newPut : Maker → Into → Put
+  newPut k i =
+      record {
+        into = i;
+        place = q;
+        mtop = mtop m - makerPops k .0;
+        ptop = ptop m - makerPops k .1 + 1;
+        at = ptop m - makerPops k .1;
+        word = markOf (m .heap);
+      }
+
+  -- a new object of n words in all
+  new-comes : (k : Maker) (i : Into) (kind n : ℕ) (ps ws : List ℕ) → 2 + (length ps + length ws) ≡ n →
+      applyInto f i (newPut k i) m ≡ newSet (made kind ps ws (m .heap)) (newPut k i) m →
+      (markOf (m .heap) + n ≤ length (m .heap) → Suits f i (newPut k i) m) →
+      Comes (plan.planNew m q i n (makerPops k .0) (makerPops k .1)) (andGo q (onNew m k (object kind ps ws)))
+  unfolding settle applied
+  new-comes k i kind n ps ws e d s = rw e (go (leb (markOf (m .heap) + n) (length (m .heap))) refl)
+    where
+      r : Machine
+      r = pushNew kind ps ws (popMain (makerPops k .0) (popPtr (makerPops k .1) m))
+
+      go : (t : Bool) → leb (markOf (m .heap) + n) (length (m .heap)) ≡ t →
+          Comes (if t then plan.write i q (mtop m - makerPops k .0) (ptop m - makerPops k .1 + 1) (ptop m - makerPops k .1) (markOf (m .heap)) else HeapFull)
+          (andGo q (if t then done r else fails heapFull))
+      go true u =
+          comes (ap next d ∙ same refl refl refl (set-over (m .ptr) _ _ _ _ refl (omega arith))) (s (leb-true (markOf (m .heap) + n) (length (m .heap)) u))
+      go false u = comes refl tt
+
+  -- a view: its size is the number of words popped, and two
   form-comes : (k n : ℕ) → Apt f m (basic (make (form k n))) →
       Comes (basicPlan m q (make (form k n))) (andGo q (basicRule m (make (form k n))))
-  unfolding basicPlan basicRule makes newOf makerPops settle applied applyInto basicEffect effectOf
+  unfolding basicPlan basicRule makes newOf makerPops applyInto basicEffect effectOf
   form-comes k n A =
       let a = A .pop-main in
       let b = A .pop-ptr in
-      let ps = ptrWords m n in
-      let ws = mainWords m k in
-      let lp : length ps ≡ n = length-slice (ptop m - n) (ptop m) (m .ptr) (A .ptr-fits) ∙ omega arith in
-      let lm : length ws ≡ k = length-slice (mtop m - k) (mtop m) (m .main) (A .main-fits) ∙ omega arith in
-      let e : markOf (m .heap) + (2 + (length ps + length ws)) ≡ markOf (m .heap) + (2 + k + n) = omega (arith, lp, lm) in
-      rw e (go (leb (markOf (m .heap) + (2 + k + n)) (length (m .heap))) refl)
+      let c = A .push-ptr in
+      let lp : length (ptrWords m n) ≡ n = length-slice (ptop m - n) (ptop m) (m .ptr) (A .ptr-fits) ∙ omega arith in
+      let lm : length (mainWords m k) ≡ k = length-slice (mtop m - k) (mtop m) (m .main) (A .main-fits) ∙ omega arith in
+      new-comes (form k n) View viewKind (2 + k + n) (ptrWords m n) (mainWords m k) (omega (arith, lp, lm)) refl
+      (λ r. record { words = omega arith; pointers = omega arith; below = omega arith; room = omega arith })
+
+  -- a vector of n elements, if n is no negative number
+  length-comes : (k : Maker) (n : ℕ) (p : Plan) (new : ℕ → New) → Comes p (andGo q (onNew m k (new n))) →
+      Comes (plan.planLength n p) (andGo q (onNew m k (ofLength (signed n) new)))
+  unfolding signed settle
+  length-comes k n p new c = go (ltb n 2147483648)
     where
-      p : Plan
-      p = plan.write View q (mtop m - k) (ptop m - n + 1) (ptop m - n) (markOf (m .heap))
+      go : (t : Bool) → Comes (if t then p else VectorFault) (andGo q (onNew m k (ofLength (if t then pos n else negsuc (4294967295 - n)) new)))
+      go true = c
+      go false = comes refl tt
 
-      r : Machine
-      r = pushNew viewKind (ptrWords m n) (mainWords m k) (popMain k (popPtr n m))
-
-      go : (t : Bool) → leb (markOf (m .heap) + (2 + k + n)) (length (m .heap)) ≡ t →
-          Comes (if t then p else HeapFull) (andGo q (if t then done r else fails heapFull))
-      go true u =
-          let a = A .pop-main in
-          let b = A .pop-ptr in
-          let c = A .push-ptr in
-          let d = leb-true (markOf (m .heap) + (2 + k + n)) (length (m .heap)) u in
-          comes (same refl refl refl (set-over (m .ptr) _ _ _ _ refl (omega arith)))
-          (record { words = omega arith; pointers = omega arith; below = omega arith; room = omega arith })
-      go false u = comes refl tt
+  vector-comes : (d : Side) → Apt f m (basic (make (vector d))) → Comes (basicPlan m q (make (vector d))) (andGo q (basicRule m (make (vector d))))
+  unfolding basicPlan basicRule makes newOf makerPops applyInto basicEffect effectOf
+  vector-comes onMain A =
+      let a = A .pop-main in
+      let b = A .push-ptr in
+      let n = mainWord m 2 in
+      length-comes (vector onMain) n _ _
+      (new-comes (vector onMain) WordVector wordVectorKind (3 + n) [] (mainWord m 3 ∷ replicate n (mainWord m 1))
+      (omega (arith, length-replicate n (mainWord m 1))) refl
+      (λ r. record { words = a; pointers = omega arith; below = omega arith; room = r }))
+  vector-comes onPtr A =
+      let a = A .pop-main in
+      let b = A .pop-ptr in
+      let c = A .push-ptr in
+      let n = mainWord m 1 in
+      length-comes (vector onPtr) n _ _
+      (new-comes (vector onPtr) PtrVector ptrVectorKind (3 + n) (replicate n (ptrWord m 1)) (mainWord m 2 ∷ [])
+      (omega (arith, length-replicate n (ptrWord m 1))) refl
+      (λ r. record { words = a; pointers = b; below = omega arith; room = r }))
 
   basic-comes : (b : Basic) → Apt f m (basic b) → Comes (basicPlan m q b) (andGo q (basicRule m b))
   unfolding basicPlan basicRule settle applied applyInto basicEffect effectOf
@@ -191,12 +250,13 @@ module _ (f : List ℕ) (m : Machine) (q : ℕ) where
       (λ u v. comes (same refl (omega arith) (main-same _ A) (set-over (m .ptr) _ _ _ _ refl (omega arith)))
       (omega arith, gone (omega arith) (omega arith)))
   basic-comes (setField onMain s) A =
-      on-object (ptrWord m 1) (inPlain (m .heap) (ptrWord m 1) s) _ _ _ (A .may-plain s)
-      (λ u v. comes refl (A .plain-in s u v, gone (omega arith) (omega arith)))
+      on-object (ptrWord m 1) (maySetPlain (m .heap) (ptrWord m 1) s) _ _ _ (λ u. refl)
+      (λ u v. comes refl (A .plain-in s u (plain-set (m .heap) (ptrWord m 1) s v), gone (omega arith) (omega arith)))
   basic-comes (setField onPtr s) A =
       on-object (ptrWord m 1) (inPtrs (m .heap) (ptrWord m 1) s) _ _ _ (A .may-ptr s)
       (λ u v. comes (same refl refl (main-same _ A) refl) (A .ptr-in s u v, gone (omega arith) (omega arith)))
   basic-comes (make (form k n)) A = form-comes k n A
+  basic-comes (make (vector d)) A = vector-comes d A
   basic-comes (literal w) A =
       let h = A .push-main in
       comes (same refl refl (main-push _ A _) (ptr-same _ A)) (omega arith, gone (omega arith) (omega arith))
@@ -235,6 +295,25 @@ module _ (f : List ℕ) (m : Machine) (q : ℕ) where
       on-value (operate1 o (mainWord m 1)) _ _
       (λ w. comes (same (omega arith) refl (set-over (m .main) _ _ _ _ refl (omega arith)) (ptr-same _ A))
       (omega arith, gone (omega arith) (omega arith)))
+
+  basic-comes (element onMain) A =
+      let h = A .pop-main in
+      let k = A .main-fits in
+      on-element (elementOf onMain (m .heap) (ptrWord m 1) (mainWord m 1)) _ _
+      (λ a e. comes (same (omega arith) refl (set-over (m .main) _ _ _ _ refl (omega arith)) refl) (omega arith, gone (omega arith) (omega arith)))
+  basic-comes (element onPtr) A =
+      let h = A .pop-main in
+      let k = A .pop-ptr in
+      let l = A .ptr-fits in
+      on-element (elementOf onPtr (m .heap) (ptrWord m 1) (mainWord m 1)) _ _
+      (λ a e. comes (same refl (omega arith) refl (set-over (m .ptr) _ _ _ _ refl (omega arith)))
+      (omega arith, omega arith, gone (omega arith) (omega arith)))
+  basic-comes (setElement onMain) A =
+      on-element (elementOf onMain (m .heap) (ptrWord m 1) (mainWord m 1)) _ _
+      (λ a e. comes refl (A .element-in onMain a e, gone (omega arith) (omega arith)))
+  basic-comes (setElement onPtr) A =
+      on-element (elementOf onPtr (m .heap) (ptrWord m 1) (mainWord m 1)) _ _
+      (λ a e. comes refl (A .element-in onPtr a e, gone (omega arith) (omega arith)))
 
   both : (g : Bool → Plan) (r : Bool → Machine) → Comes (g true) (done (r true)) → Comes (g false) (done (r false)) →
       (t : Bool) → Comes (g t) (done (r t))

@@ -1,22 +1,23 @@
 -- What a plan comes to: its writes applied, or its exception raised.
 use Prim.Native.Nat.{ℕ, _-_}
-use mathlib.Core.List.{List}
+use mathlib.Core.List.{List, [], _∷_}
 use lib.Dec.{eqb}
-use lib.ListN.{set}
+use lib.ListN.{set, replicate}
 use lib.Seq.{slice}
 use Rattle.model.specs.Choice.{if_then_else_}
 use Rattle.model.specs.Words.{cut}
 use Rattle.model.specs.File.{operand, after}
-use Rattle.model.specs.Heap.{viewKind, made}
+use Rattle.model.specs.Heap.{viewKind, wordVectorKind, ptrVectorKind, made}
 use Rattle.model.specs.Control.{Machine, handlerOf, running, recordWords, mtopReg, ptopReg, ctopReg, setReg, setMain, setPtr, setCtl, setHeap}
-use Rattle.model.specs.Moves.{mtop, ptop, mainWord, goTo, inFrame, inHandler, cutMain, cutPtr, openFrame, openHandler, finished}
-use Rattle.model.specs.Instructions.{codeOf, outOfRange, nilObject, noSuchWord, heapFull, noRoom}
+use Rattle.model.specs.Moves.{mtop, ptop, mainWord, ptrWord, goTo, inFrame, inHandler, cutMain, cutPtr, openFrame, openHandler, finished}
+use Rattle.model.specs.Instructions.{codeOf, outOfRange, nilObject, noSuchWord, heapFull, noRoom, vectorFault}
 use Rattle.model.specs.Step.{Stepped, next, raised}
 use Rattle.plan_meaning.specs.declared.Into.{Into}
 use Rattle.plan_meaning.specs.declared.Into.the-variants.{Nothing, Pop, Push, Main, Pointer, Heap, Read, Drop, DropMain, DropPointer, View, Frame, Return, Handler, Close}
+use Rattle.plan_meaning.specs.declared.Into.the-variants.{ReadPointer, Store, WordVector, PtrVector}
 use Rattle.plan_meaning.specs.declared.Put.{Put}
 use Rattle.plan_meaning.specs.declared.Plan.{Plan}
-use Rattle.plan_meaning.specs.declared.Plan.the-variants.{Write, OutOfRange, NilObject, NoSuchWord, HeapFull, NoRoom, Thrown}
+use Rattle.plan_meaning.specs.declared.Plan.the-variants.{Write, OutOfRange, NilObject, NoSuchWord, HeapFull, NoRoom, VectorFault, Thrown}
 
 -- the stacks are cut, and the place is the next one
 abbrev pub cutOnly : Put → Machine → Machine
@@ -36,8 +37,16 @@ heapSet p m = setHeap (set (m .heap) (p .at) (p .word)) (cutOnly p m)
 abbrev pub formedFrom : Put → Machine → List ℕ
 formedFrom p m = made viewKind (slice (p .at) (ptop m) (m .ptr)) (slice (p .mtop) (mtop m) (m .main)) (m .heap)
 
-abbrev pub viewSet : Put → Machine → Machine
-viewSet p m = setHeap (formedFrom p m) (ptrSet p m)
+-- 80, 81: so many elements as the length, each the initial value, and the lower bound
+abbrev pub wordsFrom : Machine → List ℕ
+wordsFrom m = made wordVectorKind [] (mainWord m 3 ∷ replicate (mainWord m 2) (mainWord m 1)) (m .heap)
+
+abbrev pub pointersFrom : Machine → List ℕ
+pointersFrom m = made ptrVectorKind (replicate (mainWord m 1) (ptrWord m 1)) (mainWord m 2 ∷ []) (m .heap)
+
+-- a new object, its index on the pointer stack
+abbrev pub newSet : List ℕ → Put → Machine → Machine
+newSet h p m = setHeap h (ptrSet p m)
 
 -- 72: a new frame, which the 72 at the machine's place opens
 abbrev pub calledBy : List ℕ → Put → Machine → Machine
@@ -91,11 +100,15 @@ applyInto f Read p m = mainSet p m
 applyInto f Drop p m = cutOnly p m
 applyInto f DropMain p m = mainSet p m
 applyInto f DropPointer p m = ptrSet p m
-applyInto f View p m = viewSet p m
+applyInto f View p m = newSet (formedFrom p m) p m
 applyInto f Frame p m = calledBy f p m
 applyInto f Return p m = if eqb (m .regs .frame) 1 then finished m else returned p m
 applyInto f Handler p m = opened p m
 applyInto f Close p m = closed p m
+applyInto f ReadPointer p m = ptrSet p m
+applyInto f Store p m = heapSet p m
+applyInto f WordVector p m = newSet (wordsFrom m) p m
+applyInto f PtrVector p m = newSet (pointersFrom m) p m
 
 unfoldable pub applied : List ℕ → Put → Machine → Machine
 applied f p m = applyInto f (p .into) p m
@@ -108,4 +121,5 @@ settle f m NilObject = raised f m (codeOf nilObject)
 settle f m NoSuchWord = raised f m (codeOf noSuchWord)
 settle f m HeapFull = raised f m (codeOf heapFull)
 settle f m NoRoom = raised f m (codeOf noRoom)
+settle f m VectorFault = raised f m (codeOf vectorFault)
 settle f m Thrown = raised f m (mainWord m 1)

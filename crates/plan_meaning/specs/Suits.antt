@@ -6,13 +6,14 @@ use lib.ListN.{length}
 use Rattle.model.specs.File.{after}
 use Rattle.model.specs.Heap.{markOf}
 use Rattle.model.specs.Control.{Machine, recordWords}
-use Rattle.model.specs.Moves.{mtop, ptop}
+use Rattle.model.specs.Moves.{mtop, ptop, mainWord}
 use Rattle.model.specs.declared.Regs.{Regs}
 use Rattle.plan_meaning.specs.declared.Into.{Into}
 use Rattle.plan_meaning.specs.declared.Into.the-variants.{Nothing, Pop, Push, Main, Pointer, Heap, Read, Drop, DropMain, DropPointer, View, Frame, Return, Handler, Close}
+use Rattle.plan_meaning.specs.declared.Into.the-variants.{ReadPointer, Store, WordVector, PtrVector}
 use Rattle.plan_meaning.specs.declared.Put.{Put}
 use Rattle.plan_meaning.specs.declared.Plan.{Plan}
-use Rattle.plan_meaning.specs.declared.Plan.the-variants.{Write, OutOfRange, NilObject, NoSuchWord, HeapFull, NoRoom, Thrown}
+use Rattle.plan_meaning.specs.declared.Plan.the-variants.{Write, OutOfRange, NilObject, NoSuchWord, HeapFull, NoRoom, VectorFault, Thrown}
 
 -- at most a words of the main stack go, and b of the pointer stack
 pub record Pops (a b : ℕ) (r : Regs) (put : Put) : Type 0 where
@@ -42,6 +43,10 @@ WriteFits Frame lm lp lh r put = ⊥
 WriteFits Return lm lp lh r put = ⊥
 WriteFits Handler lm lp lh r put = ⊥
 WriteFits Close lm lp lh r put = ⊥
+WriteFits ReadPointer lm lp lh r put = (put .at < lp) × (put .mtop < r .mtop) × Pops 1 0 r put
+WriteFits Store lm lp lh r put = (put .at < lh) × Pops 2 2 r put
+WriteFits WordVector lm lp lh r put = ⊥
+WriteFits PtrVector lm lp lh r put = ⊥
 
 abbrev pub FitsIn : Into → Put → Machine → Type 0
 FitsIn i put m = WriteFits i (length (m .main)) (length (m .ptr)) (length (m .heap)) (m .regs) put
@@ -52,6 +57,13 @@ pub record Forms (put : Put) (m : Machine) : Type 0 where
   pub pointers : put .at ≤ ptop m
   pub below : put .at < length (m .ptr)
   pub room : markOf (m .heap) + (2 + ((ptop m - put .at) + (mtop m - put .mtop))) ≤ length (m .heap)
+
+-- 80, 81: a main words and b pointers are there, and the heap has room for a vector of n elements
+pub record VectorFits (a b n : ℕ) (put : Put) (m : Machine) : Type 0 where
+  pub words : a ≤ mtop m
+  pub pointers : b ≤ ptop m
+  pub below : put .at < length (m .ptr)
+  pub room : markOf (m .heap) + (3 + n) ≤ length (m .heap)
 
 -- 72: its operand is there, the base is that of words on the stack, and the record fits
 pub record CallSuits (f : List ℕ) (put : Put) (m : Machine) : Type 0 where
@@ -77,6 +89,10 @@ Suits f Frame put m = CallSuits f put m
 Suits f Return put m = Unit {0}
 Suits f Handler put m = m .regs .ctop + recordWords ≤ length (m .ctl)
 Suits f Close put m = 1 ≤ m .regs .handler
+Suits f ReadPointer put m = FitsIn ReadPointer put m
+Suits f Store put m = FitsIn Store put m
+Suits f WordVector put m = VectorFits 3 0 (mainWord m 2) put m
+Suits f PtrVector put m = VectorFits 2 1 (mainWord m 1) put m
 
 -- any plan; 162 has a word to pop
 abbrev pub Suited : List ℕ → Machine → Plan → Type 0
@@ -86,4 +102,5 @@ Suited f m NilObject = Unit {0}
 Suited f m NoSuchWord = Unit {0}
 Suited f m HeapFull = Unit {0}
 Suited f m NoRoom = Unit {0}
+Suited f m VectorFault = Unit {0}
 Suited f m Thrown = 1 ≤ mtop m

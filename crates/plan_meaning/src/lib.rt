@@ -14,11 +14,15 @@ pub enum Into {
     Drop, // nothing; words of both stacks go, as many as the instruction says
     DropMain, // a word of the main stack, set aside while words of both stacks go
     DropPointer, // the same with a word of the pointer stack
-    View, // a new object, and its index on the pointer stack
+    View, // a new view, and its index on the pointer stack
     Frame, // a frame's record on the control stack
     Return, // takes the running frame's record away
     Handler, // a handler's record on the control stack
     Close, // takes the innermost handler's record away
+    ReadPointer, // a word of the pointer stack, had by an index, the topmost main word, which goes: 83
+    Store, // a word of the heap, had by an index; words of both stacks go, at most two of each: 84, 85
+    WordVector, // a new vector of words, and its index on the pointer stack
+    PtrVector, // a new vector of pointers, and its index on the pointer stack
 }
 
 // The writes of an instruction. Both stacks are cut to their new tops, then a word is written, a new object with its pointer, or nothing; what
@@ -40,6 +44,7 @@ pub enum Plan {
     NoSuchWord, // 3: no such word in the part asked for
     HeapFull, // 4: the heap has too few free words
     NoRoom, // 5: a frame or a handler does not fit the stacks
+    VectorFault, // 6: no such element, a negative length, or an object of another kind
     Thrown, // the word that instruction 162 pops
 }
 
