@@ -1,35 +1,19 @@
-// Records of the control stack, pushed and taken away, and a view in the heap.
+// Records of the control stack, pushed and taken away.
 ghost use mathlib.Core.Path.{_≡_};
 ghost use mathlib.Core.List.{List};
-ghost use Prim.Native.Nat.{ℕ, _+_, _-_, _*_, _<_, _≤_};
+ghost use Prim.Native.Nat.{ℕ, _+_, _*_, _<_, _≤_};
 ghost use lib.ListN.{length};
-ghost use lib.Seq.{sets, slice};
 ghost use Rattle.model.specs.File.{after, fileMost};
 ghost use Rattle.model.specs.Control.{recordWords};
-ghost use Rattle.model.specs.Heap.{viewKind, made};
 ghost use Rattle.plan_meaning.specs.Settled.{calledBy, returned, opened, closed};
 ghost use Rattle.laws.specs.Cuts.{Topped};
-ghost use Rattle.apply_records.specs.Asks.{PushesRecord, Room};
+ghost use Rattle.apply_records.specs.Asks.{PushesRecord};
 use control_stack::Frame;
 use control_stack::Handler;
 use model::RECORD;
 use model::Regs;
 use plan_meaning::Put;
 ghost use Rattle.model.specs.Calls.{mainMost, ptrMost};
-
-// The words from start to end, copied to a place of the heap.
-fn copy(heap: &mut [u32], to: usize, from: &[u32], start: usize, end: usize)
-    requires { ⌜ (start ≤ end) × (end ≤ length (now from)) × (to + (end - start) ≤ length (now heap)) ⌝ }
-    ensures { λ _. ⌜ now (heap .exit) ≡ sets (now (heap .entry)) to (slice start end (now (from .entry))) ⌝ }
-{
-    let mut i = start;
-    let mut j = to;
-    while i < end {
-        heap[j] = from[i];
-        i += 1;
-        j += 1;
-    }
-}
 
 // 72: a new frame. The operand is its procedure, the return place is behind it.
 pub fn call(file: &[u8], ctl: &mut [u32], regs: Regs, put: Put) -> Regs
@@ -126,23 +110,4 @@ pub fn close(ctl: &mut [u32], regs: Regs, put: Put) -> Regs
         ctop: under,
         state: regs.state,
     }
-}
-
-// 36: a view of the words popped, at the mark; pointers first.
-pub fn form(main: &[u32], ptr: &[u32], heap: &mut [u32], regs: Regs, put: Put)
-    requires { ⌜ Room (length (now main)) (length (now ptr)) (now heap) regs put ⌝ }
-    ensures { λ _. ⌜ now (heap .exit) ≡ made viewKind (slice (put .at) (regs .ptop) (now (ptr .entry))) (slice (put .mtop) (regs .mtop) (now (main .entry))) (now (heap .entry)) ⌝ }
-{
-    let at = put.at;
-    let low = put.mtop;
-    let pointers = regs.ptop - at;
-    let words = regs.mtop - low;
-    let size = 2 + (pointers + words);
-    let mark = heap[0] as usize;
-    let head = (16777216 + pointers) as u32;
-    heap[mark] = head;
-    heap[mark + 1] = size as u32;
-    copy(heap, mark + 2, ptr, at, regs.ptop);
-    copy(heap, mark + 2 + pointers, main, low, regs.mtop);
-    heap[0] = (mark + size) as u32;
 }

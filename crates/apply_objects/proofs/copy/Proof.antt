@@ -1,4 +1,4 @@
--- `apply_records::copy` meets its contract: before each turn the words from start to i are copied.
+-- `apply_objects::copy` meets its contract: before each turn the words from start to i are copied.
 use mathlib.Core.Path.{_≡_, refl, ap, _∙_}
 use mathlib.Core.List.{List}
 use Prim.Native.Nat.{ℕ, _+_, _-_, _≤_}
@@ -7,8 +7,8 @@ use lib.ListN.{length, getD, set, length-set}
 use lib.Seq.{sets, slice, slice-empty}
 use borrow.Author.Needs.{needs}
 use Rattle.laws.specs.Stores.{copy-more}
-use Rattle.apply_records.proofs.copy.Statement.{statement}
-use Rattle.apply_records.proofs.copy.Tie as tie
+use Rattle.apply_objects.proofs.copy.Statement.{statement}
+use Rattle.apply_objects.proofs.copy.Tie as tie
 
 abbrev Inv-loop : tie.InvT-loop
 Inv-loop heap₀ to from start end i₀ j₀ heap i j =

@@ -1,0 +1,2 @@
+pub mod Asks
+pub mod Laws
