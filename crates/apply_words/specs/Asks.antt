@@ -67,6 +67,10 @@ plainWrite into.Frame p m = cutOnly p m
 plainWrite into.Return p m = cutOnly p m
 plainWrite into.Handler p m = cutOnly p m
 plainWrite into.Close p m = cutOnly p m
+plainWrite into.ReadPointer p m = ptrSet p m
+plainWrite into.Store p m = heapSet p m
+plainWrite into.WordVector p m = cutOnly p m
+plainWrite into.PtrVector p m = cutOnly p m
 
 -- done, or not: then all is as before
 abbrev pub triedOn : Bool → Put → Regs → Regs

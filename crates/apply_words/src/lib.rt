@@ -169,7 +169,7 @@ fn drop_few(main: &mut [u32], ptr: &mut [u32], regs: Regs, put: Put) -> bool
 
 // The stacks are cut, and a word, or none, is written into one of them or into the heap; or nothing is done, where many words would be dropped.
 // Each arm pops by itself: a plan made with a known `into` then jumps to its arm, which looks at no stack that its instructions leave alone.
-// `Push` and `Pop` ask nothing: how many words go is known.
+// `Push`, `Pop` and `ReadPointer` ask nothing: how many words go is known.
 pub fn plain(main: &mut [u32], ptr: &mut [u32], heap: &mut [u32], regs: Regs, put: Put) -> bool
     requires { ⌜ Plain (length (now heap)) (now main) (now ptr) regs put ⌝ }
     ensures state { λ r. ⌜ ((ctl : List ℕ) → record {
@@ -212,6 +212,17 @@ pub fn plain(main: &mut [u32], ptr: &mut [u32], heap: &mut [u32], regs: Regs, pu
         Into::Read => {
             pop_two(ptr, put.ptop, regs.ptop);
             main[at] = put.word;
+            true
+        }
+        Into::ReadPointer => {
+            pop_last(main, put.mtop, regs.mtop);
+            ptr[at] = put.word;
+            true
+        }
+        Into::Store => {
+            pop_two(main, put.mtop, regs.mtop);
+            pop_two(ptr, put.ptop, regs.ptop);
+            heap[at] = put.word;
             true
         }
         _ => drop_few(main, ptr, regs, put),

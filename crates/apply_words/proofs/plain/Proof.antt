@@ -107,8 +107,51 @@ slice-write-main-3 c =
     let at-told = c .before .before .before .before in
     fits-at (at-told .before .before .before .before .before .pre) (at-told .enum-told7 .given .1) .0
 
+enum-told-8 : tie.Need-enum-told-8
+enum-told-8 c = search needs
+
+pop-last-requires-2 : tie.Need-pop-last-requires-2
+pop-last-requires-2 c κs =
+    let P = c .before .before .before .before .before .before .pre in
+    let F = fits-at P (c .before .enum-told8 .given .1) in
+    (P .main-top, omega (arith, F .1, F .2 .main))
+
+mul-ptr-2 : tie.Need-mul-ptr-2
+mul-ptr-2 c =
+    let at-told = c .before .before .before .before in
+    omega (arith, fits-at (at-told .before .before .before .before .before .pre) (at-told .enum-told8 .given .1) .0)
+
+slice-write-ptr-2 : tie.Need-slice-write-ptr-2
+slice-write-ptr-2 c =
+    let at-told = c .before .before .before .before in
+    fits-at (at-told .before .before .before .before .before .pre) (at-told .enum-told8 .given .1) .0
+
+enum-told-9 : tie.Need-enum-told-9
+enum-told-9 c = search needs
+
+pop-two-requires-3 : tie.Need-pop-two-requires-3
+pop-two-requires-3 c κs =
+    let P = c .before .before .before .before .before .before .pre in
+    (P .main-top, fits-at P (c .before .enum-told9 .given .1) .1 .main)
+
+pop-two-requires-4 : tie.Need-pop-two-requires-4
+pop-two-requires-4 c κs =
+    let at-told = c .before .before .before .before .before in
+    let P = at-told .before .before .before .before .before .pre in
+    (P .ptr-top, fits-at P (at-told .enum-told9 .given .1) .1 .ptr)
+
+mul-heap-2 : tie.Need-mul-heap-2
+mul-heap-2 c =
+    let at-told = c .before .before .before .before .before .before .before .before in
+    omega (arith, fits-at (at-told .before .before .before .before .before .pre) (at-told .enum-told9 .given .1) .0)
+
+slice-write-heap-2 : tie.Need-slice-write-heap-2
+slice-write-heap-2 c =
+    let at-told = c .before .before .before .before .before .before .before .before in
+    fits-at (at-told .before .before .before .before .before .pre) (at-told .enum-told9 .given .1) .0
+
 drop-few-requires : tie.Need-drop-few-requires
-drop-few-requires c κs = dropping (c .before .before .before .before .before .before .pre) (c .before .before .match .keys8)
+drop-few-requires c κs = dropping (c .before .before .before .before .before .before .pre) (c .before .before .match .keys10)
 
 returns : tie.Need-returns
 returns c =
@@ -193,8 +236,36 @@ same-length-11 c = search needs
 
 returns-8 : tie.Need-returns-8
 returns-8 c =
+    let at-told = c .before .before .before .before in
+    let P = at-told .before .before .before .before .before .pre in
+    let e = at-told .enum-told8 .given .1 in
+    plainly-ptr P (c .before .before .pop-last2 .ensures) (ptr-kept P (fits-at P e .2)) e refl
+
+same-length-12 : tie.Need-same-length-12
+same-length-12 c = search needs
+
+same-length-13 : tie.Need-same-length-13
+same-length-13 c = search needs
+
+same-length-14 : tie.Need-same-length-14
+same-length-14 c = search needs
+
+returns-9 : tie.Need-returns-9
+returns-9 c =
+    let at-pop = c .before .before .before .before .before .before in
+    let at-told = at-pop .before .before in
+    plainly-heap (at-told .before .before .before .before .before .pre) (at-pop .pop-two3 .ensures) (c .before .before .pop-two4 .ensures) (at-told .enum-told9 .given .1) refl _
+
+same-length-15 : tie.Need-same-length-15
+same-length-15 c = search needs
+
+same-length-16 : tie.Need-same-length-16
+same-length-16 c = search needs
+
+returns-10 : tie.Need-returns-10
+returns-10 c =
     let at-match = c .before .before .before .before .before .before .before in
-    (λ ctl. c .before .before .before .before .drop-few .ensures _ _, λ e. dropping (at-match .before .before .before .before .pre) (at-match .match .keys8) .retract)
+    (λ ctl. c .before .before .before .before .drop-few .ensures _ _, λ e. dropping (at-match .before .before .before .before .pre) (at-match .match .keys10) .retract)
 
 pub plain-spec : {M : Type 1} → statement M
 plain-spec =
@@ -223,6 +294,15 @@ plain-spec =
     pop-two-requires-2
     mul-main-3
     slice-write-main-3
+    enum-told-8
+    pop-last-requires-2
+    mul-ptr-2
+    slice-write-ptr-2
+    enum-told-9
+    pop-two-requires-3
+    pop-two-requires-4
+    mul-heap-2
+    slice-write-heap-2
     drop-few-requires
     returns
     same-length
@@ -242,4 +322,11 @@ plain-spec =
     returns-7
     same-length-10
     same-length-11
-    returns-8)
+    returns-8
+    same-length-12
+    same-length-13
+    same-length-14
+    returns-9
+    same-length-15
+    same-length-16
+    returns-10)
