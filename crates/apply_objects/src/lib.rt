@@ -1,17 +1,19 @@
 // New objects in the heap: a view of words that are popped, and vectors (Manual 4.11, 4.28). All of them begin by one function, which alone
 // knows the mark.
 ghost use mathlib.Core.Path.{_≡_};
-ghost use mathlib.Core.List.{[], _∷_};
-ghost use Prim.Native.Nat.{_+_, _-_, _≤_};
+ghost use mathlib.Core.List.{List, [], _∷_};
+ghost use Prim.Native.Nat.{ℕ, _+_, _-_, _≤_};
 ghost use lib.ListN.{length, replicate};
 ghost use lib.Seq.{sets, slice};
 ghost use Rattle.model.specs.Words.{wordAt};
 ghost use Rattle.model.specs.Heap.{markOf, viewKind, wordVectorKind, ptrVectorKind, made};
-ghost use Rattle.apply_objects.specs.Asks.{Begins, Room, VectorRoom, begun};
+ghost use Rattle.plan_meaning.specs.Settled.{applied};
+ghost use Rattle.apply_objects.specs.Asks.{Begins, Room, WordsRoom, PointersRoom, Making, begun};
 use model::PTR_VECTOR_KIND;
 use model::Regs;
 use model::VIEW_KIND;
 use model::WORD_VECTOR_KIND;
+use plan_meaning::Into;
 use plan_meaning::Put;
 
 // The words from start to end, copied to a place of the heap.
@@ -59,7 +61,7 @@ fn begin(heap: &mut [u32], kind: usize, pointers: usize, words: usize) -> usize
 }
 
 // 36: a view of the words popped; pointers first.
-pub fn form(main: &[u32], ptr: &[u32], heap: &mut [u32], regs: Regs, put: Put)
+fn form(main: &[u32], ptr: &[u32], heap: &mut [u32], regs: Regs, put: Put)
     requires { ⌜ Room (length (now main)) (length (now ptr)) (now heap) regs put ⌝ }
     ensures { λ _. ⌜ now (heap .exit) ≡ made viewKind (slice (put .at) (regs .ptop) (now (ptr .entry))) (slice (put .mtop) (regs .mtop) (now (main .entry))) (now (heap .entry)) ⌝ }
 {
@@ -73,8 +75,8 @@ pub fn form(main: &[u32], ptr: &[u32], heap: &mut [u32], regs: Regs, put: Put)
 }
 
 // 80: a vector of words: the lower bound, then the elements. From the top: the initial value, the length, the lower bound.
-pub fn word_vector(main: &[u32], heap: &mut [u32], regs: Regs)
-    requires { ⌜ (3 ≤ regs .mtop) × (regs .mtop ≤ length (now main)) × VectorRoom (now heap) (wordAt (now main) (regs .mtop - 2)) ⌝ }
+fn word_vector(main: &[u32], heap: &mut [u32], regs: Regs)
+    requires { ⌜ WordsRoom (now main) (now heap) regs ⌝ }
     ensures { λ _. ⌜ now (heap .exit) ≡ made wordVectorKind [] (wordAt (now (main .entry)) (regs .mtop - 3)
         ∷ replicate (wordAt (now (main .entry)) (regs .mtop - 2)) (wordAt (now (main .entry)) (regs .mtop - 1))) (now (heap .entry)) ⌝ }
 {
@@ -89,9 +91,8 @@ pub fn word_vector(main: &[u32], heap: &mut [u32], regs: Regs)
 
 // 81: a vector of pointers: the elements, then the lower bound. The initial value is the topmost pointer; from the top of the main stack the
 // length, the lower bound.
-pub fn ptr_vector(main: &[u32], ptr: &[u32], heap: &mut [u32], regs: Regs)
-    requires { ⌜ (2 ≤ regs .mtop) × (regs .mtop ≤ length (now main)) × (1 ≤ regs .ptop) × (regs .ptop ≤ length (now ptr))
-        × VectorRoom (now heap) (wordAt (now main) (regs .mtop - 1)) ⌝ }
+fn ptr_vector(main: &[u32], ptr: &[u32], heap: &mut [u32], regs: Regs)
+    requires { ⌜ PointersRoom (now main) (now ptr) (now heap) regs ⌝ }
     ensures { λ _. ⌜ now (heap .exit) ≡ made ptrVectorKind (replicate (wordAt (now (main .entry)) (regs .mtop - 1)) (wordAt (now (ptr .entry)) (regs .ptop - 1)))
         (wordAt (now (main .entry)) (regs .mtop - 2) ∷ []) (now (heap .entry)) ⌝ }
 {
@@ -104,4 +105,29 @@ pub fn ptr_vector(main: &[u32], ptr: &[u32], heap: &mut [u32], regs: Regs)
     fill(heap, first, count, value);
     let last = first + count;
     heap[last] = bound;
+}
+
+// 36, 80 and 81: the heap with the new object. What is popped is still on the stacks.
+pub fn make(main: &[u32], ptr: &[u32], heap: &mut [u32], regs: Regs, put: Put)
+    requires { ⌜ Making (now main) (now ptr) (now heap) regs put ⌝ }
+    ensures { λ _. ⌜ ((f ctl : List ℕ) → now (heap .exit) ≡ applied f put (record {
+      regs = regs;
+      main = now (main .entry);
+      ptr = now (ptr .entry);
+      ctl = ctl;
+      heap = now (heap .entry);
+    }) .heap) ⌝ }
+{
+    let into = put.into;
+    match into {
+        Into::View => {
+            form(main, ptr, heap, regs, put);
+        }
+        Into::WordVector => {
+            word_vector(main, heap, regs);
+        }
+        _ => {
+            ptr_vector(main, ptr, heap, regs);
+        }
+    }
 }

@@ -295,7 +295,6 @@ module _ (f : List ℕ) (m : Machine) (q : ℕ) where
       on-value (operate1 o (mainWord m 1)) _ _
       (λ w. comes (same (omega arith) refl (set-over (m .main) _ _ _ _ refl (omega arith)) (ptr-same _ A))
       (omega arith, gone (omega arith) (omega arith)))
-
   basic-comes (element onMain) A =
       let h = A .pop-main in
       let k = A .main-fits in
