@@ -25,7 +25,7 @@ apart i j u e = u (ap (tagOf made.the-type) e)
 
 -- the writes into the stacks and the heap
 abbrev noRecord : List ℕ
-noRecord = 0 ∷ 1 ∷ 2 ∷ 3 ∷ 4 ∷ 5 ∷ 6 ∷ 7 ∷ 8 ∷ 9 ∷ []
+noRecord = 0 ∷ 1 ∷ 2 ∷ 3 ∷ 4 ∷ 5 ∷ 6 ∷ 7 ∷ 8 ∷ 9 ∷ 15 ∷ 16 ∷ []
 
 plain-write : (f : List ℕ) (i : Into) (put : Put) (m : Machine) → OneOf noRecord (tagOf made.the-type i) → Suits f i put m →
     FitsIn i put m × (plainWrite i put m ≡ applyInto f i put m)
@@ -45,15 +45,19 @@ plain-write f into.Frame put m k s = absurd (miss noRecord 11 tt k)
 plain-write f into.Return put m k s = absurd (miss noRecord 12 tt k)
 plain-write f into.Handler put m k s = absurd (miss noRecord 13 tt k)
 plain-write f into.Close put m k s = absurd (miss noRecord 14 tt k)
+plain-write f into.ReadPointer put m k s = (s, refl)
+plain-write f into.Store put m k s = (s, refl)
+plain-write f into.WordVector put m k s = absurd (miss noRecord 17 tt k)
+plain-write f into.PtrVector put m k s = absurd (miss noRecord 18 tt k)
 
 pub plainly : {f : List ℕ} {put : Put} {m : Machine} → Applies f put m → OneOf noRecord (tagOf made.the-type (put .into)) →
     FitsIn (put .into) put m × (plainWrite (put .into) put m ≡ applied f put m)
 unfolding applied
 plainly {f = f} {put = put} {m = m} A k = plain-write f (put .into) put m k (A .suits)
 
--- of the late ones: a return is the first frame's; all but a view and a return are retracts
+-- of the late ones: a return is the first frame's; all but a new object and a return are retracts
 abbrev noReturn : List ℕ
-noReturn = 0 ∷ 1 ∷ 2 ∷ 3 ∷ 4 ∷ 5 ∷ 6 ∷ 7 ∷ 8 ∷ 9 ∷ 11 ∷ 13 ∷ 14 ∷ []
+noReturn = 0 ∷ 1 ∷ 2 ∷ 3 ∷ 4 ∷ 5 ∷ 6 ∷ 7 ∷ 8 ∷ 9 ∷ 11 ∷ 13 ∷ 14 ∷ 15 ∷ 16 ∷ []
 
 module _ {put : Put} {m : Machine} (L : Lately put m) where
   pub late-return : put .into ≡ into.Return → m .regs .frame ≡ 1
@@ -63,7 +67,9 @@ module _ {put : Put} {m : Machine} (L : Lately put m) where
       first (inl (inl e)) = absurd (apart into.Drop into.Return (λ t. omega arith) (sym e ∙ u))
       first (inl (inr (inl e))) = absurd (apart into.DropMain into.Return (λ t. omega arith) (sym e ∙ u))
       first (inl (inr (inr e))) = absurd (apart into.DropPointer into.Return (λ t. omega arith) (sym e ∙ u))
-      first (inr (inl e)) = absurd (apart into.View into.Return (λ t. omega arith) (sym e ∙ u))
+      first (inr (inl (inl e))) = absurd (apart into.View into.Return (λ t. omega arith) (sym e ∙ u))
+      first (inr (inl (inr (inl e)))) = absurd (apart into.WordVector into.Return (λ t. omega arith) (sym e ∙ u))
+      first (inr (inl (inr (inr e)))) = absurd (apart into.PtrVector into.Return (λ t. omega arith) (sym e ∙ u))
       first (inr (inr e)) = e .1
 
   pub late-retract : OneOf noReturn (tagOf made.the-type (put .into)) → Retract (put .into)
@@ -71,12 +77,14 @@ module _ {put : Put} {m : Machine} (L : Lately put m) where
     where
       some : Late (put .into) (m .regs) → Retract (put .into)
       some (inl e) = e
-      some (inr (inl e)) = absurd (miss noReturn 10 tt (rw e at k))
+      some (inr (inl (inl e))) = absurd (miss noReturn 10 tt (rw e at k))
+      some (inr (inl (inr (inl e)))) = absurd (miss noReturn 17 tt (rw e at k))
+      some (inr (inl (inr (inr e)))) = absurd (miss noReturn 18 tt (rw e at k))
       some (inr (inr e)) = absurd (miss noReturn 12 tt (rw (e .0) at k))
 
 -- all plans but writes
 abbrev raising : List ℕ
-raising = 1 ∷ 2 ∷ 3 ∷ 4 ∷ 5 ∷ 6 ∷ []
+raising = 1 ∷ 2 ∷ 3 ∷ 4 ∷ 5 ∷ 6 ∷ 7 ∷ []
 
 pub no-write : (plan : Plan) → OneOf raising (tagOf planned.the-type plan) → (put : Put) → plan ≡ Write put → ⊥
 no-write plan k put e = miss raising 0 tt (rw e at k)

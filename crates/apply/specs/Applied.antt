@@ -3,25 +3,27 @@ use Prim.Native.Nat.{ℕ, _+_, _*_, _<_, _≤_}
 use mathlib.Core.Path.{_≡_, refl, ap, subst, _∙_}
 use mathlib.Core.Bool.{Bool, true, false, true≢false}
 use mathlib.Core.List.{List}
-use mathlib.Core.Logic.{⊎-elim}
+use mathlib.Core.Logic.{inl, inr, ⊎-elim}
 use native.Mathlib.Omega.{arith}
 use lib.ListN.{length, set}
 use borrow.Author.Tests.{eq-eqb, ne-eqb}
 use Rattle.model.specs.Words.{cut}
 use Rattle.model.specs.File.{after}
 use Rattle.model.specs.Control.{Machine, recordWords}
-use Rattle.model.specs.Moves.{finished}
-use Rattle.plan_meaning.specs.Settled.{formedFrom, calledBy, returned, opened, closed, applyInto, applied}
+use Rattle.model.specs.Heap.{markOf}
+use Rattle.model.specs.Moves.{mainWord, finished}
+use Rattle.plan_meaning.specs.Settled.{calledBy, returned, opened, closed, applyInto, applied}
 use Rattle.model.specs.declared.Regs.{Regs}
 use Rattle.plan_meaning.specs.declared.Into.{Into}
 use Rattle.plan_meaning.specs.declared.Into.the-variants as into
 use Rattle.plan_meaning.specs.declared.Put.{Put}
 use Rattle.laws.specs.Cuts.{Topped}
-use Rattle.apply_records.specs.Asks.{PushesRecord, Room}
+use Rattle.apply_records.specs.Asks.{PushesRecord}
+use Rattle.apply_objects.specs.Asks.{VectorRoom, MakesNew, Making}
 use Rattle.apply_words.specs.Asks.{Plain, Retract, Dropping, onwards, plainWrite, triedOn, triedWrite}
 use Rattle.apply.specs.declared.Tried.{Tried}
-use Rattle.plan_meaning.specs.Suits.{FitsIn, Forms, CallSuits, Suits}
-use Rattle.apply.specs.Applies.{Applies, Late, Lately, tried, appliedIf}
+use Rattle.plan_meaning.specs.Suits.{FitsIn, Forms, VectorFits, CallSuits, Suits}
+use Rattle.apply.specs.Applies.{Applies, Late, New, Lately, tried, appliedIf}
 use Rattle.model.specs.Calls.{mainMost, ptrMost}
 
 -- the registers and what is left of the lists
@@ -62,21 +64,36 @@ module _ {f : List ℕ} {put : Put} {m : Machine} (A : Applies f put m) where
       Topped (m .regs .ctop) (m .ctl) × (1 ≤ m .regs .handler) × (recordWords * m .regs .handler ≤ m .regs .ctop)
   to-close e = (A .stands .ctl, suits e, A .stands .handler)
 
-  to-form : put .into ≡ into.View → Room (length (m .main)) (length (m .ptr)) (m .heap) (m .regs) put
-  to-form e =
-      let F : Forms put m = suits e in
+  heap-room : {n : ℕ} → markOf (m .heap) + (3 + n) ≤ length (m .heap) → VectorRoom (m .heap) n
+  heap-room r = record { free = r; heap-most = A .stands .heap-most }
+
+  making : MakesNew (put .into) → Making (m .main) (m .ptr) (m .heap) (m .regs) put
+  making N =
+      let S = A .stands in
       record {
-        words = F .words;
-        main-fits = A .stands .main .fits;
-        pointers = F .pointers;
-        ptr-fits = A .stands .ptr .fits;
-        few = omega (arith, A .stands .ptr .fits, A .stands .ptr-most);
-        free = F .room;
-        heap-most = A .stands .heap-most;
+        new = N;
+        view = λ e. let F : Forms put m = suits e in record {
+          words = F .words;
+          main-fits = S .main .fits;
+          pointers = F .pointers;
+          ptr-fits = S .ptr .fits;
+          few = omega (arith, S .ptr .fits, S .ptr-most);
+          free = F .room;
+          heap-most = S .heap-most;
+        };
+        words = λ e. let F : VectorFits 3 0 (mainWord m 2) put m = suits e in (F .words, S .main .fits, heap-room (F .room));
+        pointers = λ e.
+            let F : VectorFits 2 1 (mainWord m 1) put m = suits e in
+            (F .words, S .main .fits, F .pointers, S .ptr .fits, heap-room (F .room));
       }
 
-  to-view : put .into ≡ into.View → put .at < length (m .ptr)
-  to-view e = let F : Forms put m = suits e in F .below
+  to-new : MakesNew (put .into) → New (m .main) (m .ptr) (m .heap) (m .regs) put
+  to-new N = record { making = making N; main-top = A .stands .main; ptr-top = A .stands .ptr; below = at N }
+    where
+      at : MakesNew (put .into) → put .at < length (m .ptr)
+      at (inl e) = let F : Forms put m = suits e in F .below
+      at (inr (inl e)) = let F : VectorFits 3 0 (mainWord m 2) put m = suits e in F .below
+      at (inr (inr e)) = let F : VectorFits 2 1 (mainWord m 1) put m = suits e in F .below
 
   pub to-plain : FitsIn (put .into) put m → Plain (length (m .heap)) (m .main) (m .ptr) (m .regs) put
   to-plain F = record { main-top = A .stands .main; ptr-top = A .stands .ptr; fits = F }
@@ -99,11 +116,8 @@ module _ {f : List ℕ} {put : Put} {m : Machine} (A : Applies f put m) where
   to-late L =
       record {
         late = L;
-        main = A .stands .main;
-        ptr = A .stands .ptr;
         ctl = A .stands .ctl;
-        form = to-form;
-        below = to-view;
+        new = to-new;
         retract = to-drop;
       }
 
@@ -157,9 +171,11 @@ module _ {put : Put} {m : Machine} (L : Lately put m) (f : List ℕ) where
   unfolding applied applyInto
   drop-applied R = ⊎-elim (λ e. rw e) (⊎-elim (λ e. rw e) (λ e. rw e)) R
 
-  pub view-applied : {r : Regs} {main ptr heap : List ℕ} → put .into ≡ into.View → r ≡ onwards put (m .regs) → main ≡ cut (put .mtop) (m .main) →
-      ptr ≡ cut (put .ptop) (m .ptr) →
-      heap ≡ formedFrom put m →
-      record { regs = r; main = main; ptr = set ptr (put .at) (put .word); ctl = m .ctl; heap = heap } ≡ applied f put m
-  unfolding applied applyInto
-  view-applied e er em ep eh = rw (e, er, em, ep, eh)
+-- a new object: the heap is the model's, both stacks are cut, and its index is stored
+pub new-applied : (f : List ℕ) (put : Put) (m : Machine) {main ptr heap : List ℕ} → MakesNew (put .into) → heap ≡ applied f put m .heap →
+    main ≡ cut (put .mtop) (m .main) → ptr ≡ cut (put .ptop) (m .ptr) →
+    record { regs = onwards put (m .regs); main = main; ptr = set ptr (put .at) (put .word); ctl = m .ctl; heap = heap } ≡ applied f put m
+unfolding applied applyInto
+new-applied f put m (inl e) eh em ep = rw (eh, e, em, ep)
+new-applied f put m (inr (inl e)) eh em ep = rw (eh, e, em, ep)
+new-applied f put m (inr (inr e)) eh em ep = rw (eh, e, em, ep)

@@ -19,7 +19,7 @@ use Rattle.apply.specs.declared.Tried.{Tried}
 use Rattle.laws.specs.Cuts.{Topped}
 use Rattle.plan_meaning.specs.Suits.{Suits}
 use Rattle.apply_words.specs.Asks.{Retract, Dropping}
-use Rattle.apply_records.specs.Asks.{Room}
+use Rattle.apply_objects.specs.Asks.{MakesNew, Making}
 
 -- the registers against the lists, in every running sound state
 pub record Stands (f : List ℕ) (m : Machine) : Type 0 where
@@ -45,9 +45,9 @@ pub record Applies (f : List ℕ) (put : Put) (m : Machine) : Type 0 where
   pub stands : Stands f m
   pub suits : Suits f (put .into) put m
 
--- what is done at once or left for later: a retract, a new view, the return from the first frame
+-- what is done at once or left for later: a retract, a new object, the return from the first frame
 abbrev pub Late : Into → Regs → Type 0
-Late i r = Retract i ⊎ ((i ≡ into.View) ⊎ ((i ≡ into.Return) × (r .frame ≡ 1)))
+Late i r = Retract i ⊎ (MakesNew i ⊎ ((i ≡ into.Return) × (r .frame ≡ 1)))
 
 abbrev pub Later : Regs → Plan → Type 0
 Later r plan = (put : Put) → plan ≡ Write put → Late (put .into) r
@@ -60,12 +60,16 @@ abbrev pub appliedIf : Bool → List ℕ → Put → Machine → Machine
 appliedIf true f p m = applied f p m
 appliedIf false f p m = m
 
+-- what is asked where an object is made: its words are there, the stacks have their tops, and the place of its index lies in the stack
+pub record New (main ptr heap : List ℕ) (r : Regs) (put : Put) : Type 0 where
+  pub making : Making main ptr heap r put
+  pub main-top : Topped (r .mtop) main
+  pub ptr-top : Topped (r .ptop) ptr
+  pub below : put .at < length ptr
+
 -- what is asked of the writes that are left
 pub record Lately (put : Put) (m : Machine) : Type 0 where
   pub late : Late (put .into) (m .regs)
-  pub main : Topped (m .regs .mtop) (m .main)
-  pub ptr : Topped (m .regs .ptop) (m .ptr)
   pub ctl : Topped (m .regs .ctop) (m .ctl)
-  pub form : put .into ≡ into.View → Room (length (m .main)) (length (m .ptr)) (m .heap) (m .regs) put
-  pub below : put .into ≡ into.View → put .at < length (m .ptr)
+  pub new : MakesNew (put .into) → New (m .main) (m .ptr) (m .heap) (m .regs) put
   pub retract : Retract (put .into) → Dropping (m .main) (m .ptr) (m .regs) put

@@ -10,13 +10,13 @@ use Rattle.model.specs.Calls.{mainMost, ctlMost}
 use Rattle.model.specs.File.{fileMost, procsMost, headOf, operand}
 use Rattle.model.specs.Control.{Machine, frameOf, handlerOf, recordWords}
 use Rattle.model.specs.Moves.{mtop}
-use Rattle.model.specs.Instructions.{codeOf, outOfRange, nilObject, noSuchWord, heapFull, noRoom}
+use Rattle.model.specs.Instructions.{codeOf, outOfRange, nilObject, noSuchWord, heapFull, noRoom, vectorFault}
 use Rattle.model.specs.Step.{Stepped, next, uncaught, caught, raised}
 use Rattle.plan_meaning.specs.Settled.{settle}
 use Rattle.model.specs.declared.Regs.{Regs}
 use Rattle.plan_meaning.specs.declared.Put.{Put}
 use Rattle.plan_meaning.specs.declared.Plan.{Plan}
-use Rattle.plan_meaning.specs.declared.Plan.the-variants.{Write, OutOfRange, NilObject, NoSuchWord, HeapFull, NoRoom, Thrown}
+use Rattle.plan_meaning.specs.declared.Plan.the-variants.{Write, OutOfRange, NilObject, NoSuchWord, HeapFull, NoRoom, VectorFault, Thrown}
 use Rattle.apply.specs.declared.Outcome.{Outcome}
 use Rattle.control_stack.specs.declared.Handler.{Handler}
 use Rattle.control_stack.specs.Layout.{theHandler}
@@ -56,6 +56,7 @@ raisedBy main t NilObject = codeOf nilObject
 raisedBy main t NoSuchWord = codeOf noSuchWord
 raisedBy main t HeapFull = codeOf heapFull
 raisedBy main t NoRoom = codeOf noRoom
+raisedBy main t VectorFault = codeOf vectorFault
 raisedBy main t Thrown = wordAt main (t - 1)
 
 settle-raised : (f : List ℕ) (m : Machine) (plan : Plan) → ((put : Put) → plan ≡ Write put → ⊥) →
@@ -67,6 +68,7 @@ settle-raised f m NilObject never = refl
 settle-raised f m NoSuchWord never = refl
 settle-raised f m HeapFull never = refl
 settle-raised f m NoRoom never = refl
+settle-raised f m VectorFault never = refl
 settle-raised f m Thrown never = refl
 
 -- the registers in the handler

@@ -11,7 +11,7 @@ ghost use Rattle.model.specs.Step.{raised};
 ghost use Rattle.plan_meaning.specs.Settled.{applied, settle};
 ghost use Rattle.laws.specs.Cuts.{Topped};
 ghost use Rattle.apply_words.specs.Asks.{onwards};
-ghost use Rattle.apply.specs.Applies.{Applies, Late, Lately, Later, tried, appliedIf};
+ghost use Rattle.apply.specs.Applies.{Applies, Late, New, Lately, Later, tried, appliedIf};
 ghost use Rattle.apply.specs.Ended.{Targets, Raises, Settles, endedOf, resumed, raisedBy};
 use control_stack::Handler;
 use model::PROCS_MOST;
@@ -96,6 +96,8 @@ pub fn apply(
         Into::Handler => done(apply_records::open(ctl, regs, put)),
         Into::Close => done(apply_records::close(ctl, regs, put)),
         Into::View => undone(regs),
+        Into::WordVector => undone(regs),
+        Into::PtrVector => undone(regs),
         _ => {
             if apply_words::plain(main, ptr, heap, regs, put) {
                 return done(onward(regs, put));
@@ -105,7 +107,20 @@ pub fn apply(
     }
 }
 
-// Applies what `apply` leaves: a new view, a retract of many words, the end of a run.
+// 36, 80 and 81: a new object in the place of what is popped, and its index on the pointer stack.
+fn put_new(main: &mut [u32], ptr: &mut [u32], heap: &mut [u32], regs: Regs, put: Put)
+    requires { ⌜ New (now main) (now ptr) (now heap) regs put ⌝ }
+    ensures { λ _. ⌜ ((f ctl : List ℕ) → record { regs = onwards put regs; main = now (main .exit); ptr = now (ptr .exit); ctl = ctl; heap = now (heap .exit) }
+        ≡ applied f put (record { regs = regs; main = now (main .entry); ptr = now (ptr .entry); ctl = ctl; heap = now (heap .entry) })) ⌝ }
+{
+    let at = put.at;
+    apply_objects::make(main, ptr, heap, regs, put);
+    apply_words::cut_to(main, put.mtop, regs.mtop);
+    apply_words::cut_to(ptr, put.ptop, regs.ptop);
+    ptr[at] = put.word;
+}
+
+// Applies what `apply` leaves: a new object, a retract of many words, the end of a run.
 fn apply_late(
     main: &mut [u32],
     ptr: &mut [u32],
@@ -119,14 +134,18 @@ fn apply_late(
         ≡ applied f put (record { regs = regs; main = now (main .entry); ptr = now (ptr .entry); ctl = now (ctl .entry); heap = now (heap .entry) })) ⌝ }
 {
     let into = put.into;
-    let at = put.at;
     let next = onward(regs, put);
     match into {
         Into::View => {
-            apply_records::form(main, ptr, heap, regs, put);
-            apply_words::cut_to(main, put.mtop, regs.mtop);
-            apply_words::cut_to(ptr, put.ptop, regs.ptop);
-            ptr[at] = put.word;
+            put_new(main, ptr, heap, regs, put);
+            next
+        }
+        Into::WordVector => {
+            put_new(main, ptr, heap, regs, put);
+            next
+        }
+        Into::PtrVector => {
+            put_new(main, ptr, heap, regs, put);
             next
         }
         Into::Return => apply_words::finish(ctl, regs),
@@ -239,6 +258,7 @@ pub fn code_of(plan: Plan, main: &[u32], mtop: usize) -> u32
         Plan::NoSuchWord => 3,
         Plan::HeapFull => 4,
         Plan::NoRoom => 5,
+        Plan::VectorFault => 6,
         Plan::Thrown => main[mtop - 1],
     }
 }

@@ -57,10 +57,22 @@ enum-told-5 c = search needs
 undone-requires-2 : tie.Need-undone-requires-2
 undone-requires-2 c κs = search needs
 
+enum-told-6 : tie.Need-enum-told-6
+enum-told-6 c = search needs
+
+undone-requires-3 : tie.Need-undone-requires-3
+undone-requires-3 c κs = search needs
+
+enum-told-7 : tie.Need-enum-told-7
+enum-told-7 c = search needs
+
+undone-requires-4 : tie.Need-undone-requires-4
+undone-requires-4 c κs = search needs
+
 plain-requires : tie.Need-plain-requires
 plain-requires c κs =
     let A = c .before .before .before .before .before .before .before .before .before .pre in
-    to-plain A (plainly A (c .before .before .before .match .keys6) .0)
+    to-plain A (plainly A (c .before .before .before .match .keys8) .0)
 
 onward-requires : tie.Need-onward-requires
 onward-requires c κs = search needs
@@ -82,10 +94,10 @@ returns-2 c =
     let at-plain = c .before .before .before .before .before .before .before .before .before in
     let at-match = at-plain .before .before .before .before in
     let A = at-match .before .before .before .before .before .before .pre in
-    told-plain A (at-plain .plain .ensures .0 _) (c .done5 .ensures) (c .before .onward .ensures) (c .before .before .if2 .taken) (plainly A (at-match .match .keys6) .1)
+    told-plain A (at-plain .plain .ensures .0 _) (c .done5 .ensures) (c .before .onward .ensures) (c .before .before .if2 .taken) (plainly A (at-match .match .keys8) .1)
 
-undone-requires-3 : tie.Need-undone-requires-3
-undone-requires-3 c κs = search needs
+undone-requires-5 : tie.Need-undone-requires-5
+undone-requires-5 c κs = search needs
 
 same-length-4 : tie.Need-same-length-4
 same-length-4 c = search needs
@@ -122,7 +134,13 @@ returns-6 c =
     told-closed (at-told .before .before .before .before .before .before .before .pre) (c .done4 .ensures) (c .before .before .before .close .ensures _ _ _) (at-told .enum-told4 .given .1)
 
 returns-7 : tie.Need-returns-7
-returns-7 c = told-undone (c .before .before .before .before .before .before .before .before .pre) (c .undone2 .ensures) refl (inr (inl (c .before .enum-told5 .given .1)))
+returns-7 c = told-undone (c .before .before .before .before .before .before .before .before .pre) (c .undone2 .ensures) refl (inr (inl (inl (c .before .enum-told5 .given .1))))
+
+returns-8 : tie.Need-returns-8
+returns-8 c = told-undone (c .before .before .before .before .before .before .before .before .pre) (c .undone3 .ensures) refl (inr (inl (inr (inl (c .before .enum-told6 .given .1)))))
+
+returns-9 : tie.Need-returns-9
+returns-9 c = told-undone (c .before .before .before .before .before .before .before .before .pre) (c .undone4 .ensures) refl (inr (inl (inr (inr (c .before .enum-told7 .given .1)))))
 
 same-length-8 : tie.Need-same-length-8
 same-length-8 c = search needs
@@ -133,12 +151,12 @@ same-length-9 c = search needs
 same-length-10 : tie.Need-same-length-10
 same-length-10 c = search needs
 
-returns-8 : tie.Need-returns-8
-returns-8 c =
+returns-10 : tie.Need-returns-10
+returns-10 c =
     let at-plain = c .before .before .before .before .before .before .before .before in
     let A = at-plain .before .before .before .before .before .before .before .before .before .before .pre in
     let n = c .before .if2 .left in
-    told-left A (at-plain .plain .ensures .0 _) (c .undone3 .ensures) n (inl (at-plain .plain .ensures .1 n))
+    told-left A (at-plain .plain .ensures .0 _) (c .undone5 .ensures) n (inl (at-plain .plain .ensures .1 n))
 
 pub apply-spec : {M : Type 1} → statement M
 apply-spec =
@@ -160,6 +178,10 @@ apply-spec =
     done-requires-4
     enum-told-5
     undone-requires-2
+    enum-told-6
+    undone-requires-3
+    enum-told-7
+    undone-requires-4
     plain-requires
     onward-requires
     done-requires-5
@@ -167,7 +189,7 @@ apply-spec =
     same-length-2
     same-length-3
     returns-2
-    undone-requires-3
+    undone-requires-5
     same-length-4
     returns-3
     same-length-5
@@ -177,7 +199,9 @@ apply-spec =
     same-length-7
     returns-6
     returns-7
+    returns-8
+    returns-9
     same-length-8
     same-length-9
     same-length-10
-    returns-8)
+    returns-10)

@@ -26,14 +26,17 @@ enum-told-6 c = search needs
 enum-told-7 : tie.Need-enum-told-7
 enum-told-7 c = search needs
 
+enum-told-8 : tie.Need-enum-told-8
+enum-told-8 c = search needs
+
 sub-result : tie.Need-sub-result
-sub-result c = c .before .before .pre .1 (c .enum-told7 .given .1)
+sub-result c = c .before .before .pre .1 (c .enum-told8 .given .1)
 
 mul-result : tie.Need-mul-result
 mul-result c = search needs
 
 shared-slice-read-result : tie.Need-shared-slice-read-result
-shared-slice-read-result c = omega (arith, c .before .before .before .pre .1 (c .before .enum-told7 .given .1))
+shared-slice-read-result c = omega (arith, c .before .before .before .pre .1 (c .before .enum-told8 .given .1))
 
 returns : tie.Need-returns
 unfolding raisedBy
@@ -61,7 +64,11 @@ returns-6 c = rw (c .enum-told6 .given .1)
 
 returns-7 : tie.Need-returns-7
 unfolding raisedBy
-returns-7 c = rw (c .before .enum-told7 .given .1)
+returns-7 c = rw (c .enum-told7 .given .1)
+
+returns-8 : tie.Need-returns-8
+unfolding raisedBy
+returns-8 c = rw (c .before .enum-told8 .given .1)
 
 pub code-of-spec : {M : Type 1} → statement M
 code-of-spec =
@@ -74,6 +81,7 @@ code-of-spec =
     enum-told-5
     enum-told-6
     enum-told-7
+    enum-told-8
     sub-result
     mul-result
     shared-slice-read-result
@@ -83,4 +91,5 @@ code-of-spec =
     returns-4
     returns-5
     returns-6
-    returns-7)
+    returns-7
+    returns-8)
