@@ -39,20 +39,25 @@ pub fn plain_fields(
         return Plan::NilObject; // before the field is looked for: 2, not 3
     }
     let s = code_file::operand(file, place);
-    if !heap::in_plain(heap, object, s) {
-        return Plan::NoSuchWord;
-    }
     let at = object + s;
     match kind {
-        30 => writes(
-            Into::Read,
-            place + 3,
-            regs.mtop + 1,
-            top,
-            regs.mtop,
-            heap[at],
-        ),
+        30 => {
+            if !heap::in_plain(heap, object, s) {
+                return Plan::NoSuchWord;
+            }
+            writes(
+                Into::Read,
+                place + 3,
+                regs.mtop + 1,
+                top,
+                regs.mtop,
+                heap[at],
+            )
+        }
         _ => {
+            if !heap::may_set_plain(heap, object, s) {
+                return Plan::NoSuchWord;
+            }
             let value = regs.mtop - 1;
             writes(Into::Heap, place + 3, value, top, at, main[value])
         }

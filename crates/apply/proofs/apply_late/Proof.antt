@@ -98,7 +98,6 @@ returns-5 c f =
     let L = at-onward .before .before .before .before .before .pre in
     rw (at-onward .onward .ensures) (c .before .before .before .before .drop-all .ensures _ _ ∙ drop-applied L f (late-retract L (at-match .match .keys5)))
 
-
 pub apply-late-spec : {M : Type 1} → statement M
 apply-late-spec =
     tie.close

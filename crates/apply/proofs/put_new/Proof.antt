@@ -33,7 +33,6 @@ returns c f ctl =
     let S = c .before .before .before .before .before .before .before .before .before .before .before .before .before .before .before .before .before in
     new-applied f _ _ (S .pre .making .new) (c .before .before .before .before .before .before .before .before .before .before .make .ensures f ctl) (c .before .before .before .before .before .before .cut-to .ensures) (c .before .before .cut-to2 .ensures)
 
-
 pub put-new-spec : {M : Type 1} → statement M
 put-new-spec =
     tie.close

@@ -1,13 +1,13 @@
--- `plan_objects::plain_fields`: at each of the two codes the definition computes; its tests of the object are the code's.
+-- `plan_objects::plain_fields`: at each of the two codes the definition computes; its test of the object is the code's.
 use Prim.Native.Nat.{_-_}
 use mathlib.Core.Logic.{⊎-elim}
-use mathlib.Core.Path.{_∙_, sym}
+use mathlib.Core.Path.{_≡_, _∙_, sym}
 use native.Mathlib.Omega.{arith}
 use borrow.Author.Tests.{not-true, not-false}
 use denote.Ref.{now}
 use Rattle.model.specs.Words.{wordAt}
 use Rattle.model.specs.File.{operand, insOf}
-use Rattle.model.specs.Heap.{inPlain}
+use Rattle.model.specs.Heap.{inPlain, maySetPlain}
 use Rattle.heap.specs.Stores.{Lies, in-plain}
 use Rattle.plan_meaning.specs.Planned.{basicPlan, planOf, planned}
 use Rattle.plan_meaning.specs.Asked.{other}
@@ -20,11 +20,21 @@ use Rattle.plan_objects.proofs.plain_fields.Tie as tie
 object : (c : tie.Else1) → Lies (now (c .before .before .before .before .before .before .before .before .args .heap)) (c .before .word .result)
 object c = lies (c .before .before .before .before .before .before .before .before .pre .4) (c .before .word .ensures .is) (c .if1 .left)
 
-same : (c : tie.After-in-plain) →
-    let a = c .before .before .before .before .before .before .before .before .before .before .args in
+read-same : (c : tie.After-in-plain) →
+    let a = c .before .before .before .before .before .before .before .before .before .before .before .args in
     let top = wordAt (now (a .ptr)) (a .regs .ptop - 1) in
-    FieldAsked (inPlain (now (a .heap))) top (operand (now (a .file)) (a .regs .place)) (c .before .before .before .word .result) (c .before .operand .result) (c .in-plain .result)
-same c = field-asked _ (c .before .before .before .word .ensures .is) (c .before .before .if1 .left) (c .before .operand .ensures .is) (c .in-plain .ensures)
+    FieldAsked (inPlain (now (a .heap))) top (operand (now (a .file)) (a .regs .place)) (c .before .before .before .before .word .result) (c .before .before .operand .result) (c .in-plain .result)
+read-same c = field-asked _ (c .before .before .before .before .word .ensures .is) (c .before .before .before .if1 .left) (c .before .before .operand .ensures .is) (c .in-plain .ensures)
+
+set-same : (c : tie.After-may-set-plain) →
+    let a = c .before .before .before .before .before .before .before .before .before .before .before .args in
+    let top = wordAt (now (a .ptr)) (a .regs .ptop - 1) in
+    FieldAsked (maySetPlain (now (a .heap))) top (operand (now (a .file)) (a .regs .place)) (c .before .before .before .before .word .result) (c .before .before .operand .result) (c .may-set-plain .result)
+set-same c = field-asked _ (c .before .before .before .before .word .ensures .is) (c .before .before .before .if1 .left) (c .before .before .operand .ensures .is) (c .may-set-plain .ensures)
+
+-- the code is the other one
+is-set : (c : tie.At-match-rest) → c .before .before .before .before .before .before .before .before .before .before .args .kind ≡ 32
+is-set c = other (c .before .before .before .before .before .before .before .before .before .before .pre .6) (c .match .rest .1)
 
 sub-top : tie.Need-sub-top
 sub-top c = search needs
@@ -48,20 +58,15 @@ returns c =
 operand-requires : tie.Need-operand-requires
 operand-requires c κs = search needs
 
+add-at : tie.Need-add-at
+add-at c = search needs
+
 in-plain-requires : tie.Need-in-plain-requires
-in-plain-requires c κs = omega (arith, object (c .before))
+in-plain-requires c κs = omega (arith, object (c .before .before))
 
 returns-2 : tie.Need-returns-2
 unfolding planned planOf basicPlan insOf
-returns-2 c =
-    λ m.
-    let A = same (c .before) in
-    let t = A .part ∙ not-true _ (c .if2 .taken) in
-    ⊎-elim (λ e. rw e (rw (A .some, t))) (λ e. rw e (rw (A .some, t)))
-    (c .before .before .before .before .before .before .before .before .before .before .before .pre .6)
-
-add-at : tie.Need-add-at
-add-at c = search needs
+returns-2 c = λ m. let A = read-same (c .before) in rw (c .before .before .match .keys1) (rw (A .some, A .part ∙ not-true _ (c .if2 .taken)))
 
 add-writes : tie.Need-add-writes
 add-writes c = search needs
@@ -74,16 +79,21 @@ mul-writes c = search needs
 
 shared-slice-read-writes : tie.Need-shared-slice-read-writes
 shared-slice-read-writes c =
-    let at = c .before .before .before .before in
-    omega (arith, object (at .before .before), in-plain _ _ _ (sym (at .in-plain .ensures) ∙ not-false _ (c .before .before .before .if2 .left)))
+    let at = c .before .before .before in
+    omega (arith, object (at .before .before .before), in-plain _ _ _ (sym (at .in-plain .ensures) ∙ not-false _ (c .before .before .if2 .left)))
 
 writes-requires : tie.Need-writes-requires
 writes-requires c κs = search needs
 
+may-set-plain-requires : tie.Need-may-set-plain-requires
+may-set-plain-requires c κs = omega (arith, object (c .before .before))
+
+returns-3 : tie.Need-returns-3
+unfolding planned planOf basicPlan insOf
+returns-3 c = λ m. let A = set-same (c .before) in rw (is-set (c .before .before)) (rw (A .some, A .part ∙ not-true _ (c .if3 .taken)))
+
 sub-value : tie.Need-sub-value
-sub-value c =
-    let pre = c .before .before .before .before .before .before .before .before .before .before .before .before .before .pre in
-    omega (arith, pre .5 (other (pre .6) (c .before .match .rest .1)))
+sub-value c = let at = c .before .before .before in omega (arith, at .before .before .before .before .before .before .before .before .before .before .pre .5 (is-set at))
 
 add-writes-3 : tie.Need-add-writes-3
 add-writes-3 c = search needs
@@ -92,27 +102,24 @@ mul-writes-2 : tie.Need-mul-writes-2
 mul-writes-2 c = search needs
 
 shared-slice-read-writes-2 : tie.Need-shared-slice-read-writes-2
-shared-slice-read-writes-2 c =
-    let pre = c .before .before .before .before .before .before .before .before .before .before .before .before .before .before .pre in
-    omega (arith, pre .5 (other (pre .6) (c .before .before .match .rest .1)))
+shared-slice-read-writes-2 c = let at = c .before .before .before .before in omega (arith, at .before .before .before .before .before .before .before .before .before .before .pre .5 (is-set at))
 
 writes-requires-2 : tie.Need-writes-requires-2
 writes-requires-2 c κs = search needs
-
-returns-3 : tie.Need-returns-3
-unfolding planned planOf basicPlan insOf
-returns-3 c =
-    λ m.
-    let A = same (c .before .before .before .before .before) in
-    rw (c .writes .ensures, c .before .before .before .match .keys1, A .object, A .number) (rw (A .some, A .part ∙ not-false _ (c .before .before .before .before .if2 .left)))
 
 returns-4 : tie.Need-returns-4
 unfolding planned planOf basicPlan insOf
 returns-4 c =
     λ m.
-    let A = same (c .before .before .before .before .before) in
-    let e = other (c .before .before .before .before .before .before .before .before .before .before .before .before .before .before .before .pre .6) (c .before .before .before .match .rest .1) in
-    rw (c .writes2 .ensures, e, A .object, A .number) (rw (A .some, A .part ∙ not-false _ (c .before .before .before .before .if2 .left)))
+    let A = read-same (c .before .before .before .before) in
+    rw (c .writes .ensures, c .before .before .before .before .before .match .keys1, A .object, A .number) (rw (A .some, A .part ∙ not-false _ (c .before .before .before .if2 .left)))
+
+returns-5 : tie.Need-returns-5
+unfolding planned planOf basicPlan insOf
+returns-5 c =
+    λ m.
+    let A = set-same (c .before .before .before .before) in
+    rw (c .writes2 .ensures, is-set (c .before .before .before .before .before), A .object, A .number) (rw (A .some, A .part ∙ not-false _ (c .before .before .before .if3 .left)))
 
 pub plain-fields-spec : {M : Type 1} → statement M
 plain-fields-spec =
@@ -124,18 +131,20 @@ plain-fields-spec =
     word-requires
     returns
     operand-requires
+    add-at
     in-plain-requires
     returns-2
-    add-at
     add-writes
     add-writes-2
     mul-writes
     shared-slice-read-writes
     writes-requires
+    may-set-plain-requires
+    returns-3
     sub-value
     add-writes-3
     mul-writes-2
     shared-slice-read-writes-2
     writes-requires-2
-    returns-3
-    returns-4)
+    returns-4
+    returns-5)
