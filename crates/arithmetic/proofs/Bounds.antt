@@ -4,11 +4,11 @@ use Prim.Native.Nat.{ℕ, zero, suc, _+_, _-_, _*_, _/_, _%_, _^_, _<_, _≤_}
 use mathlib.Core.Bool.{Bool, true, false, _&&_, true≢false}
 use mathlib.Core.Logic.{_⊎_, inl, inr, ⊎-elim}
 use mathlib.Core.Path.{_≡_, refl, sym, _∙_, ap}
-use lib.IntN.{ℤ, pos, negsuc, negℤ, _+ℤ_, _*ℤ_, subℕ}
-use lib.Signed.{mag, mag-rem, quotZ, remZ, ltZ}
-use lib.Dec.{ltb, lit<}
+use lib.IntN.{ℤ, pos, negsuc, negℤ, natAbs, _+ℤ_, _*ℤ_, subℕ}
+use lib.Signed.{mag, mag-rem, nonNeg, quotZ, remZ, ltZ}
+use lib.Dec.{T, ltb, lit<}
 use mir.Syntax.{Width, w32, w64}
-use mir.Val.{SFits, toZ, ofZ, sel, hbits}
+use mir.Val.{Fits, SFits, toZ, ofZ, sel, hbits}
 use mir.ValLaws.{toZ-ofZ, toZ-pos, toZ-neg, toZ-fits, ofZ-toZ, sfits-le}
 use borrow.Author.Tests.{lt-ltb, le-ltb, le-leb, lt-leb, ltb-true, ltb-false, leb-true}
 use native.Mathlib.Decide.{decLt}
@@ -17,6 +17,7 @@ use native.Mathlib.Omega.{arith}
 use Rattle.model.specs.Choice.{if_then_else_}
 use Rattle.model.specs.Words.{signed, toWord, bit, inRange, valueOf}
 use Rattle.model.specs.declared.Value.the-variants.{Word}
+use Rattle.arithmetic.specs.Distance.{distance}
 
 pub split : (a b : ℕ) → (a < b) ⊎ (b ≤ a)
 split a b = elim (decLt a b) [ yes h ↦ inl h | no h ↦ inr (omega arith) ]
@@ -215,3 +216,14 @@ range-fits (negsuc n) e = record { sfits = omega (arith, leb-true n 2147483647 (
 pub made : {r : ℕ} {z : ℤ} → SFits w32 z → r ≡ toWord z → Word r ≡ valueOf z
 unfolding valueOf
 made {r} {z} f e = rw (← (in-range z f)) (ap Word e)
+
+-- ---- distances: the machine's test of the sign, and the cast of what is not negative
+
+pub below-zero : (z : ℤ) → SFits w64 z → ltZ (toZ w64 (ofZ w64 z)) (pos 0) ≡ true → 4294967296 ≡ distance z
+below-zero (pos n) f e = absurd (true≢false (sym (rw (toZ-ofZ w64 (pos n) f) at e) ∙ le-ltb n 0 (omega arith)))
+below-zero (negsuc n) f e = refl
+
+pub above-zero : (z : ℤ) → SFits w64 z → ltZ (toZ w64 (ofZ w64 z)) (pos 0) ≡ false →
+    T (nonNeg (toZ w64 (ofZ w64 z))) × Fits w64 (natAbs (toZ w64 (ofZ w64 z))) × (natAbs (toZ w64 (ofZ w64 z)) ≡ distance z)
+above-zero (pos n) f e = rw (toZ-ofZ w64 (pos n) f) (tt, record { fits = omega (arith, f .sfits) }, refl)
+above-zero (negsuc n) f e = absurd (true≢false (rw (toZ-ofZ w64 (negsuc n) f) at e))

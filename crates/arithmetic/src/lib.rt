@@ -4,6 +4,7 @@ use model::Value;
 ghost use mathlib.Core.Bool.{true};
 ghost use mathlib.Core.Path.{_≡_};
 ghost use lib.IntN.{negℤ, _+ℤ_, _-ℤ_, _*ℤ_};
+ghost use Rattle.arithmetic.specs.Distance.{distance};
 ghost use Rattle.model.specs.Words.{signed, toWord, inRange, Op, operate, Op1, operate1};
 
 const LEAST: u32 = 2147483648; // the word of -2^31
@@ -70,6 +71,17 @@ pub fn minus(a: u32, b: u32) -> i64
     ensures { λ r. ⌜ r ≡ signed a -ℤ signed b ⌝ }
 {
     wide(a) - wide(b)
+}
+
+// how far an index lies above a lower bound; if it lies below, 2^32, which no vector's length reaches: one test then finds both
+pub fn distance(index: u32, bound: u32) -> usize
+    ensures { λ r. ⌜ r ≡ distance (signed index -ℤ signed bound) ⌝ }
+{
+    let far = minus(index, bound);
+    if far < 0 {
+        return 4294967296;
+    }
+    far as usize
 }
 
 pub fn times(a: u32, b: u32) -> i64
