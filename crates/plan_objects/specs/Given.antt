@@ -1,14 +1,11 @@
 -- The definition in the values that the code computes.
 use Prim.Native.Nat.{ℕ}
-use mathlib.Core.List.{List}
-use mathlib.Core.Logic.{_⊎_, inl, inr}
 use mathlib.Core.Path.{_≡_, _∙_, sym}
 use mathlib.Core.Bool.{Bool, true, false}
 use lib.Dec.{eqb}
 use borrow.Author.Tests.{eq-eqb, ne-eqb}
 use Rattle.model.specs.Words.{bit, eqW, operate}
 use Rattle.model.specs.declared.Value.the-variants.{Word}
-use Rattle.heap.specs.Stores.{Lies}
 
 -- the word of a comparison
 pub same-word : (a b : ℕ) {w : ℕ} → Word w ≡ operate eqW a b → w ≡ bit (eqb a b)
@@ -18,10 +15,6 @@ same-word a b e = cc e
 -- an object on the stack
 pub is-nil : {w r : ℕ} → r ≡ w → r ≡ 0 → eqb w 0 ≡ true
 is-nil {w} e z = eq-eqb w 0 (sym e ∙ z)
-
-pub lies : {h : List ℕ} {w r : ℕ} → (w ≡ 0) ⊎ Lies h w → r ≡ w → (r ≡ 0 → ⊥) → Lies h r
-lies (inl z) e n = absurd (n (e ∙ z))
-lies (inr l) e n = rw e l
 
 -- the code reads the object w and the number k as r and s, and asks `test`, for plain or for pointer words, with the answer b
 pub record FieldAsked (test : ℕ → ℕ → Bool) (w k r s : ℕ) (b : Bool) : Type 0 where

@@ -23,23 +23,27 @@ in-found : (first count : ℕ) (z : ℤ) → count ≤ 4294967296 → distance z
 in-found first count (pos n) s l = rw (lt-ltb n count l)
 in-found first count (negsuc n) s l = absurd (omega arith)
 
--- the object q and the index i
-module _ (d : Side) (h : List ℕ) (q i : ℕ) where
-  pub nil-sought : q ≡ 0 → elementOf d h q i ≡ ofNil
+-- the object q, which is read as r, and the index i
+module _ (d : Side) (h : List ℕ) (q i : ℕ) {r : ℕ} (e : r ≡ q) where
+  pub nil-sought : r ≡ 0 → elementOf d h q i ≡ ofNil
   unfolding elementOf
-  nil-sought e = rw (eq-eqb q 0 e)
+  nil-sought z = rw (← e, eq-eqb r 0 z)
 
-  module _ (n : q ≢ 0) where
-    pub other-kind : kindAt h q ≢ vectorKind d → elementOf d h q i ≡ nowhere
+  -- its kind is read as k
+  module _ (n : r ≢ 0) {k : ℕ} (is : k ≡ kindAt h r) where
+    pub other-kind : k ≢ vectorKind d → elementOf d h q i ≡ nowhere
     unfolding elementOf
-    other-kind k = rw (ne-eqb q 0 n, ne-eqb (kindAt h q) (vectorKind d) k)
+    other-kind u = rw (← e, ne-eqb r 0 n, ← is, ne-eqb k (vectorKind d) u)
 
-    module _ (k : kindAt h q ≡ vectorKind d) where
-      pub past-sought : elementsAt d h q ≤ distance (signed i -ℤ signed (boundAt h q)) → elementOf d h q i ≡ nowhere
+    -- so are the number of its elements, its bound, and the distance of the index from that
+    module _ (u : k ≡ vectorKind d) {count bound far : ℕ} (c : count ≡ elementsAt d h r) (b : bound ≡ boundAt h r)
+        (f : far ≡ distance (signed i -ℤ signed bound)) where
+      sought : elementOf d h q i ≡ elementIn (r + firstElement d) count (signed i -ℤ signed bound)
       unfolding elementOf
-      past-sought l = rw (ne-eqb q 0 n, eq-eqb (kindAt h q) (vectorKind d) k) (in-past _ _ _ l)
+      sought = rw (← e, ne-eqb r 0 n, ← is, eq-eqb k (vectorKind d) u, ← c, ← b)
 
-      pub found-sought : elementsAt d h q ≤ 4294967296 → distance (signed i -ℤ signed (boundAt h q)) < elementsAt d h q →
-          elementOf d h q i ≡ found (q + firstElement d + distance (signed i -ℤ signed (boundAt h q)))
-      unfolding elementOf
-      found-sought s l = rw (ne-eqb q 0 n, eq-eqb (kindAt h q) (vectorKind d) k) (in-found _ _ _ s l)
+      pub past-sought : count ≤ far → elementOf d h q i ≡ nowhere
+      past-sought l = sought ∙ in-past (r + firstElement d) count (signed i -ℤ signed bound) (rw f at l)
+
+      pub found-sought : count ≤ 4294967296 → far < count → elementOf d h q i ≡ found (r + firstElement d + far)
+      found-sought s l = rw f (sought ∙ in-found (r + firstElement d) count (signed i -ℤ signed bound) s (rw f at l))

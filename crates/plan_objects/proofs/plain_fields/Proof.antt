@@ -8,10 +8,10 @@ use denote.Ref.{now}
 use Rattle.model.specs.Words.{wordAt}
 use Rattle.model.specs.File.{operand, insOf}
 use Rattle.model.specs.Heap.{inPlain, maySetPlain}
-use Rattle.heap.specs.Stores.{Lies, in-plain}
+use Rattle.heap.specs.Stores.{Lies, lies, in-plain}
 use Rattle.plan_meaning.specs.Planned.{basicPlan, planOf, planned}
 use Rattle.plan_meaning.specs.Asked.{other}
-use Rattle.plan_objects.specs.Given.{is-nil, lies, FieldAsked, field-asked}
+use Rattle.plan_objects.specs.Given.{is-nil, FieldAsked, field-asked}
 use borrow.Author.Needs.{needs}
 use Rattle.plan_objects.proofs.plain_fields.Statement.{statement}
 use Rattle.plan_objects.proofs.plain_fields.Tie as tie

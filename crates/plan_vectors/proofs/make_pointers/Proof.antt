@@ -1,62 +1,56 @@
+-- `plan_vectors::make_pointers`: as `make_words`, with the value on the pointer stack.
+use native.Mathlib.Omega.{arith}
+use mathlib.Core.Path.{_∙_, sym}
+use borrow.Author.Tests.{lt-ltb, le-ltb, not-true, not-false}
+use Rattle.model.specs.File.{insOf}
+use Rattle.plan_meaning.specs.Planned.{basicPlan, planOf, planned}
 use borrow.Author.Needs.{needs}
 use Rattle.plan_vectors.proofs.make_pointers.Statement.{statement}
 use Rattle.plan_vectors.proofs.make_pointers.Tie as tie
-use Rattle.plan_vectors.proofs.make_pointers.Reads as reads
-use Rattle.plan_vectors.proofs.make_pointers.Lts as lts
-use Rattle.plan_meaning.proofs.writes.Reads as writes-reads
-use Rattle.plan_vectors.proofs.has_room.Reads as has-room-reads
 
--- src/lib.rt:62:17
 sub-under : tie.Need-sub-under
 sub-under c = search needs
 
--- src/lib.rt:63:20
 mul-elements : tie.Need-mul-elements
 mul-elements c = search needs
 
--- src/lib.rt:63:20
 shared-slice-read-elements : tie.Need-shared-slice-read-elements
 shared-slice-read-elements c = search needs
 
--- src/lib.rt:65:9
 returns : tie.Need-returns
-returns c = ?
+unfolding planned planOf basicPlan insOf
+returns c = λ f m. rw (le-ltb _ 2147483648 (c .if1 .taken))
 
--- src/lib.rt:67:9
 has-room-requires : tie.Need-has-room-requires
 has-room-requires c κs = search needs
 
--- src/lib.rt:68:9
 returns-2 : tie.Need-returns-2
-returns-2 c = ?
+unfolding planned planOf basicPlan insOf
+returns-2 c = λ f m. rw (lt-ltb _ 2147483648 (c .before .before .if1 .left), sym (c .before .has-room .ensures) ∙ not-true _ (c .if2 .taken))
 
--- src/lib.rt:70:14
 sub-at : tie.Need-sub-at
 sub-at c = search needs
 
--- src/lib.rt:73:9
 add-writes : tie.Need-add-writes
 add-writes c = search needs
 
--- src/lib.rt:74:9
 sub-writes : tie.Need-sub-writes
 sub-writes c = search needs
 
--- src/lib.rt:75:9
 add-writes-2 : tie.Need-add-writes-2
 add-writes-2 c = search needs
 
--- src/lib.rt:77:9
 shared-slice-read-writes : tie.Need-shared-slice-read-writes
 shared-slice-read-writes c = search needs
 
--- src/lib.rt:71:5
 writes-requires : tie.Need-writes-requires
 writes-requires c κs = search needs
 
--- src/lib.rt:57:1
 returns-3 : tie.Need-returns-3
-returns-3 c = ?
+unfolding planned planOf basicPlan insOf
+returns-3 c =
+    λ f m.
+    rw (c .writes .ensures, lt-ltb _ 2147483648 (c .before .before .before .before .before .before .before .if1 .left), sym (c .before .before .before .before .before .before .has-room .ensures) ∙ not-false _ (c .before .before .before .before .before .if2 .left))
 
 pub make-pointers-spec : {M : Type 1} → statement M
 make-pointers-spec =

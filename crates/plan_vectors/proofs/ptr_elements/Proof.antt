@@ -1,133 +1,161 @@
+-- `plan_vectors::ptr_elements`: as `word_elements`; the elements are the pointer words, and the bound lies behind them.
+use Prim.Native.Nat.{ℕ, _+_, _-_, _≤_}
+use mathlib.Core.Logic.{⊎-elim}
+use mathlib.Core.Path.{_≡_, _∙_, sym, ap}
+use native.Mathlib.Omega.{arith}
+use denote.Ref.{now}
+use Rattle.model.specs.Words.{wordAt}
+use Rattle.model.specs.File.{onPtr, insOf}
+use Rattle.model.specs.Heap.{ptrsAt, sizeAt}
+use Rattle.model.specs.Vectors.{boundAt, elementsAt, found, ofNil, nowhere, elementOf}
+use Rattle.heap.specs.Stores.{Lies, lies}
+use Rattle.plan_meaning.specs.Planned.{basicPlan, planOf, planned}
+use Rattle.plan_meaning.specs.Asked as asked
+use Rattle.plan_vectors.specs.Sought.{nil-sought, other-kind, past-sought, found-sought}
 use borrow.Author.Needs.{needs}
 use Rattle.plan_vectors.proofs.ptr_elements.Statement.{statement}
 use Rattle.plan_vectors.proofs.ptr_elements.Tie as tie
-use Rattle.plan_vectors.proofs.ptr_elements.Reads as reads
-use Rattle.plan_vectors.proofs.ptr_elements.Lts as lts
-use Rattle.arithmetic.proofs.distance.Reads as distance-reads
-use Rattle.heap.proofs.kind_at.Reads as kind-at-reads
-use Rattle.heap.proofs.ptrs_at.Reads as ptrs-at-reads
-use Rattle.numbers.proofs.word.Reads as word-reads
-use Rattle.plan_meaning.proofs.writes.Reads as writes-reads
 
--- src/lib.rt:120:15
+-- the object is no nil, and so lies in the heap
+object : (c : tie.Else1) → Lies (now (c .before .before .before .before .before .before .before .before .args .heap)) (c .before .word .result)
+object c = lies (c .before .before .before .before .before .before .before .before .pre .5) (c .before .word .ensures .is) (c .if1 .left)
+
+-- it is a vector of pointers
+pointers : (c : tie.Else2) →
+    let h = now (c .before .before .before .before .before .before .before .before .before .before .args .heap) in
+    let o = c .before .before .before .word .result in
+    sizeAt h o ≡ 3 + ptrsAt h o
+pointers c = object (c .before .before) .of-pointers (sym (c .before .kind-at .ensures) ∙ c .if2 .left)
+
+-- what the code finds: nil; another kind; no such element; the element
+nil : (c : tie.Then1) →
+    let S = c .before .before .before .before .before .before .before .before .args in
+    elementOf onPtr (now (S .heap)) (wordAt (now (S .ptr)) (S .regs .ptop - 1)) (wordAt (now (S .main)) (S .regs .mtop - 1)) ≡ ofNil
+nil c = nil-sought onPtr _ _ _ (c .before .word .ensures .is) (c .if1 .taken)
+
+other : (c : tie.Then2) →
+    let S = c .before .before .before .before .before .before .before .before .before .before .args in
+    elementOf onPtr (now (S .heap)) (wordAt (now (S .ptr)) (S .regs .ptop - 1)) (wordAt (now (S .main)) (S .regs .mtop - 1)) ≡ nowhere
+other c = other-kind onPtr _ _ _ (c .before .before .before .word .ensures .is) (c .before .before .if1 .left) (c .before .kind-at .ensures) (c .if2 .taken)
+
+bound : (c : tie.After-distance) →
+    let h = now (c .before .before .before .before .before .before .before .before .before .before .before .before .before .before .args .heap) in
+    let o = c .before .before .before .before .before .before .before .word .result in
+    wordAt h (o + (2 + c .before .before .before .ptrs-at .result)) ≡ boundAt h o
+unfolding boundAt
+bound c = rw (c .before .before .before .ptrs-at .ensures .is)
+
+past : (c : tie.Then3) →
+    let S = c .before .before .before .before .before .before .before .before .before .before .before .before .before .before .before .args in
+    elementOf onPtr (now (S .heap)) (wordAt (now (S .ptr)) (S .regs .ptop - 1)) (wordAt (now (S .main)) (S .regs .mtop - 1)) ≡ nowhere
+unfolding elementsAt
+past c =
+    past-sought onPtr _ _ _ (c .before .before .before .before .before .before .before .before .word .ensures .is) (c .before .before .before .before .before .before .before .if1 .left) (c .before .before .before .before .before .before .kind-at .ensures) (c .before .before .before .before .before .if2 .left)
+    (c .before .before .before .before .ptrs-at .ensures .is) (bound (c .before)) (c .before .distance .ensures) (c .if3 .taken)
+
+at : (c : tie.Else3) →
+    let S = c .before .before .before .before .before .before .before .before .before .before .before .before .before .before .before .args in
+    elementOf onPtr (now (S .heap)) (wordAt (now (S .ptr)) (S .regs .ptop - 1)) (wordAt (now (S .main)) (S .regs .mtop - 1)) ≡ found (c .before .before .before .before .before .before .before .before .word .result + 2 + c .before .distance .result)
+unfolding elementsAt
+at c =
+    found-sought onPtr _ _ _ (c .before .before .before .before .before .before .before .before .word .ensures .is) (c .before .before .before .before .before .before .before .if1 .left) (c .before .before .before .before .before .before .kind-at .ensures) (c .before .before .before .before .before .if2 .left)
+    (c .before .before .before .before .ptrs-at .ensures .is) (bound (c .before)) (c .before .distance .ensures) (omega (arith, c .before .before .before .before .ptrs-at .ensures .small)) (c .if3 .left)
+
 sub-top : tie.Need-sub-top
 sub-top c = search needs
 
--- src/lib.rt:121:16
 sub-last : tie.Need-sub-last
 sub-last c = search needs
 
--- src/lib.rt:122:32
 mul-word : tie.Need-mul-word
 mul-word c = search needs
 
--- src/lib.rt:122:32
 shared-slice-read-word : tie.Need-shared-slice-read-word
 shared-slice-read-word c = search needs
 
--- src/lib.rt:122:9
 word-requires : tie.Need-word-requires
 word-requires c κs = search needs
 
--- src/lib.rt:124:9
 returns : tie.Need-returns
-returns c = ?
+unfolding planned planOf basicPlan insOf
+returns c = λ f m. ⊎-elim (λ e. rw e (rw (nil c))) (λ e. rw e (rw (nil c))) (c .before .before .before .before .before .before .before .before .pre .8)
 
--- src/lib.rt:126:8
 kind-at-requires : tie.Need-kind-at-requires
-kind-at-requires c κs = ?
+kind-at-requires c κs = omega (arith, object c)
 
--- src/lib.rt:127:9
 returns-2 : tie.Need-returns-2
-returns-2 c = ?
+unfolding planned planOf basicPlan insOf
+returns-2 c = λ f m. ⊎-elim (λ e. rw e (rw (other c))) (λ e. rw e (rw (other c))) (c .before .before .before .before .before .before .before .before .before .before .pre .8)
 
--- src/lib.rt:129:9
 ptrs-at-requires : tie.Need-ptrs-at-requires
-ptrs-at-requires c κs = ?
+ptrs-at-requires c κs = omega (arith, object (c .before .before))
 
--- src/lib.rt:130:27
 add-bound : tie.Need-add-bound
 add-bound c = search needs
 
--- src/lib.rt:130:17
 add-bound-2 : tie.Need-add-bound-2
 add-bound-2 c = search needs
 
--- src/lib.rt:131:36
 mul-distance : tie.Need-mul-distance
 mul-distance c = search needs
 
--- src/lib.rt:131:36
 shared-slice-read-distance : tie.Need-shared-slice-read-distance
 shared-slice-read-distance c = search needs
 
--- src/lib.rt:131:48
 mul-distance-2 : tie.Need-mul-distance-2
 mul-distance-2 c = search needs
 
--- src/lib.rt:131:48
 shared-slice-read-distance-2 : tie.Need-shared-slice-read-distance-2
-shared-slice-read-distance-2 c = ?
+shared-slice-read-distance-2 c = omega (arith, object (c .before .before .before .before .before), pointers (c .before .before .before), c .before .before .ptrs-at .ensures .is)
 
--- src/lib.rt:131:9
 distance-requires : tie.Need-distance-requires
 distance-requires c κs = search needs
 
--- src/lib.rt:133:9
 returns-3 : tie.Need-returns-3
-returns-3 c = ?
+unfolding planned planOf basicPlan insOf
+returns-3 c = λ f m. ⊎-elim (λ e. rw e (rw (past c))) (λ e. rw e (rw (past c))) (c .before .before .before .before .before .before .before .before .before .before .before .before .before .before .before .pre .8)
 
--- src/lib.rt:135:14
 add-at : tie.Need-add-at
 add-at c = search needs
 
--- src/lib.rt:135:14
 add-at-2 : tie.Need-add-at-2
 add-at-2 c = search needs
 
--- src/lib.rt:139:13
 add-writes : tie.Need-add-writes
 add-writes c = search needs
 
--- src/lib.rt:143:13
 mul-writes : tie.Need-mul-writes
 mul-writes c = search needs
 
--- src/lib.rt:143:13
 shared-slice-read-writes : tie.Need-shared-slice-read-writes
-shared-slice-read-writes c = ?
+shared-slice-read-writes c =
+    omega (arith, object (c .before .before .before .before .before .before .before .before .before .before), c .before .before .before .before .before .before .before .ptrs-at .ensures .is, c .before .before .before .if3 .left)
 
--- src/lib.rt:137:15
 writes-requires : tie.Need-writes-requires
 writes-requires c κs = search needs
 
--- src/lib.rt:146:25
 sub-value : tie.Need-sub-value
-sub-value c = ?
+sub-value c = let S = c .before .before .before .before .before .before .before .before .before .before .before .before .before .before .before .before .before in omega (arith, S .pre .7 (asked.other (S .pre .8) (c .before .match .rest .1)))
 
--- src/lib.rt:147:33
 add-writes-2 : tie.Need-add-writes-2
 add-writes-2 c = search needs
 
--- src/lib.rt:147:66
 mul-writes-2 : tie.Need-mul-writes-2
 mul-writes-2 c = search needs
 
--- src/lib.rt:147:66
 shared-slice-read-writes-2 : tie.Need-shared-slice-read-writes-2
 shared-slice-read-writes-2 c = search needs
 
--- src/lib.rt:147:13
 writes-requires-2 : tie.Need-writes-requires-2
 writes-requires-2 c κs = search needs
 
--- src/lib.rt:114:1
 returns-4 : tie.Need-returns-4
-returns-4 c = ?
+unfolding planned planOf basicPlan insOf
+returns-4 c = λ f m. rw (c .writes .ensures, c .before .before .before .match .keys1) (rw (at (c .before .before .before .before)))
 
--- src/lib.rt:114:1
 returns-5 : tie.Need-returns-5
-returns-5 c = ?
+unfolding planned planOf basicPlan insOf
+returns-5 c = λ f m. rw (c .writes2 .ensures, asked.other (c .before .before .before .before .before .before .before .before .before .before .before .before .before .before .before .before .before .before .before .before .pre .8) (c .before .before .before .before .match .rest .1)) (rw (at (c .before .before .before .before .before)))
 
 pub ptr-elements-spec : {M : Type 1} → statement M
 ptr-elements-spec =
