@@ -58,6 +58,12 @@ pub fn plan_at(
         58 => plan_objects::push_root(heap, regs),
         59 => plan_objects::set_root(ptr, regs),
         131 => plan_objects::same_ptr(ptr, regs),
+        80 => plan_vectors::make_words(main, heap, regs),
+        81 => plan_vectors::make_pointers(main, heap, regs),
+        82 => plan_vectors::word_elements(main, ptr, heap, regs, 82),
+        84 => plan_vectors::word_elements(main, ptr, heap, regs, 84),
+        83 => plan_vectors::ptr_elements(main, ptr, heap, regs, 83),
+        85 => plan_vectors::ptr_elements(main, ptr, heap, regs, 85),
         162 => Plan::Thrown,
         _ => Plan::Thrown,
     }

@@ -5,7 +5,7 @@ use mathlib.Core.Path.{_≡_, refl}
 use native.Mathlib.Omega.{arith}
 use denote.Ref.{now}
 use Rattle.model.specs.Checker.{basicEffect, effectOf}
-use Rattle.model.specs.File.{codes, bodies, bodyOf, insOf, insAt}
+use Rattle.model.specs.File.{codes, bodies, bodyOf, makerPops, insOf, insAt}
 use Rattle.laws_file.specs.Kinds.{at-each}
 use Rattle.plan_meaning.specs.Planned.{planOf, planAt, planned}
 use Rattle.plan.specs.Arms.{place-in, place-small, main-within, ptr-within, record-in, body-here, body, pops-main, pops-ptr, on-words, jump-on}
@@ -184,6 +184,47 @@ same-ptr-requires : tie.Need-same-ptr-requires
 unfolding insOf effectOf basicEffect
 same-ptr-requires c κs = let R = ready (c .before) in (place-small R, omega (arith, R .main-top, R .main-most), ptr-within R, pops-ptr R (c .match .keys32))
 
+make-words-requires : tie.Need-make-words-requires
+unfolding insOf effectOf basicEffect makerPops
+make-words-requires c κs =
+    let R = ready (c .before) in
+    (place-small R, main-within R, pops-main R (c .match .keys33), omega (arith, R .ptr-top, R .ptr-most), omega (arith, R .heap-least))
+
+make-pointers-requires : tie.Need-make-pointers-requires
+unfolding insOf effectOf basicEffect makerPops
+make-pointers-requires c κs =
+    let R = ready (c .before) in
+    let e = c .match .keys34 in
+    (place-small R, main-within R, pops-main R e, pops-ptr R e, omega (arith, R .ptr-top, R .ptr-most), omega (arith, R .heap-least))
+
+word-elements-requires : tie.Need-word-elements-requires
+unfolding insOf effectOf basicEffect
+word-elements-requires c κs =
+    let R = ready (c .before) in
+    let e = c .match .keys35 in
+    (place-small R, main-within R, ptr-within R, omega (arith, pops-main R e), omega (arith, pops-ptr R e), points R _, R .heap-most, λ z. omega (arith, z), inl refl)
+
+word-elements-requires-2 : tie.Need-word-elements-requires-2
+unfolding insOf effectOf basicEffect
+word-elements-requires-2 c κs =
+    let R = ready (c .before) in
+    let e = c .match .keys36 in
+    (place-small R, main-within R, ptr-within R, omega (arith, pops-main R e), omega (arith, pops-ptr R e), points R _, R .heap-most, λ z. pops-main R e, inr refl)
+
+ptr-elements-requires : tie.Need-ptr-elements-requires
+unfolding insOf effectOf basicEffect
+ptr-elements-requires c κs =
+    let R = ready (c .before) in
+    let e = c .match .keys37 in
+    (place-small R, main-within R, ptr-within R, omega (arith, pops-main R e), omega (arith, pops-ptr R e), points R _, R .heap-most, λ z. omega (arith, z), inl refl)
+
+ptr-elements-requires-2 : tie.Need-ptr-elements-requires-2
+unfolding insOf effectOf basicEffect
+ptr-elements-requires-2 c κs =
+    let R = ready (c .before) in
+    let e = c .match .keys38 in
+    (place-small R, main-within R, ptr-within R, omega (arith, pops-main R e), omega (arith, pops-ptr R e), points R _, R .heap-most, λ z. pops-ptr R e, inr refl)
+
 returns : tie.Need-returns
 unfolding bodyOf bodies codes
 returns c = let R = ready (c .before .before) in plan-here R (c .before .match .keys1) (c .jumps .ensures (subject R))
@@ -321,12 +362,36 @@ unfolding bodyOf bodies codes
 returns-32 c = let R = ready (c .before .before) in plan-here R (c .before .match .keys32) (c .same-ptr .ensures _ (subject R))
 
 returns-33 : tie.Need-returns-33
-unfolding planned planOf insOf bodyOf bodies codes
-returns-33 c = plan-here (ready (c .before)) (c .match .keys33) refl
+unfolding bodyOf bodies codes
+returns-33 c = let R = ready (c .before .before) in plan-here R (c .before .match .keys33) (c .make-words .ensures _ (subject R))
 
 returns-34 : tie.Need-returns-34
+unfolding bodyOf bodies codes
+returns-34 c = let R = ready (c .before .before) in plan-here R (c .before .match .keys34) (c .make-pointers .ensures _ (subject R))
+
+returns-35 : tie.Need-returns-35
+unfolding bodyOf bodies codes
+returns-35 c = let R = ready (c .before .before) in plan-here R (c .before .match .keys35) (c .word-elements .ensures _ (subject R))
+
+returns-36 : tie.Need-returns-36
+unfolding bodyOf bodies codes
+returns-36 c = let R = ready (c .before .before) in plan-here R (c .before .match .keys36) (c .word-elements2 .ensures _ (subject R))
+
+returns-37 : tie.Need-returns-37
+unfolding bodyOf bodies codes
+returns-37 c = let R = ready (c .before .before) in plan-here R (c .before .match .keys37) (c .ptr-elements .ensures _ (subject R))
+
+returns-38 : tie.Need-returns-38
+unfolding bodyOf bodies codes
+returns-38 c = let R = ready (c .before .before) in plan-here R (c .before .match .keys38) (c .ptr-elements2 .ensures _ (subject R))
+
+returns-39 : tie.Need-returns-39
+unfolding planned planOf insOf bodyOf bodies codes
+returns-39 c = plan-here (ready (c .before)) (c .match .keys39) refl
+
+returns-40 : tie.Need-returns-40
 unfolding planAt insAt planOf
-returns-34 c = rw (no-other _ _ _ (c .match .rest))
+returns-40 c = rw (no-other _ _ _ (c .match .rest))
 
 pub plan-at-spec : {M : Type 1} → statement M
 plan-at-spec =
@@ -365,6 +430,12 @@ plan-at-spec =
     push-root-requires
     set-root-requires
     same-ptr-requires
+    make-words-requires
+    make-pointers-requires
+    word-elements-requires
+    word-elements-requires-2
+    ptr-elements-requires
+    ptr-elements-requires-2
     returns
     returns-2
     returns-3
@@ -398,4 +469,10 @@ plan-at-spec =
     returns-31
     returns-32
     returns-33
-    returns-34)
+    returns-34
+    returns-35
+    returns-36
+    returns-37
+    returns-38
+    returns-39
+    returns-40)
