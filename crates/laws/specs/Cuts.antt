@@ -7,7 +7,7 @@ use mathlib.Core.Logic.{_⊎_, ⊎-elim}
 use mathlib.Core.Path.{_≡_, refl, ap, sym, _∙_, subst}
 use native.Mathlib.Omega.{arith}
 use lib.Dec.{eqb}
-use lib.ListN.{length, set, take, drop}
+use lib.ListN.{length, set, take, drop, replicate}
 use lib.Seq.{getD-set-same, getD-set-other, set-out, getD-drop, slice}
 use borrow.Author.Tests.{eqb-true, eq-eqb}
 use Rattle.model.specs.Choice.{if-both, all}
@@ -80,6 +80,12 @@ slice-each P a b l z h i = rw (getD-drop a (take b l) i 0) (below b l h (a + i))
     below (suc b) [] h i = z
     below (suc b) (w ∷ l) h zero = h 0
     below (suc b) (w ∷ l) h (suc i) = below b l (λ k. h (suc k)) i
+
+-- one word over and over
+pub replicate-each : (P : ℕ → Type 0) (n w : ℕ) → P 0 → P w → Each P (replicate n w)
+replicate-each P zero w z h i = z
+replicate-each P (suc n) w z h zero = h
+replicate-each P (suc n) w z h (suc i) = replicate-each P n w z h i
 
 -- the tests of the audit, and what they say
 pub zeros-true : (t : ℕ) (l : List ℕ) → zeros (drop t l) ≡ true → Zero t l

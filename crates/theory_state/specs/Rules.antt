@@ -4,33 +4,36 @@
 use Prim.Native.Nat.{ℕ, _+_, _-_, _*_, _<_, _≤_}
 use mathlib.Core.Path.{_≡_, refl, ap, _∙_, subst}
 use mathlib.Core.Bool.{Bool, true, false, true≢false}
-use mathlib.Core.List.{List}
+use mathlib.Core.List.{List, [], _∷_}
 use mathlib.Core.Logic.{inl, inr, _≢_}
 use native.Mathlib.Omega.{arith}
-use lib.ListN.{length, set, length-set}
+use lib.IntN.{ℤ, pos, negsuc}
+use lib.ListN.{length, set, length-set, replicate}
 use lib.Dec.{leb, eqb}
-use borrow.Author.Tests.{eqb-false, leb-true, ltb-true}
+use borrow.Author.Tests.{eq-eqb, eqb-false, leb-true, le-leb, ltb-true}
 use Rattle.model.specs.Choice.{if_then_else_, all, All, all-true, Mem}
-use Rattle.model.specs.Words.{wordAt, truth, operate, operate1}
-use Rattle.model.specs.File.{onMain, onPtr, keepMain, keepPtr, keepNone, Basic, local, assign, field, setField, Maker, form, makerPops, make, literal}
-use Rattle.model.specs.File.{nil, root, setRoot, retract, binary, samePtr, unary, Ins, basic, jump, branch, branchKeep, call, return, enter, exit}
-use Rattle.model.specs.File.{raise, after, insAt}
+use Rattle.model.specs.Words.{signed, wordAt, truth, operate, operate1}
+use Rattle.model.specs.File.{Side, onMain, onPtr, keepMain, keepPtr, keepNone, Basic, local, assign, field, setField, Maker, form, vector, makerPops, make}
+use Rattle.model.specs.File.{literal, nil, root, setRoot, retract, binary, samePtr, unary, element, setElement, Ins, basic, jump, branch, branchKeep}
+use Rattle.model.specs.File.{call, return, enter, exit, raise, after, insAt}
 use Rattle.model.specs.Checker.{State, effect, basicEffect, effectOf, moved, innermost, passes, wordTests, depthTests}
-use Rattle.model.specs.Heap.{Heap, Pointer, markOf, viewKind, kinds, kindIn, inPtrs, inPlain, maySetPlain, maySetPtr, made, clean, heapOf}
+use Rattle.model.specs.Vectors.{Element, found, ofNil, nowhere, elementOf}
+use Rattle.model.specs.Heap.{Heap, Pointer, markOf, viewKind, wordVectorKind, ptrVectorKind, kinds, kindIn, inPtrs, inPlain, maySetPlain, maySetPtr, made, clean, heapOf}
 use Rattle.model.specs.Control.{Machine, handlerOf, running, records, recordWords, placeReg, mtopReg, ptopReg, setReg, setMain, setPtr, setHeap}
 use Rattle.model.specs.Moves.{mtop, ptop, mainWord, ptrWord, mainWords, ptrWords, goTo, popMain, popPtr, pushMain, pushPtr, storeMain, storePtr}
 use Rattle.model.specs.Moves.{storeHeap, pushNew, closeFrame, finished}
-use Rattle.model.specs.Instructions.{nilObject, noSuchWord, heapFull, Result, done, throws, fails, andGo, onObject, onValue, onRoom, object, newOf}
-use Rattle.model.specs.Instructions.{onNew, makes, calleeTests, basicRule, rule}
+use Rattle.model.specs.Instructions.{nilObject, noSuchWord, heapFull, Result, done, throws, fails, andGo, onObject, onElement, onValue, onRoom, New, object}
+use Rattle.model.specs.Instructions.{ofLength, newOf, onNew, makes, calleeTests, basicRule, rule}
 use Rattle.model.specs.Step.{next, uncaught, outcome, raised, caught, instruct, step}
 use Rattle.model.specs.Sound.{mainAt, innerAt, isIns}
 use Rattle.model.specs.declared.Value.{Value}
 use Rattle.model.specs.declared.Value.the-variants.{Word, Outside}
 use Rattle.model.specs.Claim.{assigned}
 use Rattle.laws.specs.Choices.{both-true}
-use Rattle.laws.specs.Cuts.{Zero, Each, length-cut, cut-zero, cut-each, set-zero, set-each, slice-each}
+use Rattle.laws.specs.Cuts.{Zero, Each, length-cut, cut-zero, cut-each, set-zero, set-each, slice-each, replicate-each}
 use Rattle.laws.specs.Records.{length-put}
 use Rattle.heap.specs.Pointers.{is-object}
+use Rattle.heap.specs.Vectors.{Found, is-found, word-set, ptr-set, ptr-element}
 use Rattle.theory_state.specs.Stack.{stack-frame}
 use Rattle.theory_state.specs.Laws.{CodeLaws, leads-on, pops, rules}
 use Rattle.theory_state.specs.Sound.{Running, Sound}
@@ -198,6 +201,15 @@ module _ (f map : List ℕ) (m : Machine) (os : List ℕ) (i j : ℕ) where
       go false e true d = k (eqb-false o 0 e) d
       go false e false d = tt
 
+  on-element : (q : ℕ) (e : Element) (r : ℕ → Result) → ((a : ℕ) → e ≡ found a → Fine (andGo q (r a))) → Fine (andGo q (onElement e r))
+  on-element q (found a) r k = k a refl
+  on-element q ofNil r k = tt
+  on-element q nowhere r k = tt
+
+  on-length : (q : ℕ) (b : Maker) (z : ℤ) (new : ℕ → New) → ((n : ℕ) → Fine (andGo q (onNew m b (new n)))) → Fine (andGo q (onNew m b (ofLength z new)))
+  on-length q b (pos n) new k = k n
+  on-length q b (negsuc n) new k = tt
+
   on-value : (q : ℕ) (v : Value) (r : ℕ → Result) → ((w : ℕ) → Fine (andGo q (r w))) → Fine (andGo q (onValue v r))
   on-value q (Word w) r k = k w
   on-value q Outside r k = tt
@@ -314,12 +326,25 @@ module _ (f map : List ℕ) (m : Machine) (os : List ℕ) (i j : ℕ) where
             on (make k) (pushNew kind ps ws m′) e (push-new kind ps ws (pop-main (pop-ptr start _) _) F) (omega arith) (omega arith)
         go false u = tt
 
-    -- the view of the words popped
+    -- a view of the words popped; a vector with so many elements as its length, all of them the initial value
     make-fine : (k : Maker) → At (basic (make k)) → Fine (andGo ahead (makes m k))
     unfolding makes newOf kinds
     make-fine (form k l) e =
         new-fine (form k l) viewKind (ptrWords m l) (mainWords m k) e refl refl
         (slice-each (Pointer os) (ptop m - l) (ptop m) (m .ptr) (inl refl) (R .words .pointers))
+    make-fine (vector onMain) e =
+        on-length ahead (vector onMain) (signed (mainWord m 2)) _
+        (λ k. let ws = mainWord m 3 ∷ replicate k (mainWord m 1) in
+        new-fine (vector onMain) wordVectorKind [] ws e refl (le-leb 3 (2 + (0 + length ws)) (omega arith)) (λ z. inl refl))
+    make-fine (vector onPtr) e =
+        on-length ahead (vector onPtr) (signed (mainWord m 1)) _
+        (λ k. let ps = replicate k (ptrWord m 1) in
+        new-fine (vector onPtr) ptrVectorKind ps (mainWord m 2 ∷ []) e refl (eq-eqb (2 + (length ps + 1)) (3 + length ps) (omega arith))
+        (replicate-each (Pointer os) k (ptrWord m 1) (inl refl) (pointer _)))
+
+    -- the element that was found: its vector is an object of the heap
+    vector-here : {d : Side} {a : ℕ} → Found d (m .heap) (ptrWord m 1) a → Mem (ptrWord m 1) os
+    vector-here F = is-object os _ (pointer _) (F .some)
 
     basic-fine : (b : Basic) → At (basic b) → Fine (andGo ahead (basicRule m b))
     unfolding basicRule basicEffect effectOf inPtrs
@@ -362,6 +387,25 @@ module _ (f map : List ℕ) (m : Machine) (os : List ℕ) (i j : ℕ) where
     basic-fine samePtr e = on samePtr _ e (push-main (pop-ptr start 2) _) (omega arith) (omega arith)
     basic-fine (unary o) e =
         on-value ahead (operate1 o (mainWord m 1)) _ (λ w. on (unary o) _ e (push-main (pop-main start 1) w) (omega arith) (omega arith))
+    basic-fine (element onMain) e =
+        on-element ahead (elementOf onMain (m .heap) (ptrWord m 1) (mainWord m 1)) _
+        (λ a u. on (element onMain) _ e (push-main (pop-main (pop-ptr start 1) 1) _) (omega arith) (omega arith))
+    basic-fine (element onPtr) e =
+        on-element ahead (elementOf onPtr (m .heap) (ptrWord m 1) (mainWord m 1)) _
+        (λ a u. let F = is-found onPtr (m .heap) (ptrWord m 1) (mainWord m 1) a u in
+        on (element onPtr) _ e (push-ptr (pop-main (pop-ptr start 1) 1) _ (ptr-element K _ a (vector-here F) F)) (omega arith) (omega arith))
+    basic-fine (setElement onMain) e =
+        on-element ahead (elementOf onMain (m .heap) (ptrWord m 1) (mainWord m 1)) _
+        (λ a u. let F = is-found onMain (m .heap) (ptrWord m 1) (mainWord m 1) a u in
+        let h = H .plain-store (m .heap) os (ptrWord m 1) (3 + F .n) (mainWord m 2) K (vector-here F) (word-set K _ a (vector-here F) F) in
+        let i : ptrWord m 1 + (3 + F .n) ≡ a = omega (arith, F .is) in
+        on (setElement onMain) _ e (store-heap (pop-main (pop-ptr start 1) 2) _ _ (rw i at h)) (omega arith) (omega arith))
+    basic-fine (setElement onPtr) e =
+        on-element ahead (elementOf onPtr (m .heap) (ptrWord m 1) (mainWord m 1)) _
+        (λ a u. let F = is-found onPtr (m .heap) (ptrWord m 1) (mainWord m 1) a u in
+        let h = H .ptr-store (m .heap) os (ptrWord m 1) (2 + F .n) (ptrWord m 2) K (vector-here F) (ptr-set K _ a (vector-here F) F) (pointer _) in
+        let i : ptrWord m 1 + (2 + F .n) ≡ a = omega (arith, F .is) in
+        on (setElement onPtr) _ e (store-heap (pop-main (pop-ptr start 2) 1) _ _ (rw i at h)) (omega arith) (omega arith))
 
     -- a jump that pops a word, and one that does not
     popped : (x : Ins) (q : ℕ) → At x → 1 ≤ mainAt map (m .regs .place) → Mem (q, moved (effect 1 0 0 0) now) (passed x) →

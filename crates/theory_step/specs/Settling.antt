@@ -12,7 +12,7 @@ use Rattle.model.specs.Checker.{none}
 use Rattle.model.specs.Rules.{Opens}
 use Rattle.model.specs.Heap.{Pointer}
 use Rattle.model.specs.Control.{Machine, asHandler, recAt, down}
-use Rattle.model.specs.Moves.{ptrWord}
+use Rattle.model.specs.Moves.{mainWord, ptrWord}
 use Rattle.model.specs.Step.{step}
 use Rattle.model.specs.Sound.{innerAt}
 use Rattle.plan_meaning.specs.Bridge.{Apt, bridge, suited}
@@ -22,8 +22,8 @@ use Rattle.plan_meaning.specs.Suits.{Suited}
 use Rattle.laws_file.specs.Codes.{enter-after}
 use Rattle.laws_file.specs.Procedures.{head-whole}
 use Rattle.laws_file.specs.Walk.{instruction-below, instruction-whole, proc-below}
-use Rattle.heap.specs.Stores.{read-ptr, read-plain}
-use Rattle.heap.specs.Views.{may-set-plain, may-set-ptr}
+use Rattle.heap.specs.Stores.{read-ptr, read-plain, may-set-ptr}
+use Rattle.heap.specs.Vectors.{is-found, element-in}
 use Rattle.laws.specs.Records.{down-length}
 use Rattle.heap.specs.Pointers.{is-object}
 use Rattle.theory_state.specs.Stack.{Stack, first, frame, handler, stack-here, stack-frame, stack-numbers, HandlerFound, find-handler}
@@ -149,10 +149,12 @@ module _ {f map table : List ℕ} {m : Machine} (A : Alive f map table m) (n i j
         ptr-zero = R .words .zero-ptr;
         assign-main = λ s e. let w = Y .assign-main s e in omega arith;
         assign-ptr = λ s e. let w = Y .assign-ptr s e in omega arith;
-        may-plain = λ s u. may-set-plain (A .heap) (ptrWord m 1) s (object u);
         may-ptr = λ s u. may-set-ptr (A .heap) (ptrWord m 1) s (object u);
         plain-in = λ s u v. read-plain (A .heap) (ptrWord m 1) s (object u) v;
         ptr-in = λ s u v. read-ptr (A .heap) (ptrWord m 1) s (object u) v .1;
+        element-in = λ d a u.
+            let F = is-found d (m .heap) (ptrWord m 1) (mainWord m 1) a u in
+            element-in (A .heap) (ptrWord m 1) a (object (F .some)) d F;
         root-in = Y .heap-least;
         in-file = Y .whole;
         whole = omega arith;
