@@ -2379,8 +2379,11 @@ static void test_make_vectors(void)
                NO_WORDS, W(2), W(6, 0, WV, 4, LEAST, 8), 80);
     GIVES_STEP(W(LEAST, 1), W(0), W(2, 0, 0, 0, 0, 0),
                NO_WORDS, W(2), W(6, 0, PV + 1, 4, 0, LEAST), 81);
+}
 
-    /* 6: a negative length */
+/* 6 for a negative length, then 4. */
+static void test_vector_lengths(void)
+{
     RAISES_STEP(6, W(1, MINUS(1), 3), NO_WORDS, W(2, 0, 0, 0, 0, 0, 0), 80);
     RAISES_STEP(6, W(1, LEAST, 3), NO_WORDS, W(2, 0, 0, 0, 0, 0, 0), 80);
     RAISES_STEP(6, W(1, MINUS(1)), W(0), W(2, 0, 0, 0, 0, 0, 0), 81);
@@ -2393,7 +2396,7 @@ static void test_make_vectors(void)
     GIVES_STEP(W(MINUS(1), 1, MINUS(2)), NO_WORDS, W(2, 0, 0, 0, 0, 0),
                NO_WORDS, W(2), W(6, 0, WV, 4, MINUS(1), MINUS(2)), 80);
 
-    /* 4: a word short; the exact fit is above */
+    /* 4: a word short, where the exact fit would be 3 + length */
     RAISES_STEP(4, W(1, 2, 3), NO_WORDS, W(2, 0, 0, 0, 0, 0), 80);
     RAISES_STEP(4, W(1, 2), W(0), W(2, 0, 0, 0, 0, 0), 81);
     RAISES_STEP(4, W(1, 0, 3), NO_WORDS, W(2, 0, 0, 0), 80);
@@ -2466,8 +2469,12 @@ static void test_read_vectors(void)
                                         LEAST + 1 };
     for (size_t i = 0; i < sizeof off_ptr / sizeof *off_ptr; i++)
         RAISES_STEP(6, W(off_ptr[i]), W(8), heap, 83);
+}
 
-    /* 6: an object of another kind, whatever the index */
+/* 6 for an object of another kind, whatever the index. */
+static void test_read_other_kinds(void)
+{
+    const words heap = MIXED(7, 8, 9, 0, 2);
     static const uint32_t index[] = { MINUS(1), 0, 1, 2, 10, 11, LEAST, MOST };
     for (size_t i = 0; i < sizeof index / sizeof *index; i++) {
         RAISES_STEP(6, W(index[i]), W(8), heap, 82);
@@ -2567,15 +2574,14 @@ static void test_write_vectors(void)
     }
 }
 
-/* 30 to 33 go by the header's counts; 32 does not reach the bound. */
-static void test_vector_fields(void)
+/* 30 to 33 go by the header's counts; 32 does not reach the bound, word 2 of a plain vector. */
+static void test_plain_fields(void)
 {
     const words heap = MIXED(7, 8, 9, 0, 2);
-    const uint32_t word_of_plain[] = { 10, 7, 8, 9 }, word_of_ptrs[] = { 0, 2 };
+    const uint32_t word_of_plain[] = { 10, 7, 8, 9 };
 
     for (unsigned s = 0; s <= 16; s++) {
         uint8_t b = (uint8_t)s;
-        /* the plain vector: 2 is the bound, 3 to 5 the elements */
         if (s >= 2 && s <= 5)
             GIVES_STEP(NO_WORDS, W(2), heap, W(word_of_plain[s - 2]), NO_WORDS, heap, 30, 0, b);
         else
@@ -2587,7 +2593,19 @@ static void test_vector_fields(void)
             RAISES_STEP(3, W(55), W(2), heap, 32, 0, b);
         RAISES_STEP(3, NO_WORDS, W(2), heap, 31, 0, b);
         RAISES_STEP(3, NO_WORDS, W(13, 2), heap, 33, 0, b);
-        /* the pointer vector: 2 and 3 are the elements, 4 the bound */
+        /* nil comes first */
+        RAISES_STEP(2, W(55), W(0), heap, 32, 0, b);
+    }
+}
+
+/* A pointer vector: 2 and 3 are the elements, 4 the bound. */
+static void test_pointer_fields(void)
+{
+    const words heap = MIXED(7, 8, 9, 0, 2);
+    const uint32_t word_of_ptrs[] = { 0, 2 };
+
+    for (unsigned s = 0; s <= 16; s++) {
+        uint8_t b = (uint8_t)s;
         if (s == 4)
             GIVES_STEP(NO_WORDS, W(8), heap, W(MINUS(1)), NO_WORDS, heap, 30, 0, b);
         else
@@ -2601,8 +2619,6 @@ static void test_vector_fields(void)
             RAISES_STEP(3, NO_WORDS, W(8), heap, 31, 0, b);
             RAISES_STEP(3, NO_WORDS, W(13, 8), heap, 33, 0, b);
         }
-        /* nil comes first */
-        RAISES_STEP(2, W(55), W(0), heap, 32, 0, b);
     }
     /* length 0: the bound is read, not set */
     GIVES_STEP(NO_WORDS, W(2), W(5, 0, WV, 3, 9), W(9), NO_WORDS, W(5, 0, WV, 3, 9), 30, 0, 2);
@@ -2664,9 +2680,8 @@ static void test_vector_routines(void)
 
 /* ---- order 2: the heap's audit ---- */
 
-static void test_vector_heaps(void)
+static void test_plain_heaps(void)
 {
-    /* plain vectors */
     HEAP_CASE(-1, 5, 2, WV, 3, 7); /* length 0 */
     HEAP_CASE(-1, 7, 2, WV, 5, LEAST, 1, 0xffffffffu); /* elements hold anything */
     HEAP_CASE(3, 4, 0, WV, 2); /* no bound */
@@ -2689,7 +2704,10 @@ static void test_vector_heaps(void)
     HEAP_CASE(2, 5, 0, 0x02800000, 3, 0);
     HEAP_CASE(2, 4, 0, 0x02ffffff, 2);
     HEAP_CASE(2, 3, 0, WV + 1); /* at mark - 1 too */
-    /* pointer vectors */
+}
+
+static void test_pointer_heaps(void)
+{
     HEAP_CASE(-1, 5, 2, PV, 3, 7); /* length 0 */
     HEAP_CASE(-1, 7, 2, PV + 2, 5, 2, 0, 9); /* the bound is no pointer */
     HEAP_CASE(3, 4, 0, PV, 2); /* 2 + pointers */
@@ -2711,6 +2729,10 @@ static void test_vector_heaps(void)
     HEAP_CASE(2, 5, 0, 0x12000000, 3, 0);
     HEAP_CASE(2, 5, 0, 0x82000000u, 3, 0);
     HEAP_CASE(2, 5, 0, 0x83000000u, 3, 0);
+}
+
+static void test_element_heaps(void)
+{
     /* elements that are no pointers, the lowest of them */
     HEAP_CASE(4, 7, 2, PV + 2, 5, 3, 0, 0);
     HEAP_CASE(5, 7, 2, PV + 2, 5, 2, 9, 0);
@@ -2731,8 +2753,11 @@ static void test_vector_heaps(void)
     HEAP_CASE(3, 7, 0, WV, 2, WV + 1, 3, 0);
     HEAP_CASE(2, 9, 0, WV + 1, 4, 0, 0, PV, 3, 0);
     HEAP_CASE(2, 8, 0, WV + 1, 4, 0, 0, PV, 2);
+}
 
-    /* the greatest heap: one vector of 16,379 elements, each itself or anything */
+/* The greatest heap: one vector of 16,379 elements, each itself or anything. */
+static void test_greatest_heaps(void)
+{
     static uint32_t big[16384];
     big[0] = 16384;
     big[2] = PV + 16379;
@@ -2817,13 +2842,19 @@ int main(void)
     test_heap();
     test_sound();
     test_make_vectors();
+    test_vector_lengths();
     test_greatest_vectors();
     test_read_vectors();
+    test_read_other_kinds();
     test_vector_ends();
     test_write_vectors();
-    test_vector_fields();
+    test_plain_fields();
+    test_pointer_fields();
     test_vector_routines();
-    test_vector_heaps();
+    test_plain_heaps();
+    test_pointer_heaps();
+    test_element_heaps();
+    test_greatest_heaps();
     test_vector_damage();
     printf("%lu checks, %lu failed\n", checks, failures);
     return failures == 0 ? 0 : 1;
