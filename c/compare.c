@@ -1892,6 +1892,13 @@ static uint32_t some_place(uint8_t kind)
     return found;
 }
 
+/* Another call stands right behind or right before the one that returns here. */
+static bool call_beside(uint32_t here)
+{
+    const list *l = &lists[L_FILE];
+    return here < l->len && (l->ref[here] == 72 || (here >= 6 && l->ref[here - 6] == 72));
+}
+
 /* The return place of the call right behind the one that returns here, or right before it, or of any call. */
 static uint32_t other_return(uint32_t here)
 {
@@ -1918,6 +1925,8 @@ static void damage_closely(uint32_t k)
         size_t at = 5 * (size_t)(1 + below(records - 1));
         if (one_in(2) && reg(1) > 1 && reg(1) <= records)
             at = 5 * (size_t)(reg(1) - 1); /* the topmost frame */
+        for (uint32_t i = 0; i < records && !call_beside(word(L_CTL, at + 3)); i++)
+            at = 5 * (size_t)(1 + below(records - 1));
         switch (below(8)) {
         case 0: case 1: case 2: case 3:
             set_word(L_CTL, at + 3, other_return(word(L_CTL, at + 3)));
@@ -1979,7 +1988,7 @@ static void damage_element(uint32_t code)
 
 static void damage(void)
 {
-    uint32_t k = vector_code() != 0 && one_in(2) ? 15 : one_in(6) ? 13 : below(16);
+    uint32_t k = vector_code() != 0 && one_in(2) ? 15 : one_in(5) ? 13 : below(16);
     damages[k]++;
     switch (k) {
     case 0: case 1: {
