@@ -1826,7 +1826,7 @@ static void fault_heap(uint32_t sort, size_t o)
         while (o + 1 < walked.count && pointers_of(walked.at[o]) == 0)
             o++;
         at = walked.at[o];
-        if (pointers_of(at) > 0)
+        if (pointers_of(at) > 0 && at + 2 + pointers_of(at) <= n) /* a fault before may count more */
             set_word(L_HEAP, at + 2 + below(pointers_of(at)), stray(at));
         break;
     default: /* the mark right behind a header */
