@@ -1970,7 +1970,7 @@ static void damage_make(uint32_t code)
         relend(L_HEAP, mark + below(4));
 }
 
-/* Before 30 to 33 and 82 to 85: any object; before these, an index near the ends of it, if it is a vector. */
+/* Before 30 to 33 and 82 to 85: another object; before 82 to 85, an index near its ends too, if it is a vector. */
 static void damage_element(uint32_t code)
 {
     walk_heap();
