@@ -1,7 +1,8 @@
 /*
  * Library against reference (built at -O2 and at -O3) in one run: the check
- * by the byte, the audits by the call, the steps. The three take turns; the
- * best of several turns counts. Ratios above 1: the library is slower.
+ * by the byte, the audits by the call, the steps, vectors made. The three take
+ * turns; the best of several turns counts. Ratios above 1: the library is
+ * slower.
  *   bench [TURNS]
  */
 #define _POSIX_C_SOURCE 199309L
@@ -218,6 +219,18 @@ static void procedures(size_t total)
         size_t to = total * (k + 1) / 64;
         while (n + 12 < to && n + 40 < total)
             BYTES(72, 0, (uint8_t)(k / 2), 1, 0, 0);
+    }
+    finish(total);
+}
+
+/* Vectors of both kinds made, read, written and dropped. */
+static void vectors(size_t total)
+{
+    n = 0;
+    BYTES(240, 0, 0, 0, 0, 3, 3);
+    while (n + 80 < total) {
+        BYTES(54, 0, 54, 4, 54, 7, 80, 54, 1, 21, 0, 0, 82, 54, 2, 21, 0, 0, 84, 64, 0, 0, 0, 1);
+        BYTES(54, 0, 54, 4, 57, 81, 54, 1, 21, 0, 0, 83, 21, 0, 0, 54, 2, 85, 64, 0, 0, 0, 1);
     }
     finish(total);
 }
@@ -470,6 +483,19 @@ static void typical(size_t total)
 
 static const size_t typicals[] = { 300, 4096 };
 
+static void vector_check_rows(void)
+{
+    double best[SIDES];
+    char name[80];
+    for (size_t total = 512; total <= 4096; total *= 2) {
+        vectors(total);
+        snprintf(name, sizeof name, "vectors, %zu bytes", n);
+        lend(f, n, 256, 256, 250, 1024);
+        measure(CHECK, 0, YALGOVIM_PASSED, name, best);
+        row(name, (double)n, best, total > 512);
+    }
+}
+
 static void check_rows(void)
 {
     static const struct {
@@ -507,6 +533,7 @@ static void check_rows(void)
     lend(f, n, 256, 256, 250, 1024);
     measure(CHECK, 0, YALGOVIM_REFUSED, "refused", best);
     row("plain, 4096 bytes, refused at the last byte", (double)n, best, false);
+    vector_check_rows();
 }
 
 /* ---- audits ---- */
@@ -550,6 +577,38 @@ static void heap_rows(const char *what, bool full, uint32_t ptrs, bool nils)
         lend(idle, sizeof idle, 16, 16, 20, h);
         if (full)
             fill_heap(h, ptrs, nils);
+        start_all(name);
+        measure(RUN, 0, YALGOVIM_SPENT, name, best);
+        row(name, 1000, best, h > 1024);
+    }
+}
+
+/* Vectors of 13 elements, 16 words each, plain and of pointers by turns; the pointers lead to the one halfway before. */
+static void fill_vectors(size_t len)
+{
+    for (int w = 0; w < SIDES; w++) {
+        uint32_t *heap = side[w].heap, at = 2;
+        for (; at + 16 <= len; at += 16) {
+            bool plain = at / 16 % 2 == 0;
+            heap[at] = plain ? 0x02000000u : 0x03000000u + 13;
+            heap[at + 1] = 16;
+            for (uint32_t i = 2; i < 16; i++)
+                heap[at + i] = plain ? i : 2 + 16 * (at / 32);
+            heap[at + (plain ? 2 : 15)] = 1; /* the bound */
+        }
+        heap[0] = at;
+        heap[1] = 2;
+    }
+}
+
+static void vector_heap_rows(void)
+{
+    double best[SIDES];
+    char name[80];
+    for (size_t h = 1024; h <= 16384; h *= 2) {
+        snprintf(name, sizeof name, "heap of %zu, full, vectors of 13", h);
+        lend(idle, sizeof idle, 16, 16, 20, h);
+        fill_vectors(h);
         start_all(name);
         measure(RUN, 0, YALGOVIM_SPENT, name, best);
         row(name, 1000, best, h > 1024);
@@ -609,6 +668,7 @@ static void audit_rows(void)
         measure(RUN, 0, YALGOVIM_SPENT, name, best);
         row(name, 1000, best, c > 160);
     }
+    vector_heap_rows();
     title("start", "us/call");
     lend(idle, sizeof idle, 256, 256, 250, 1024);
     measure(START, 0, YALGOVIM_READY, "start, bench", best);
@@ -622,11 +682,13 @@ static void audit_rows(void)
 
 #define LISTED(...) { __VA_ARGS__ }, sizeof((const uint8_t[]){ __VA_ARGS__ })
 
-static const struct {
+typedef struct {
     const char *name;
     uint8_t file[64];
     size_t n;
-} loops[] = {
+} long_loop;
+
+static const long_loop loops[] = {
     { "counting", LISTED(240, 0, 0, 0, 0, 2, 0, 54, 0,
         54, 1, 140, 20, 0, 0, 4, 0, 9, 3, 0, 12) },
     { "arithmetic", LISTED(240, 0, 0, 0, 0, 2, 0, 54, 7,
@@ -650,30 +712,63 @@ static const struct {
         3, 0, 28) }
 };
 
+/* On a vector of 16: what is read is the next index, or the vector itself; the last one adds 1 to each element. */
+static const long_loop vector_loops[] = {
+    { "plain elements read", LISTED(240, 0, 0, 0, 0, 3, 2, 54, 0, 54, 16, 54, 3, 80, 54, 3,
+        21, 0, 0, 82, 21, 0, 0, 82, 21, 0, 0, 82, 21, 0, 0, 82, 3, 0, 19) },
+    { "plain elements written", LISTED(240, 0, 0, 0, 0, 3, 2, 54, 0, 54, 16, 54, 3, 80,
+        54, 5, 54, 3, 21, 0, 0, 84, 54, 6, 54, 4, 21, 0, 0, 84, 54, 7, 54, 15, 21, 0, 0, 84,
+        3, 0, 27) },
+    { "pointer elements read", LISTED(240, 0, 0, 0, 0, 2, 3, 54, 0, 54, 16, 57, 81,
+        54, 3, 21, 0, 0, 21, 0, 0, 85,
+        54, 3, 83, 54, 3, 83, 54, 3, 83, 54, 3, 83, 3, 0, 15) },
+    { "pointer elements written", LISTED(240, 0, 0, 0, 0, 2, 3, 54, 0, 54, 16, 57, 81,
+        54, 3, 21, 0, 0, 21, 0, 0, 85, 54, 4, 57, 21, 0, 0, 85, 54, 15, 21, 0, 0, 21, 0, 0, 85,
+        3, 0, 28) },
+    { "elements counted up", LISTED(240, 0, 0, 0, 0, 3, 2, 54, 0, 54, 16, 54, 1, 80, 54, 15,
+        20, 0, 0, 21, 0, 0, 82, 54, 1, 140, 20, 0, 0, 21, 0, 0, 84, 54, 1, 142,
+        20, 0, 0, 54, 0, 204, 4, 0, 29, 64, 0, 1, 0, 0, 3, 0, 39) }
+};
+
+static void long_rows(const long_loop *l)
+{
+    double best[SIDES];
+    char name[80];
+    for (uint32_t b = 50000; b <= 200000; b *= 2) {
+        snprintf(name, sizeof name, "%s, %u steps", l->name, (unsigned)b);
+        lend(l->file, l->n, 256, 256, 250, 1024);
+        start_all(name);
+        measure(RUN, b, YALGOVIM_SPENT, name, best);
+        row(name, b, best, b > 50000);
+    }
+}
+
+static void stroke_row(const long_loop *l)
+{
+    double best[SIDES];
+    lend(l->file, l->n, 256, 256, 250, 1024);
+    start_all(l->name);
+    measure(RUN, 100, YALGOVIM_SPENT, l->name, best);
+    row(l->name, 1000, best, false);
+}
+
 static void step_rows(void)
 {
     double best[SIDES];
     char name[80];
+    const size_t more = sizeof vector_loops / sizeof *vector_loops;
     title("steps: a long run", "ns/step");
     for (size_t i = 0; i < sizeof loops / sizeof *loops; i++)
-        for (uint32_t b = 50000; b <= 200000; b *= 2) {
-            snprintf(name, sizeof name, "%s, %u steps", loops[i].name, (unsigned)b);
-            lend(loops[i].file, loops[i].n, 256, 256, 250, 1024);
-            start_all(name);
-            measure(RUN, b, YALGOVIM_SPENT, name, best);
-            row(name, b, best, b > 50000);
-        }
+        long_rows(&loops[i]);
     lend(loops[0].file, loops[0].n, 4096, 4096, 1280, 16384);
     start_all("greatest lists");
     measure(RUN, 200000, YALGOVIM_SPENT, "greatest lists", best);
     row("counting, 200000 steps, greatest lists", 200000, best, false);
+    for (size_t i = 0; i < more; i++)
+        long_rows(&vector_loops[i]);
     title("a stroke: run with a budget of 100", "us/call");
-    for (size_t i = 0; i < sizeof loops / sizeof *loops; i++) {
-        lend(loops[i].file, loops[i].n, 256, 256, 250, 1024);
-        start_all(loops[i].name);
-        measure(RUN, 100, YALGOVIM_SPENT, loops[i].name, best);
-        row(loops[i].name, 1000, best, false);
-    }
+    for (size_t i = 0; i < sizeof loops / sizeof *loops; i++)
+        stroke_row(&loops[i]);
     for (size_t i = 0; i < 2; i++) {
         typical(typicals[i]);
         snprintf(name, sizeof name, "typical file, %zu bytes", n);
@@ -684,6 +779,100 @@ static void step_rows(void)
         measure(RUN, 100, YALGOVIM_SPENT, name, best);
         row(name, 1000, best, false);
     }
+    for (size_t i = 0; i < more; i++)
+        stroke_row(&vector_loops[i]);
+}
+
+/* ---- vectors made ---- */
+
+/* The state right before 80 or 81, on an empty heap. */
+static struct {
+    uint32_t main[3];
+    uint8_t regs[28];
+} fresh;
+
+static void renew(memory *m)
+{
+    memset(m->heap, 0, m->heap_len * sizeof *m->heap);
+    m->heap[0] = 2;
+    memcpy(m->main, fresh.main, sizeof fresh.main);
+    m->ptr[0] = 0;
+    memcpy(m->regs, fresh.regs, sizeof fresh.regs);
+}
+
+static double time_fresh(int who, uint32_t budget, unsigned inner)
+{
+    double from = now();
+    for (unsigned i = 0; i < inner; i++) {
+        renew(&side[who]);
+        call(who, RUN, budget);
+    }
+    return (now() - from) / inner;
+}
+
+/* As measure, the state renewed before each call; renewing is timed too, alike for all. */
+static void measure_fresh(uint32_t budget, const char *name, double best[SIDES])
+{
+    unsigned inner = 1;
+    for (int w = 0; w < SIDES; w++) {
+        renew(&side[w]);
+        need(call(w, RUN, budget), YALGOVIM_SPENT, name);
+        best[w] = 1e30;
+    }
+    while (time_fresh(O2, budget, inner) * inner < 1e6)
+        inner *= 2;
+    for (unsigned t = 0; t < turns; t++)
+        for (int w = 0; w < SIDES; w++) {
+            double each = time_fresh(w, budget, inner);
+            if (each < best[w])
+                best[w] = each;
+        }
+}
+
+/* A vector of `length` in a heap that it fits exactly, up to the instruction that makes it. */
+static void before_making(uint8_t code, uint32_t length, const char *name)
+{
+    n = 0;
+    BYTES(240, 0, 0, 0, 0, 3, 1, 54, 1, 56, 0, 0, (uint8_t)(length >> 8), (uint8_t)length);
+    if (code == 80)
+        BYTES(54, 7);
+    else
+        BYTES(57);
+    BYTES(code, 3, 0, 3);
+    lend(f, n, 4, 4, 5, 5 + (size_t)length);
+    start_all(name);
+    for (int w = 0; w < SIDES; w++)
+        need(call(w, RUN, 3), YALGOVIM_SPENT, name);
+    memcpy(fresh.main, side[O2].main, sizeof fresh.main);
+    memcpy(fresh.regs, side[O2].regs, sizeof fresh.regs);
+}
+
+static const uint32_t lengths[] = { 16, 64, 256, 1024, 4096, 16000 };
+enum { LENGTHS = sizeof lengths / sizeof *lengths };
+
+/* The heap's audit grows with the vector too; the second table has the making alone. */
+static void make_rows(void)
+{
+    static double making[2][LENGTHS][SIDES];
+    double whole[SIDES], none[SIDES];
+    char name[80];
+    title("one vector made: run with a budget of 1", "us/call");
+    for (uint8_t k = 0; k < 2; k++)
+        for (size_t i = 0; i < LENGTHS; i++) {
+            snprintf(name, sizeof name, "%d, %u elements", 80 + k, (unsigned)lengths[i]);
+            before_making((uint8_t)(80 + k), lengths[i], name);
+            measure_fresh(1, name, whole);
+            measure_fresh(0, name, none);
+            for (int w = 0; w < SIDES; w++)
+                making[k][i][w] = whole[w] - none[w];
+            row(name, 1000, whole, i > 0);
+        }
+    title("the same less a run with a budget of 0", "ns");
+    for (uint8_t k = 0; k < 2; k++)
+        for (size_t i = 0; i < LENGTHS; i++) {
+            snprintf(name, sizeof name, "%d, %u elements", 80 + k, (unsigned)lengths[i]);
+            row(name, 1, making[k][i], i > 0);
+        }
 }
 
 int main(int argc, char **argv)
@@ -695,5 +884,6 @@ int main(int argc, char **argv)
     check_rows();
     audit_rows();
     step_rows();
+    make_rows();
     return 0;
 }

@@ -94,7 +94,7 @@ static uint32_t odd_word(void)
     static const uint32_t some[] = {
         0, 1, 2, 3, 5, 7, 0xffffffffu, 0xfffffffeu, 0x80000000u, 0x80000001u,
         0x7fffffffu, 0x7ffffffeu, 0x40000000u, 0xc0000000u, 46340, 46341, 65535, 65536,
-        0x01000000u, 0x01000001u
+        0x01000000u, 0x01000001u, 0x02000000u, 0x03000001u
     };
     if (one_in(3))
         return draw();
@@ -108,6 +108,19 @@ static void push_word(maker *g)
         byte(g, one_in(3) ? below(4) : draw() & 255);
     } else {
         uint32_t w = odd_word();
+        byte(g, 56);
+        operand(g, w >> 16);
+        operand(g, w & 65535);
+    }
+    effect(g, 0, 0, 1, 0);
+}
+
+static void push_number(maker *g, uint32_t w)
+{
+    if (w + 128 < 256 && one_in(2)) {
+        byte(g, 54);
+        byte(g, w & 255);
+    } else {
         byte(g, 56);
         operand(g, w >> 16);
         operand(g, w & 65535);
@@ -226,12 +239,194 @@ static bool object_use(maker *g)
     return true;
 }
 
+/* A vector that a routine makes or finds: what the generator takes it to be. */
+typedef struct {
+    uint32_t kind, bound, length;
+    uint32_t slot; /* its frame word, or ON_ROOT */
+} vector;
+
+enum { PLAIN = 2, POINTERS = 3 };
+#define ON_ROOT UINT32_MAX
+
+static uint32_t some_bound(void)
+{
+    static const uint32_t ends[] = {
+        0x7fffffffu, 0x7ffffffeu, 0x7ffffffdu, 0x80000000u, 0x80000001u, 0xffffffffu, 0
+    };
+    if (one_in(3))
+        return ends[below(sizeof ends / sizeof *ends)];
+    return one_in(6) ? draw() : below(4) - 1;
+}
+
+static uint32_t some_length(void)
+{
+    static const uint32_t huge[] = {
+        0x7fffffffu, 0x7ffffffdu, 0x01000000u, 0x00fffffdu, 65536, 16384, 16380, 1000
+    };
+    static const uint32_t negative[] = { 0xffffffffu, 0xfffffffdu, 0x80000000u };
+    switch (below(24)) {
+    case 0: return huge[below(sizeof huge / sizeof *huge)];
+    case 1: return negative[below(sizeof negative / sizeof *negative)];
+    case 2: return 0;
+    case 3: case 4: return below(40);
+    default: return 1 + below(5);
+    }
+}
+
+/* Mostly one that hits. */
+static uint32_t some_index(const vector *v)
+{
+    switch (below(24)) {
+    case 0: return v->bound - 1;
+    case 1: return v->bound + v->length;
+    case 2: return odd_word();
+    case 3: case 4: case 5: return v->bound + v->length - 1;
+    default: return v->bound + below(v->length);
+    }
+}
+
+static void name_vector(maker *g, const vector *v)
+{
+    if (one_in(30)) {
+        byte(g, 57);
+    } else if (v->slot == ON_ROOT) {
+        byte(g, 58);
+    } else {
+        byte(g, 21);
+        operand(g, v->slot);
+    }
+    effect(g, 0, 0, 0, 1);
+}
+
+static void read_element(maker *g, const vector *v)
+{
+    bool plain = (v->kind == PLAIN) != one_in(20);
+    push_number(g, some_index(v));
+    name_vector(g, v);
+    byte(g, plain ? 82 : 83);
+    effect(g, 1, 1, plain, !plain);
+}
+
+static void write_element(maker *g, const vector *v)
+{
+    if ((v->kind == PLAIN) != one_in(20)) {
+        push_word(g);
+        push_number(g, some_index(v));
+        name_vector(g, v);
+        byte(g, 84);
+        effect(g, 2, 1, 0, 0);
+    } else {
+        push_pointer(g);
+        name_vector(g, v);
+        push_number(g, some_index(v));
+        byte(g, 85);
+        effect(g, 1, 2, 0, 0);
+    }
+}
+
+/* Codes 30 to 33 on a vector's words, often its bound. */
+static void vector_field(maker *g, const vector *v)
+{
+    uint32_t length = v->length > 40 ? 0 : v->length;
+    uint32_t bound = v->kind == PLAIN ? 2 : 2 + length, element = v->kind == PLAIN ? 3 : 2;
+    uint32_t s = one_in(5) ? bound : element + below(length);
+    bool set = !one_in(4), pointer = (v->kind == POINTERS && s != bound) != one_in(8);
+    uint32_t code = 30u + 2u * set + pointer;
+    if (code == 32)
+        push_word(g);
+    if (code == 33)
+        push_pointer(g);
+    name_vector(g, v);
+    byte(g, code);
+    operand(g, s);
+    effect(g, code == 32, code == 33 ? 2 : 1, code == 30, code == 31);
+}
+
+static void use_vector(maker *g, const vector *v, uint32_t times)
+{
+    for (uint32_t i = 0; i < times; i++) {
+        if (g->m + 2 > g->cap_m || g->p + 2 > g->cap_p || (i > 0 && g->n + 60 > g->limit))
+            return;
+        if (one_in(4))
+            vector_field(g, v);
+        else if (one_in(2))
+            read_element(g, v);
+        else
+            write_element(g, v);
+    }
+}
+
+/* A new vector, left where it is, put on the root or in a frame word, and uses of it. */
+static bool vector_use(maker *g)
+{
+    vector v = { PLAIN + below(2), some_bound(), some_length(), 0 };
+    if (g->m + 3 > g->cap_m || g->p + 3 > g->cap_p)
+        return false;
+    push_number(g, v.bound);
+    push_number(g, v.length);
+    if (v.kind == PLAIN) {
+        push_word(g);
+        byte(g, 80);
+        effect(g, 3, 0, 0, 1);
+    } else {
+        push_pointer(g);
+        byte(g, 81);
+        effect(g, 2, 1, 0, 1);
+    }
+    v.slot = g->p - 1;
+    if (one_in(4)) {
+        byte(g, 59);
+        byte(g, 58);
+    } else if (one_in(4)) {
+        byte(g, 21);
+        operand(g, v.slot);
+        effect(g, 0, 0, 0, 1);
+        v.slot = below(g->p - 1);
+        byte(g, 23);
+        operand(g, v.slot);
+        effect(g, 0, 1, 0, 0);
+    }
+    use_vector(g, &v, below(4));
+    return true;
+}
+
+/* What hangs on the root, lent with the heap or left by another routine. */
+static bool root_use(maker *g)
+{
+    vector v = { PLAIN + below(2), below(4) - 1, 3, ON_ROOT };
+    if (g->m + 2 > g->cap_m || g->p + 2 > g->cap_p)
+        return false;
+    use_vector(g, &v, 1);
+    return true;
+}
+
+/* One of 80 to 85 on whatever lies on the stacks. */
+static bool any_vector_code(maker *g)
+{
+    static const uint8_t pop_m[] = { 3, 2, 1, 1, 2, 1 }, pop_p[] = { 0, 1, 1, 1, 1, 2 };
+    static const uint8_t push_m[] = { 0, 0, 1, 0, 0, 0 }, push_p[] = { 1, 1, 0, 1, 0, 0 };
+    uint32_t k = below(6);
+    if (g->m - g->floor_m < pop_m[k] || g->p - g->floor_p < pop_p[k]
+        || g->p - pop_p[k] + push_p[k] > g->cap_p)
+        return false;
+    byte(g, 80 + k);
+    effect(g, pop_m[k], pop_p[k], push_m[k], push_p[k]);
+    return true;
+}
+
 /* Two words that an operation can bear, and the operation. */
 static bool reckon(maker *g)
 {
     static const uint8_t codes[] = { 140, 141, 142, 143, 145, 130, 195, 198, 201, 204 };
     if (g->m + 2 > g->cap_m)
         return false;
+    if (one_in(20)) { /* the one quotient out of range */
+        push_number(g, 0x80000000u);
+        push_number(g, 0xffffffffu);
+        byte(g, one_in(2) ? 143 : 145);
+        effect(g, 2, 0, 1, 0);
+        return true;
+    }
     for (int i = 0; i < 2; i++) {
         if (one_in(3)) { /* an end of the range or near it */
             static const uint32_t ends[] = {
@@ -261,6 +456,8 @@ static void simple(maker *g)
     uint32_t free_m = g->m - g->floor_m, free_p = g->p - g->floor_p;
     bool room_m = g->m < g->cap_m, room_p = g->p < g->cap_p;
     uint32_t k;
+    if (one_in(6) && (one_in(6) ? root_use(g) : vector_use(g)))
+        return;
     if (one_in(4) && (one_in(2) ? object_use(g) : reckon(g)))
         return;
     switch (below(26)) {
@@ -343,8 +540,10 @@ static void simple(maker *g)
         effect(g, 0, 1, 0, 0);
         return;
     case 19:
-        if (free_p < 2 || !room_m)
+        if (g->p + 2 > g->cap_p || !room_m)
             break;
+        while (g->p - g->floor_p < 2)
+            push_pointer(g);
         byte(g, 131);
         effect(g, 0, 2, 1, 0);
         return;
@@ -360,6 +559,10 @@ static void simple(maker *g)
         return;
     case 22: case 23:
         if (call_some(g))
+            return;
+        break;
+    case 24:
+        if (one_in(3) && any_vector_code(g))
             return;
         break;
     default:
@@ -787,7 +990,7 @@ enum { CHECK, START, RUN };
 static const char *const call_name[] = { "check", "start", "run" };
 
 static uint64_t seed, case_no, calls, steps_total;
-static uint64_t answers[3][6], refusals[3][13], raised[7], stepped[256], made[8], damages[15];
+static uint64_t answers[3][6], refusals[3][13], raised[8], stepped[256], made[8], damages[16];
 static uint64_t edges[5]; /* see table() */
 static const char *file_sort;
 
@@ -847,6 +1050,7 @@ enum {
     LONG_HEAP, LAST_WORD, LAST_OF_ALL,
     MARK_ROOT, HEADER_SIZE, WALK_WALK, WALK_ROOT, WALK_POINTER, WALK_FREE,
     ROOT_POINTER, ROOT_FREE, POINTER_POINTER, POINTER_FREE, FREE_FREE,
+    PLAIN_POINTERS, PLAIN_BOTH, PLAIN_TWO, POINTERS_SHORT, POINTERS_LONG, BAD_ELEMENT,
     HEAP_COUNTERS
 };
 
@@ -878,7 +1082,13 @@ static counter heap_met[HEAP_COUNTERS] = {
     [ROOT_FREE] = { "root and free word", 0 },
     [POINTER_POINTER] = { "two pointers", 0 },
     [POINTER_FREE] = { "pointer and free word", 0 },
-    [FREE_FREE] = { "two free words", 0 }
+    [FREE_FREE] = { "two free words", 0 },
+    [PLAIN_POINTERS] = { "plain vector with pointer words", 0 },
+    [PLAIN_BOTH] = { "the same with a bad size", 0 },
+    [PLAIN_TWO] = { "plain vector of size 2", 0 },
+    [POINTERS_SHORT] = { "pointer vector a word short", 0 },
+    [POINTERS_LONG] = { "pointer vector a word long", 0 },
+    [BAD_ELEMENT] = { "element that is no pointer", 0 }
 };
 
 /* The objects from word 2 on, as far as they are in order. */
@@ -892,6 +1102,7 @@ static struct {
 typedef struct {
     bool root;
     size_t pointers, pointer, frees, free_word;
+    bool in_vector; /* the lowest pointer */
 } bad_words;
 
 static uint32_t pointers_of(size_t at)
@@ -905,9 +1116,22 @@ static bool size_fits(size_t at, size_t mark)
         && word(L_HEAP, at + 1) <= mark - at;
 }
 
+/* A known kind; a plain vector has no pointer words. */
+static bool header_right(size_t at)
+{
+    uint32_t kind = word(L_HEAP, at) >> 24;
+    return kind == 1 || kind == 3 || word(L_HEAP, at) == 2u << 24;
+}
+
 static bool in_order(size_t at, size_t mark)
 {
-    return word(L_HEAP, at) >> 24 == 1 && size_fits(at, mark);
+    if (!header_right(at) || !size_fits(at, mark))
+        return false;
+    switch (word(L_HEAP, at) >> 24) {
+    case PLAIN: return word(L_HEAP, at + 1) != 2;
+    case POINTERS: return word(L_HEAP, at + 1) - pointers_of(at) == 3;
+    default: return true;
+    }
 }
 
 static void walk_heap(void)
@@ -933,12 +1157,14 @@ static bool no_pointer(uint32_t w, size_t mark)
 
 static bad_words find_bad_words(size_t mark)
 {
-    bad_words bad = { no_pointer(word(L_HEAP, 1), mark), 0, 0, 0, 0 };
+    bad_words bad = { no_pointer(word(L_HEAP, 1), mark), 0, 0, 0, 0, false };
     for (size_t k = 0; k < walked.count; k++) {
         size_t first = walked.at[k] + 2;
         for (size_t i = first; i < first + pointers_of(walked.at[k]); i++)
-            if (no_pointer(word(L_HEAP, i), mark) && bad.pointers++ == 0)
+            if (no_pointer(word(L_HEAP, i), mark) && bad.pointers++ == 0) {
                 bad.pointer = i;
+                bad.in_vector = word(L_HEAP, walked.at[k]) >> 24 == POINTERS;
+            }
     }
     for (size_t i = mark; i < lists[L_HEAP].len; i++)
         if (word(L_HEAP, i) != 0 && bad.frees++ == 0)
@@ -973,16 +1199,31 @@ static void meet_mark(size_t n, uint32_t mark, size_t place)
     meet_place(AT_MARK, 0, place);
 }
 
+/* The walk ends at a vector: what is wrong for its kind. */
+static void meet_vector_walk(size_t at, size_t mark)
+{
+    uint32_t kind = word(L_HEAP, at) >> 24, more = 0;
+    bool fits = size_fits(at, mark);
+    if (fits)
+        more = word(L_HEAP, at + 1) - 2 - pointers_of(at);
+    meet(PLAIN_POINTERS, kind == PLAIN && pointers_of(at) > 0 && fits);
+    meet(PLAIN_BOTH, kind == PLAIN && pointers_of(at) > 0 && !fits && at + 1 < mark);
+    meet(PLAIN_TWO, kind == PLAIN && pointers_of(at) == 0 && fits && more == 0);
+    meet(POINTERS_SHORT, kind == POINTERS && fits && more == 0);
+    meet(POINTERS_LONG, kind == POINTERS && fits && more == 2);
+}
+
 /* The walk ends below the mark. */
 static void meet_walk(size_t mark, bad_words bad, size_t place)
 {
     size_t at = walked.stop, next = at;
-    bool kind = word(L_HEAP, at) >> 24 != 1, missing = at + 1 >= mark;
+    bool kind = !header_right(at), missing = at + 1 >= mark;
     bool low = !missing && word(L_HEAP, at + 1) < 2 + pointers_of(at);
     bool high = !missing && word(L_HEAP, at + 1) > mark - at;
     while (next < mark && size_fits(next, mark) && (next == at || in_order(next, mark)))
         next += word(L_HEAP, next + 1);
-    meet(KIND_UNKNOWN, kind);
+    meet_vector_walk(at, mark);
+    meet(KIND_UNKNOWN, kind && word(L_HEAP, at) >> 24 != PLAIN);
     meet(SIZE_MISSING, missing);
     meet(SIZE_LOW, !kind && low);
     meet(SIZE_HIGH, !kind && high);
@@ -1005,6 +1246,7 @@ static void meet_words(bad_words bad, size_t place)
     meet(POINTER_POINTER, !bad.root && bad.pointers > 1);
     meet(POINTER_FREE, !bad.root && bad.pointers > 0 && bad.frees > 0);
     meet(FREE_FREE, !bad.root && bad.pointers == 0 && bad.frees > 1);
+    meet(BAD_ELEMENT, !bad.root && bad.pointers > 0 && bad.in_vector);
     if (bad.root)
         meet_place(AT_ROOT, 1, place);
     else if (bad.pointers > 0)
@@ -1030,10 +1272,177 @@ static void meet_heap(size_t place)
         meet_words(find_bad_words(mark), place);
 }
 
-/* ---- the calls ---- */
+/* ---- vectors: an instruction's outcome, looked at once more ---- */
 
-static snapshot before_call; /* for the dump */
+static snapshot before_call; /* for the dump, and the state before a single step */
 static bool have_before;
+
+enum {
+    INDEX_LOW, INDEX_PAST, LENGTH_NEGATIVE, OTHER_KIND,
+    INDEX_WRAPS, NEGATIVE_FULL, VECTOR_NIL, LENGTH_HUGE, WORD_SHORT,
+    FIT_EXACT, LENGTH_ZERO, BOUND_PASSES, INDEX_FIRST, INDEX_LAST, VALUE_NIL,
+    PLAIN_BOUND, POINTERS_BOUND, PLAIN_SET, POINTERS_SET,
+    VECTOR_COUNTERS
+};
+
+static counter vector_met[VECTOR_COUNTERS] = {
+    [INDEX_LOW] = { "index below the bound", 0 },
+    [INDEX_PAST] = { "index past the last element", 0 },
+    [LENGTH_NEGATIVE] = { "negative length", 0 },
+    [OTHER_KIND] = { "object of another kind", 0 },
+    [INDEX_WRAPS] = { "index that would hit in 32 bits", 0 },
+    [NEGATIVE_FULL] = { "negative length, heap full (6)", 0 },
+    [VECTOR_NIL] = { "nil (2)", 0 },
+    [LENGTH_HUGE] = { "length of 65,536 or more (4)", 0 },
+    [WORD_SHORT] = { "a word short (4)", 0 },
+    [FIT_EXACT] = { "exact fit", 0 },
+    [LENGTH_ZERO] = { "length 0", 0 },
+    [BOUND_PASSES] = { "made with bound + length past 2^31", 0 },
+    [INDEX_FIRST] = { "first element", 0 },
+    [INDEX_LAST] = { "last element", 0 },
+    [VALUE_NIL] = { "nil value", 0 },
+    [PLAIN_BOUND] = { "32 on a plain vector's bound (3)", 0 },
+    [POINTERS_BOUND] = { "32 on a pointer vector's bound (3)", 0 },
+    [PLAIN_SET] = { "32 on an element", 0 },
+    [POINTERS_SET] = { "33 on an element", 0 }
+};
+
+/* The state before an instruction that was done, or that raised. */
+typedef struct {
+    const uint32_t *main, *ptr, *heap; /* main and ptr: the words at their tops */
+    size_t heap_len;
+    const uint8_t *code;
+} moment;
+
+static uint32_t bytes_word(const uint8_t *b)
+{
+    return (uint32_t)b[0] << 24 | (uint32_t)b[1] << 16 | (uint32_t)b[2] << 8 | b[3];
+}
+
+static moment moment_of(const uint8_t *const held[LISTS], size_t heap_len)
+{
+    const uint8_t *regs = held[L_REGS];
+    moment t = {
+        (const uint32_t *)(const void *)held[L_MAIN] + bytes_word(regs + 12),
+        (const uint32_t *)(const void *)held[L_PTR] + bytes_word(regs + 16),
+        (const uint32_t *)(const void *)held[L_HEAP], heap_len,
+        held[L_FILE] + bytes_word(regs)
+    };
+    return t;
+}
+
+static int64_t whole(uint32_t w)
+{
+    return w < 0x80000000u ? (int64_t)w : (int64_t)w - 0x100000000;
+}
+
+static void meet_vector(int what, bool met)
+{
+    vector_met[what].count += met;
+}
+
+/* 80, 81: the exception, 0 for none. */
+static uint32_t foresee_make(const moment *t)
+{
+    bool plain = t->code[0] == 80;
+    int64_t length = whole(t->main[plain ? -2 : -1]), bound = whole(t->main[plain ? -3 : -2]);
+    int64_t free_words = (int64_t)t->heap_len - t->heap[0];
+    if (length < 0) {
+        meet_vector(LENGTH_NEGATIVE, true);
+        meet_vector(NEGATIVE_FULL, free_words < 3);
+        return 6;
+    }
+    meet_vector(LENGTH_HUGE, length >= 65536);
+    meet_vector(WORD_SHORT, free_words == 2 + length);
+    if (free_words < 3 + length)
+        return 4;
+    meet_vector(FIT_EXACT, free_words == 3 + length);
+    meet_vector(LENGTH_ZERO, length == 0);
+    meet_vector(BOUND_PASSES, bound + length > 0x80000000);
+    meet_vector(VALUE_NIL, !plain && t->ptr[-1] == 0);
+    return 0;
+}
+
+/* 82 to 85: the exception, 0 for none. */
+static uint32_t foresee_element(const moment *t)
+{
+    uint32_t kind = t->code[0] % 2 == 0 ? PLAIN : POINTERS;
+    const uint32_t *v = t->heap + t->ptr[-1];
+    if (v == t->heap) {
+        meet_vector(VECTOR_NIL, true);
+        return 2;
+    }
+    if (v[0] >> 24 != kind) {
+        meet_vector(OTHER_KIND, true);
+        return 6;
+    }
+    int64_t index = whole(t->main[-1]), bound = whole(kind == PLAIN ? v[2] : v[v[1] - 1]);
+    int64_t end = bound + (int64_t)v[1] - 3;
+    meet_vector(INDEX_LOW, index < bound);
+    meet_vector(INDEX_PAST, index >= end);
+    if (index < bound || index >= end) {
+        meet_vector(INDEX_WRAPS, (uint32_t)(index - bound) < v[1] - 3);
+        return 6;
+    }
+    meet_vector(INDEX_FIRST, index == bound);
+    meet_vector(INDEX_LAST, index == end - 1);
+    meet_vector(VALUE_NIL, t->code[0] == 85 && t->ptr[-2] == 0);
+    return 0;
+}
+
+/* 32, 33 on a vector: the exception, 0 for none. */
+static uint32_t foresee_set(const moment *t)
+{
+    const uint32_t *v = t->heap + t->ptr[-1];
+    uint32_t s = (uint32_t)t->code[1] << 8 | t->code[2], kind = v[0] >> 24;
+    bool element = kind == PLAIN ? t->code[0] == 32 && s >= 3 && s < v[1]
+        : t->code[0] == 33 && s >= 2 && s + 1 < v[1];
+    meet_vector(PLAIN_BOUND, kind == PLAIN && t->code[0] == 32 && s == 2);
+    meet_vector(POINTERS_BOUND, kind == POINTERS && t->code[0] == 32 && s + 1 == v[1]);
+    meet_vector(kind == PLAIN ? PLAIN_SET : POINTERS_SET, element);
+    return element ? 0 : 3;
+}
+
+/* Counts the instruction if it is one on a vector; the exception that came must be the one foreseen. */
+static void meet_moment(const moment *t, uint32_t came)
+{
+    uint8_t code = t->code[0];
+    uint32_t want;
+    if (code == 80 || code == 81)
+        want = foresee_make(t);
+    else if (code >= 82 && code <= 85)
+        want = foresee_element(t);
+    else if ((code == 32 || code == 33) && t->ptr[-1] != 0 && t->heap[t->ptr[-1]] >> 24 != 1)
+        want = foresee_set(t);
+    else
+        return;
+    if (came == want)
+        return;
+    printf("\nCode %d raises %" PRIu32 ", not %" PRIu32 " (0: none): seed %" PRIu64 " case %" PRIu64
+           "\n", code, came, want, seed, case_no);
+    exit(1);
+}
+
+/* The instruction that was not caught, or the one of a single step. */
+static void meet_run(ref_reply r, uint32_t budget)
+{
+    const uint8_t *held[LISTS];
+    if (r.kind == REF_UNCAUGHT) { /* the state is as before it */
+        for (int i = 0; i < LISTS; i++)
+            held[i] = lists[i].ref;
+        moment t = moment_of(held, lists[L_HEAP].len);
+        meet_moment(&t, r.number);
+    } else if (budget == 1 && r.steps == 1) {
+        for (int i = 0; i < LISTS; i++)
+            held[i] = before_call.held[i];
+        moment t = moment_of(held, lists[L_HEAP].len);
+        /* a raise closes its handler, so the control stack falls, and pushes the code */
+        bool caught = reg(3) > 0 && reg(5) < bytes_word(held[L_REGS] + 20);
+        meet_moment(&t, caught ? word(L_MAIN, reg(3) - 1) : 0);
+    }
+}
+
+/* ---- the calls ---- */
 
 static ref_reply both(int call, uint32_t budget)
 {
@@ -1094,7 +1503,9 @@ static ref_reply both(int call, uint32_t budget)
     if (ref.kind == REF_REFUSED && ref.number == 11)
         meet_heap(ref.place);
     if (ref.kind == REF_UNCAUGHT)
-        raised[ref.number >= 1 && ref.number <= 5 ? ref.number : 6]++;
+        raised[ref.number >= 1 && ref.number <= 6 ? ref.number : 7]++;
+    if (call == RUN)
+        meet_run(ref, budget);
     steps_total += ref.steps;
     if (ref.steps == 1)
         stepped[code]++;
@@ -1113,7 +1524,8 @@ static void lend_file(const uint8_t *f, size_t n)
 
 static const uint8_t kinds[] = {
     1, 2, 3, 4, 5, 6, 20, 21, 22, 23, 30, 31, 32, 33, 36, 54, 56, 57, 58, 59, 60, 62, 64,
-    72, 73, 130, 131, 195, 198, 201, 204, 140, 141, 142, 143, 145, 144, 146, 160, 161, 162, 240
+    72, 73, 80, 81, 82, 83, 84, 85, 130, 131, 195, 198, 201, 204, 140, 141, 142, 143, 145, 144,
+    146, 160, 161, 162, 240
 };
 
 static uint8_t known_kind(void)
@@ -1153,6 +1565,21 @@ static void retarget(void)
     }
 }
 
+/* Another code without a body in the place of one: the depths may break the floor's rule alone. */
+static void recode(void)
+{
+    size_t found = 0;
+    uint32_t seen = 0;
+    for (size_t i = 0; i < g.n; i += 1 + body_of(g.f[i]))
+        if (body_of(g.f[i]) == 0 && one_in(++seen))
+            found = i;
+    uint8_t code = known_kind();
+    while (body_of(code) != 0)
+        code = one_in(2) ? (uint8_t)(80 + below(6)) : known_kind();
+    if (found > 0)
+        g.f[found] = code;
+}
+
 static void choose_file(void)
 {
     uint32_t k = below(100);
@@ -1173,6 +1600,9 @@ static void choose_file(void)
         if (one_in(4)) {
             retarget();
             times = one_in(4);
+        } else if (one_in(3)) {
+            recode();
+            times = one_in(6);
         }
         for (uint32_t i = 0; i < times; i++) {
             size_t at = below((uint32_t)g.n);
@@ -1249,6 +1679,23 @@ static size_t around(size_t least, size_t most, uint32_t usual)
     }
 }
 
+/* An object at the mark: a view or a vector; gives its size, 0 if it does not fit. */
+static uint32_t fill_object(size_t mark)
+{
+    uint32_t kind = one_in(2) ? 1 : PLAIN + below(2);
+    uint32_t ptrs = kind == PLAIN ? 0 : below(one_in(10) ? 40 : 4);
+    uint32_t size = 2 + ptrs + (kind == 1 ? below(5) : kind == PLAIN ? 1 + below(5) : 1);
+    if (mark + size > lists[L_HEAP].len)
+        return 0;
+    set_word(L_HEAP, mark, kind << 24 | ptrs);
+    set_word(L_HEAP, mark + 1, size);
+    for (uint32_t j = 2 + ptrs; j < size; j++)
+        set_word(L_HEAP, mark + j, odd_word());
+    if (kind != 1)
+        set_word(L_HEAP, mark + 2 + ptrs, some_bound());
+    return size;
+}
+
 /* A sound heap with some objects, now and then one with a fault. */
 static void fill_heap(void)
 {
@@ -1260,14 +1707,10 @@ static void fill_heap(void)
         return;
     uint32_t objects = one_in(2) ? 0 : below(one_in(8) ? 500 : 8);
     for (uint32_t i = 0; i < objects; i++) {
-        uint32_t ptrs = below(4), size = 2 + ptrs + below(5);
-        if (mark + size > n)
+        uint32_t size = fill_object(mark);
+        if (size == 0)
             break;
         at[count++] = mark;
-        set_word(L_HEAP, mark, 0x01000000u + ptrs);
-        set_word(L_HEAP, mark + 1, size);
-        for (uint32_t j = 2 + ptrs; j < size; j++)
-            set_word(L_HEAP, mark + j, odd_word());
         mark += size;
     }
     for (size_t i = 0; i < count; i++)
@@ -1328,7 +1771,30 @@ static uint32_t bad_size(uint32_t pointers, uint32_t room)
 }
 
 /* The sorts of faults, by the words that 11 can name. */
-enum { IN_MARK, IN_ROOT, IN_FREE, IN_HEADER, IN_SIZE, IN_POINTER, IN_LAST_HEADER };
+enum { IN_MARK, IN_ROOT, IN_FREE, IN_HEADER, IN_SIZE, IN_POINTER, IN_LAST_HEADER, IN_VECTOR };
+
+/* The object becomes a vector that is wrong for its kind. */
+static void fault_vector(size_t at, uint32_t mark)
+{
+    uint32_t size = word(L_HEAP, at + 1), ptrs = 1 + below(3);
+    switch (below(4)) {
+    case 0: /* pointer words, and now and then a bad size */
+        set_word(L_HEAP, at, 2u << 24 | ptrs);
+        if (one_in(2))
+            set_word(L_HEAP, at + 1, bad_size(ptrs, mark - (uint32_t)at));
+        break;
+    case 1: /* no bound */
+        set_word(L_HEAP, at, 2u << 24);
+        set_word(L_HEAP, at + 1, 2);
+        break;
+    case 2: /* the last word is an element */
+        set_word(L_HEAP, at, 3u << 24 | (size - 2));
+        break;
+    default: /* a word behind the bound */
+        set_word(L_HEAP, at, 3u << 24 | (size < 4 ? 0 : size - 4));
+        break;
+    }
+}
 
 /* A fault of this sort, from object o on; those from IN_HEADER on need an object. */
 static void fault_heap(uint32_t sort, size_t o)
@@ -1348,7 +1814,10 @@ static void fault_heap(uint32_t sort, size_t o)
                      1 + below(9));
         break;
     case IN_HEADER: /* its pointer words stay */
-        set_word(L_HEAP, at, (one_in(3) ? 0 : 2 + below(254)) << 24 | pointers_of(at));
+        set_word(L_HEAP, at, (one_in(3) ? 0 : one_in(3) ? 4 : 2 + below(254)) << 24 | pointers_of(at));
+        break;
+    case IN_VECTOR:
+        fault_vector(at, mark);
         break;
     case IN_SIZE:
         set_word(L_HEAP, at + 1, bad_size(pointers_of(at), mark - (uint32_t)at));
@@ -1357,7 +1826,7 @@ static void fault_heap(uint32_t sort, size_t o)
         while (o + 1 < walked.count && pointers_of(walked.at[o]) == 0)
             o++;
         at = walked.at[o];
-        if (pointers_of(at) > 0)
+        if (pointers_of(at) > 0 && at + 2 + pointers_of(at) <= n) /* a fault before may count more */
             set_word(L_HEAP, at + 2 + below(pointers_of(at)), stray(at));
         break;
     default: /* the mark right behind a header */
@@ -1371,7 +1840,8 @@ static void fault_heap_twice(void)
 {
     static const uint8_t sorts[] = {
         IN_MARK, IN_ROOT, IN_ROOT, IN_FREE, IN_FREE, IN_HEADER, IN_HEADER, IN_SIZE, IN_SIZE,
-        IN_POINTER, IN_POINTER, IN_POINTER, IN_LAST_HEADER
+        IN_POINTER, IN_POINTER, IN_POINTER, IN_LAST_HEADER, IN_VECTOR, IN_VECTOR,
+        IN_VECTOR
     };
     walk_heap();
     uint32_t count = (uint32_t)walked.count, choice = count > 0 ? sizeof sorts : 5;
@@ -1422,6 +1892,13 @@ static uint32_t some_place(uint8_t kind)
     return found;
 }
 
+/* Another call stands right behind or right before the one that returns here. */
+static bool call_beside(uint32_t here)
+{
+    const list *l = &lists[L_FILE];
+    return here < l->len && (l->ref[here] == 72 || (here >= 6 && l->ref[here - 6] == 72));
+}
+
 /* The return place of the call right behind the one that returns here, or right before it, or of any call. */
 static uint32_t other_return(uint32_t here)
 {
@@ -1448,6 +1925,8 @@ static void damage_closely(uint32_t k)
         size_t at = 5 * (size_t)(1 + below(records - 1));
         if (one_in(2) && reg(1) > 1 && reg(1) <= records)
             at = 5 * (size_t)(reg(1) - 1); /* the topmost frame */
+        for (uint32_t i = 0; i < records && !call_beside(word(L_CTL, at + 3)); i++)
+            at = 5 * (size_t)(1 + below(records - 1));
         switch (below(8)) {
         case 0: case 1: case 2: case 3:
             set_word(L_CTL, at + 3, other_return(word(L_CTL, at + 3)));
@@ -1461,9 +1940,55 @@ static void damage_closely(uint32_t k)
     }
 }
 
+/* The code at the place, if it may be used on a vector and there are words on the stacks; else 0. */
+static uint32_t vector_code(void)
+{
+    if (lists[L_REGS].len != 28 || reg(0) >= lists[L_FILE].len || lists[L_HEAP].len < 2
+        || reg(3) > lists[L_MAIN].len || reg(4) > lists[L_PTR].len)
+        return 0;
+    uint32_t code = lists[L_FILE].ref[reg(0)];
+    if (code == 80 || code == 81)
+        return reg(3) >= 2 ? code : 0;
+    if (code >= 82 && code <= 85)
+        return reg(3) >= 1 && reg(4) >= 1 ? code : 0;
+    return code >= 30 && code <= 33 && reg(4) >= 1 ? code : 0;
+}
+
+/* Before 80 or 81: a length at an end of its range, or a heap that it just fits or does not. */
+static void damage_make(uint32_t code)
+{
+    static const uint32_t ends[] = { 0, 0xffffffffu, 0x80000000u, 0x7fffffffu, 0x7ffffffdu, 65536 };
+    size_t n = lists[L_HEAP].len, at = reg(3) - (code == 80 ? 2u : 1u);
+    uint32_t mark = word(L_HEAP, 0), length = word(L_MAIN, at);
+    if (one_in(3))
+        set_word(L_MAIN, at, ends[below(sizeof ends / sizeof *ends)]);
+    else if (one_in(2) && length < 1000 && mark + 3 + length <= 16384 && mark <= n)
+        relend(L_HEAP, mark + 3 + length - one_in(3));
+    else if (mark <= n)
+        set_word(L_MAIN, at, (uint32_t)n - mark - 3 + one_in(3));
+    if (one_in(4) && mark <= n)
+        relend(L_HEAP, mark + below(4));
+}
+
+/* Before 30 to 33 and 82 to 85: another object; before 82 to 85, an index near its ends too, if it is a vector. */
+static void damage_element(uint32_t code)
+{
+    walk_heap();
+    if (walked.count > 0 && (code < 80 || one_in(2)))
+        set_word(L_PTR, reg(4) - 1, (uint32_t)walked.at[below((uint32_t)walked.count)]);
+    uint32_t at = word(L_PTR, reg(4) - 1);
+    if (code < 80 || at >= walked.stop || walked.begins[at] == 0 || word(L_HEAP, at) >> 24 == 1)
+        return;
+    uint32_t bound = at + 2 + pointers_of(at);
+    if (one_in(2))
+        set_word(L_HEAP, bound, some_bound());
+    vector v = { code, word(L_HEAP, bound), word(L_HEAP, at + 1) - 3, 0 };
+    set_word(L_MAIN, reg(3) - 1, one_in(3) ? v.bound + below(v.length + 2) - 1 : some_index(&v));
+}
+
 static void damage(void)
 {
-    uint32_t k = one_in(6) ? 13 : below(15);
+    uint32_t k = vector_code() != 0 && one_in(2) ? 15 : one_in(5) ? 13 : below(16);
     damages[k]++;
     switch (k) {
     case 0: case 1: {
@@ -1504,6 +2029,12 @@ static void damage(void)
         break;
     case 12: case 13: case 14:
         damage_closely(k);
+        break;
+    case 15:
+        if (vector_code() == 80 || vector_code() == 81)
+            damage_make(vector_code());
+        else if (vector_code() != 0)
+            damage_element(vector_code());
         break;
     default:
         if (lists[L_FILE].len > 0) {
@@ -1651,7 +2182,7 @@ static const char *const damage_name[] = {
     "registers", "registers", "control words", "control words", "main words",
     "pointer words", "heap words", "heap words", "a length", "register length",
     "map length", "file byte", "lists cut at their tops", "another call or handler",
-    "another place"
+    "another place", "a vector's operands"
 };
 
 static void heap_line(const char *title, int from, int to)
@@ -1666,6 +2197,22 @@ static void heap_table(void)
     heap_line("refused 11, the word named:", AT_MARK, AT_FREE);
     heap_line("refused 11, the fault:", MARK_LOW, LAST_OF_ALL);
     heap_line("refused 11, two faults:", MARK_ROOT, FREE_FREE);
+    heap_line("refused 11, vectors:", PLAIN_POINTERS, BAD_ELEMENT);
+}
+
+static void vector_line(const char *title, int from, int to)
+{
+    printf("%s", title);
+    for (int i = from; i <= to; i++)
+        printf(" %s %" PRIu64 "%s", vector_met[i].name, vector_met[i].count, i < to ? "," : "\n");
+}
+
+static void vector_table(void)
+{
+    vector_line("exception 6:", INDEX_LOW, OTHER_KIND);
+    vector_line("80 to 85, raised:", INDEX_WRAPS, WORD_SHORT);
+    vector_line("80 to 85, done:", FIT_EXACT, VALUE_NIL);
+    vector_line("32 and 33 on vectors:", PLAIN_BOUND, POINTERS_SET);
 }
 
 static void table(void)
@@ -1680,10 +2227,10 @@ static void table(void)
            ", 64 procedures and passed: %" PRIu64 ", 65 procedures refused as 4: %" PRIu64 "\n",
            edges[0], edges[1], edges[4], edges[2], edges[3]);
     printf("damage between calls:");
-    for (int i = 0; i < 15; i++) {
-        bool twice = i + 1 < 15 && !strcmp(damage_name[i], damage_name[i + 1]);
+    for (int i = 0; i < 16; i++) {
+        bool twice = i + 1 < 16 && !strcmp(damage_name[i], damage_name[i + 1]);
         printf(" %s %" PRIu64 "%s", damage_name[i], damages[i] + (twice ? damages[i + 1] : 0),
-               i < 14 ? "," : "\n");
+               i < 15 ? "," : "\n");
         i += twice;
     }
     printf("%-12s %12s %12s %12s\n", "answer", "check", "start", "run");
@@ -1695,9 +2242,10 @@ static void table(void)
                refusals[0][k], refusals[1][k], refusals[2][k]);
     heap_table();
     printf("uncaught codes:");
-    for (int k = 1; k <= 5; k++)
+    for (int k = 1; k <= 6; k++)
         printf(" %d: %" PRIu64 ",", k, raised[k]);
-    printf(" others: %" PRIu64 "\n", raised[6]);
+    printf(" others: %" PRIu64 "\n", raised[7]);
+    vector_table();
     printf("single steps by code:");
     for (int k = 1; k < 256; k++)
         if (stepped[k] > 0)
@@ -1731,8 +2279,10 @@ static bool all_met(void)
     for (int call = CHECK; call <= RUN; call++)
         for (int k = 1; k <= (call == CHECK ? 9 : 12); k++)
             all = met_number(by[call], k, refusals[call][k]) && all;
-    for (int k = 1; k <= 5; k++)
+    for (int k = 1; k <= 6; k++)
         all = met_number("uncaught", k, raised[k]) && all;
+    for (int i = 0; i < VECTOR_COUNTERS; i++)
+        all = met("vectors", vector_met[i].name, vector_met[i].count) && all;
     for (size_t i = 0; i < sizeof kinds; i++)
         if (kinds[i] != 240)
             all = met_number("single step", kinds[i], stepped[kinds[i]]) && all;
@@ -1740,7 +2290,7 @@ static bool all_met(void)
         all = met("refused 11", heap_met[i].name, heap_met[i].count) && all;
     for (int i = 0; i < 7; i++)
         all = met("files", made_name[i], made[i]) && all;
-    for (int i = 0; i < 15; i++)
+    for (int i = 0; i < 16; i++)
         all = met("damage", damage_name[i], damages[i]) && all;
     for (int i = 0; i < 5; i++)
         all = met("files", edge[i], edges[i]) && all;

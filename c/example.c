@@ -22,30 +22,32 @@ static uint8_t registers[YALGOVIM_REGISTERS];
 #define LENGTH(list) (sizeof(list) / sizeof *(list))
 
 /*
- * The sample: needles used in turn. A view (count, needle) hangs on the root;
- * 88 times the count goes up and the needle is count rem 6; the answer is the
- * last needle. A handler gives -1 if anything goes wrong.
+ * The sample: needles used in turn. A vector hangs on the root, with the uses
+ * of needles 0 to 5; 88 times the needle is count rem 6, and its uses go up;
+ * the answer is the uses of the last needle. A handler gives -1 if anything
+ * goes wrong. Main words 0 and 1 are the count and the needle.
  */
 static const uint8_t sample[] = {
-    /*  0 */ 240, 0, 0, 1, 0, 4, 2,
-    /*  7 */ 160, 0, 59,          /* handler at 59 */
-    /* 10 */ 54, 0, 54, 0,        /* count, needle */
-    /* 14 */ 36, 0, 2, 0, 0,      /* form: words 2 and 3 */
-    /* 19 */ 59,                  /* setRoot */
-    /* 20 */ 58, 30, 0, 2,        /* count */
-    /* 24 */ 54, 1, 140,          /* + 1 */
-    /* 27 */ 20, 0, 0,            /* twice */
-    /* 30 */ 58, 32, 0, 2,        /* back into the view */
-    /* 34 */ 54, 6, 145,          /* rem 6 */
-    /* 37 */ 58, 32, 0, 3,        /* the needle */
-    /* 41 */ 58, 30, 0, 2,
-    /* 45 */ 54, 88, 195,         /* count < 88 */
-    /* 48 */ 4, 0, 31,            /* again from 20 */
-    /* 51 */ 58, 30, 0, 3,
-    /* 55 */ 161,
-    /* 56 */ 1, 0, 7,             /* to 66 */
-    /* 59 */ 64, 0, 1, 0, 0, 54, 255,
-    /* 66 */ 73
+    /*  0 */ 240, 0, 0, 1, 0, 4, 1,
+    /*  7 */ 160, 0, 76,              /* handler at 76 */
+    /* 10 */ 54, 0, 54, 6, 54, 0, 80, /* vector: bound 0, length 6, all 0 */
+    /* 17 */ 59,                      /* setRoot */
+    /* 18 */ 54, 0, 54, 0,            /* count, needle */
+    /* 22 */ 20, 0, 0, 54, 6, 145,    /* count rem 6 */
+    /* 28 */ 22, 0, 1,                /* is the needle */
+    /* 31 */ 20, 0, 1, 58, 82,        /* its uses */
+    /* 36 */ 54, 1, 140,              /* + 1 */
+    /* 39 */ 20, 0, 1, 58, 84,        /* back into the vector */
+    /* 44 */ 20, 0, 0, 54, 1, 140,
+    /* 50 */ 22, 0, 0,                /* count + 1 */
+    /* 53 */ 20, 0, 0, 54, 88, 195,   /* count < 88 */
+    /* 59 */ 4, 0, 40,                /* again from 22 */
+    /* 62 */ 20, 0, 1, 58, 82,        /* the last needle's uses */
+    /* 67 */ 60, 0, 2, 0, 0,          /* alone */
+    /* 72 */ 161,
+    /* 73 */ 1, 0, 7,                 /* to 83 */
+    /* 76 */ 64, 0, 1, 0, 0, 54, 255,
+    /* 83 */ 73
 };
 
 static const char *refusal_words(uint32_t number)
@@ -76,6 +78,7 @@ static const char *exception_words(uint32_t code)
     case YALGOVIM_NO_SUCH_WORD: return "the object has no such word";
     case YALGOVIM_HEAP_FULL: return "the heap is full";
     case YALGOVIM_NO_ROOM: return "a stack is full";
+    case YALGOVIM_OUTSIDE_VECTOR: return "not a vector of this kind, or an index or length out of range";
     default: return "raised by the routine itself";
     }
 }

@@ -6,6 +6,7 @@ build=$1
 library=$2
 bad=0
 mkdir -p "$build"
+${CC:-gcc} -std=c11 -O2 -w -c -o "$build/fault_compare.o" compare.c || exit 1
 
 # name, the text to be replaced, the text put in its place (sed)
 plant() {
@@ -16,7 +17,7 @@ plant() {
         bad=1
         return
     fi
-    ${CC:-gcc} -std=c11 -O2 -w -I. -o "$build/fault" compare.c "$copy" "$library" || exit 1
+    ${CC:-gcc} -std=c11 -O2 -w -I. -o "$build/fault" "$build/fault_compare.o" "$copy" "$library" || exit 1
     "$build/fault" 1 100000 >"$build/fault.txt" 2>&1
     case $? in
     0 | 2) # 2: no difference, and something not met
@@ -69,6 +70,94 @@ plant "the root judged after the free words" \
 plant "the root not judged" 's/^        return 1;/        (void)objects;/'
 plant "the heap's last free word not judged" \
     's/while (i < heap_len \&\& heap\[i\] == 0)/while (i < heap_len \&\& (heap[i] == 0 || i + 1 == heap_len))/'
+# Order 2, making a vector: the popping order, 6 before 4, the fit, the object made,
+plant "80 pops the length before the value" 's/PLAIN, value, length, bound)/PLAIN, length, value, bound)/'
+plant "80 pops the bound before the length" 's/PLAIN, value, length, bound)/PLAIN, value, bound, length)/'
+plant "81 pops the bound before the length" 's/POINTERS, value, length, bound)/POINTERS, value, bound, length)/'
+plant "a negative length raises 4" '/^static uint32_t make_vector/,/^}/s/REF_OUTSIDE_VECTOR/REF_HEAP_FULL/'
+plant "a full heap raises 4 before a negative length 6" 's/^    if (whole(length) < 0)/    if (heap_len - at < 3)\
+        return REF_HEAP_FULL;\
+&/'
+plant "length 0 raises 6" 's/^    if (whole(length) < 0)/    if (whole(length) <= 0)/'
+plant "an exact fit of a vector raises 4" 's/heap_len - at < 3 + (size_t)length/heap_len - at <= 3 + (size_t)length/'
+plant "the room for a vector reckoned in 32 bits" \
+    's/heap_len - at < 3 + (size_t)length/(int64_t)(heap_len - at) < whole(3 + length)/'
+plant "bound + length past the range raises 6" \
+    's/^    if (whole(length) < 0)/    if (whole(length) < 0 || (int64_t)whole(bound) + length > INT32_MAX)/'
+plant "a header written before 4" 's/^    if (heap_len - at < 3 + (size_t)length)/    if (at < heap_len)\
+        heap[at] = kind << 24;\
+&/'
+plant "a nil value of 81 raises 2" '/case PVECTOR: {/,/break;/s/if (exception != 0)/exception = exception == 0 \&\& value == 0 ? 2 : exception;\
+            &/'
+plant "the last element not filled" 's/i < first + length/i + 1 < first + length/'
+plant "the first element not filled" 's/size_t i = first;/size_t i = first + 1;/'
+plant "a pointer vector's bound before its elements" 's/^    heap\[at + 2 + pointers\] = bound;/    heap[at + 2] = bound;/
+    s/^    size_t first = .*/    size_t first = at + 3;/'
+plant "a pointer vector's elements not counted in its header" 's/^    heap\[at\] = kind << 24 | pointers;/    heap[at] = kind << 24;/'
+plant "a new vector's bound beyond the mark" 's/heap\[0\] = (uint32_t)at + 3 + length;/heap[0] = (uint32_t)at + 2 + length;/'
+# an element: the popping order, nil before 6, the kind, the index,
+plant "84 pops the value before the index" '/case WELEMENTSET: {/,/break;/{
+    s/mt - 1u/mt - 2u/
+    s/^            pop(main_stack, main_len, &mt);/            uint32_t value = pop(main_stack, main_len, \&mt);/
+    s/put(heap, heap_len, at, pop(main_stack, main_len, &mt));/pop(main_stack, main_len, \&mt);\
+            put(heap, heap_len, at, value);/
+    }'
+plant "85 pops the value before the vector" '/case PELEMENTSET: {/,/break;/{
+    s/pt - 1u/pt - 2u/
+    s/^            pop(ptr_stack, ptr_len, &pt);/            uint32_t value = pop(ptr_stack, ptr_len, \&pt);/
+    s/put(heap, heap_len, at, pop(ptr_stack, ptr_len, &pt));/pop(ptr_stack, ptr_len, \&pt);\
+            put(heap, heap_len, at, value);/
+    }'
+plant "a nil value of 85 raises 2" '/case PELEMENTSET: {/,/break;/s/if (exception != 0)/if (ptr_stack[pt - 2] == 0)\
+                exception = REF_NIL_OBJECT;\
+            &/'
+plant "a nil vector raises 6" '/^static inline uint32_t find_element/,/^}/s/vector == 0/vector == 0 \&\& 0/'
+plant "nil tested after the index" '/^static inline uint32_t find_element/,/^}/s/if (vector == 0)/if (vector == 0 \&\& whole(index) < 0)/'
+plant "82 reads a pointer vector" '/case WELEMENT: {/,/break;/s/PLAIN/PLAIN + (heap[ptr_stack[pt - 1]] >> 24 == POINTERS)/'
+plant "83 reads a plain vector" '/case PELEMENT: {/,/break;/s/POINTERS/POINTERS - (heap[ptr_stack[pt - 1]] >> 24 == PLAIN)/'
+plant "84 writes a pointer vector" '/case WELEMENTSET: {/,/break;/s/PLAIN/PLAIN + (heap[ptr_stack[pt - 1]] >> 24 == POINTERS)/'
+plant "85 writes a plain vector" '/case PELEMENTSET: {/,/break;/s/POINTERS/POINTERS - (heap[ptr_stack[pt - 1]] >> 24 == PLAIN)/'
+plant "a view taken for a vector" 's/if (header >> 24 != kind)/if (header >> 24 != kind \&\& (header >> 24 != VIEW || heap[vector + 1] < 4))/'
+plant "an index one below the bound let pass" 's/past < 0 || past >= length/past < -1 || past >= length/'
+plant "an index one past the last element let pass" 's/past < 0 || past >= length/past < 0 || past > length/'
+plant "the first element out of reach" 's/past < 0 || past >= length/past < 1 || past >= length/'
+plant "the last element out of reach" 's/past < 0 || past >= length/past < 0 || past + 1 >= length/'
+plant "the index less the bound wraps" 's/int64_t past = .*/int64_t past = whole(index - bound);/'
+plant "the bound taken as unsigned" 's/int64_t past = .*/int64_t past = (int64_t)whole(index) - bound;/'
+# 30 to 33 on vectors,
+plant "32 sets a plain vector's bound" 's/header >> 24 != VIEW \&\& s ==/header >> 24 == POINTERS \&\& s ==/'
+plant "32 sets a pointer vector's bound" 's/header >> 24 != VIEW \&\& s ==/header >> 24 == PLAIN \&\& s ==/'
+plant "32 barred on an element" 's/header >> 24 != VIEW \&\& s ==/header >> 24 != VIEW \&\& s >=/'
+plant "32 barred on a view's first plain word" 's/header >> 24 != VIEW \&\& s ==/s ==/'
+plant "30 barred on a bound" 's/(file\[place\] == WSET \&\& is_bound(header, s))/is_bound(header, s)/'
+plant "33 barred on an element" \
+    's/s < 2 || s >= 2 + pointers)/s < 2 || s >= 2 + pointers || (file[place] == PSET \&\& heap[object] >> 24 == POINTERS))/'
+plant "31 barred on an element" \
+    's/s < 2 || s >= 2 + pointers)/s < 2 || s >= 2 + pointers || (file[place] == PFIELD \&\& heap[object] >> 24 == POINTERS))/'
+# the words that count as popped,
+plant "80 counted as popping two words" '/case WVECTOR: \/\*/,/break;/s/main_pop = 3/main_pop = 2/'
+plant "the value of 81 not counted as popped" '/case PVECTOR: \/\*/,/break;/s/ptr_p[a-z]* = 1/ptr_pop = 0/'
+plant "the index of 82 not counted as popped" '/case WELEMENT: \/\*/,/break;/s/main_p[a-z]* = 1/main_pop = 0/'
+plant "the vector of 83 not counted as popped" '/case PELEMENT:$/,/break;/s/ptr_p[a-z]* = 1/ptr_pop = 0/'
+plant "the value of 84 not counted as popped" '/case WELEMENTSET: \/\*/,/break;/s/main_pop = 2/main_pop = 1/'
+plant "the value of 85 not counted as popped" '/case PELEMENTSET: \/\*/,/break;/s/ptr_pop = 2/ptr_pop = 1/'
+# and the heap's audit.
+plant "a plain vector with pointer words let pass" 's/(kind == PLAIN \&\& pointers > 0)/0/'
+plant "pointer words of a plain vector named by its size word" 's/(kind == PLAIN \&\& pointers > 0)/0/
+    s/(kind == PLAIN \&\& size < 3)/(kind == PLAIN \&\& (size < 3 || pointers > 0))/'
+plant "the same only if the size is bad too" 's/^        if (bad_header(heap, mark, at)) {/\
+        if (bad_header(heap, mark, at)\
+            \&\& (heap[at] >> 24 != PLAIN || at + 1 >= mark || !bad_size(heap, mark, at))) {/'
+plant "a plain vector of size 2 let pass" 's/(kind == PLAIN \&\& size < 3)/0/'
+plant "a plain vector of size 2 named by its header" 's/(kind == PLAIN \&\& pointers > 0)/(kind == PLAIN \&\& (pointers > 0 || (at + 1 < mark \&\& heap[at + 1] == 2)))/'
+plant "a plain vector of length 0 refused" 's/(kind == PLAIN \&\& size < 3)/(kind == PLAIN \&\& size < 4)/'
+plant "a pointer vector's size not tested" 's/(kind == POINTERS \&\& size != 3 + pointers)/0/'
+plant "a pointer vector a word short let pass" 's/size != 3 + pointers/size > 3 + pointers/'
+plant "a pointer vector a word long let pass" 's/size != 3 + pointers/size < 3 + pointers/'
+plant "a pointer vector's size named by its header" 's/(kind == PLAIN \&\& pointers > 0)/(kind == PLAIN \&\& pointers > 0) || (kind == POINTERS \&\& at + 1 < mark \&\& heap[at + 1] != 3 + pointers)/'
+plant "kind 4 let pass" 's/kind > POINTERS/kind > 4/'
+plant "a pointer vector's elements not judged" 's/^        size_t plain = at + 2 + (heap\[at\] \& 0xffffffu);/        size_t plain = at + 2 + (heap[at] >> 24 == POINTERS ? 0 : heap[at] \& 0xffffffu);/'
+plant "a pointer vector's bound judged as a pointer" 's/^        size_t plain = at + 2 + (heap\[at\] \& 0xffffffu);/        size_t plain = at + 2 + (heap[at] \& 0xffffffu) + (heap[at] >> 24 == POINTERS);/'
 # The rest.
 plant "wrong place of an uncaught exception" 's/REF_UNCAUGHT, exception, place, steps/REF_UNCAUGHT, exception, place + 1, steps/'
 plant "a popped word not zeroed" 's/^    list\[\*top\] = 0;/    (void)list;/'

@@ -24,6 +24,8 @@ enum {
     LLINT = 54, LLWORD = 56, LNIL = 57, ROOT = 58, SETROOT = 59,
     WRETRACT = 60, PRETRACT = 62, RETRACT = 64,
     CALL = 72, RETURN = 73,
+    WVECTOR = 80, PVECTOR = 81, WELEMENT = 82, PELEMENT = 83,
+    WELEMENTSET = 84, PELEMENTSET = 85,
     EQW = 130, EQP = 131,
     PLUS = 140, TIMES = 141, MINUS = 142, DIV = 143, NEG = 144, REM = 145,
     NOT = 146,
@@ -31,6 +33,9 @@ enum {
     LT = 195, LE = 198, GT = 201, GE = 204,
     HEAD = 240
 };
+
+/* Kinds of objects: a view, a plain vector, a pointer vector (order 2). */
+enum { VIEW = 1, PLAIN = 2, POINTERS = 3 };
 
 /* Words of a control record: a frame's, a handler's. */
 enum { F_MAIN = 0, F_PTR = 1, F_PROC = 2, F_RETURN = 3, F_CALLER = 4 };
@@ -45,6 +50,8 @@ static const uint8_t record_len[256] = {
     [LLINT] = 2, [LLWORD] = 5, [LNIL] = 1, [ROOT] = 1, [SETROOT] = 1,
     [WRETRACT] = 5, [PRETRACT] = 5, [RETRACT] = 5,
     [CALL] = 3, [RETURN] = 1,
+    [WVECTOR] = 1, [PVECTOR] = 1, [WELEMENT] = 1, [PELEMENT] = 1,
+    [WELEMENTSET] = 1, [PELEMENTSET] = 1,
     [EQW] = 1, [EQP] = 1,
     [PLUS] = 1, [TIMES] = 1, [MINUS] = 1, [DIV] = 1, [NEG] = 1, [REM] = 1,
     [NOT] = 1,
@@ -266,6 +273,33 @@ static effect effect_of(const uint8_t *file, const layout *lay, size_t at)
         e.ptr_push = h[4];
         break;
     }
+    case WVECTOR: /* value, length, bound */
+        e.main_pop = 3;
+        e.ptr_push = 1;
+        break;
+    case PVECTOR: /* a pointer; length, bound */
+        e.main_pop = 2;
+        e.ptr_pop = 1;
+        e.ptr_push = 1;
+        break;
+    case WELEMENT: /* vector; index */
+        e.main_pop = 1;
+        e.ptr_pop = 1;
+        e.main_push = 1;
+        break;
+    case PELEMENT:
+        e.main_pop = 1;
+        e.ptr_pop = 1;
+        e.ptr_push = 1;
+        break;
+    case WELEMENTSET: /* vector; index, value */
+        e.main_pop = 2;
+        e.ptr_pop = 1;
+        break;
+    case PELEMENTSET: /* vector, value; index */
+        e.main_pop = 1;
+        e.ptr_pop = 2;
+        break;
     case EQW: case LT: case LE: case GT: case GE:
     case PLUS: case TIMES: case MINUS: case DIV: case REM:
         e.main_pop = 2;
@@ -450,19 +484,32 @@ static bool is_pointer(uint32_t word, const uint8_t *objects, size_t heap_len)
     return word == 0 || (word < heap_len && objects[word] != 0);
 }
 
-/* Order 1, the walk: a header of unknown kind or without a size word below the mark. */
+/*
+ * Order 1, the walk: a header of unknown kind or without a size word below
+ * the mark. Order 2: or of a plain vector with pointer words.
+ */
 static bool bad_header(const uint32_t *heap, size_t mark, size_t at)
 {
-    return heap[at] >> 24 != 1 || at + 1 >= mark;
+    uint32_t kind = heap[at] >> 24, pointers = heap[at] & 0xffffffu;
+    return kind < VIEW || kind > POINTERS || (kind == PLAIN && pointers > 0)
+        || at + 1 >= mark;
+}
+
+/* Order 2: a vector has its lower bound, one of pointers no more plain words. */
+static bool wrong_for_kind(uint32_t kind, uint32_t pointers, uint32_t size)
+{
+    return (kind == PLAIN && size < 3) || (kind == POINTERS && size != 3 + pointers);
 }
 
 /*
- * Order 1, the walk: a size word below 2 plus the pointer words or running
- * past the mark. None is wrong for its kind: kind 1 has no rule of its own.
+ * Order 1, the walk: a size word below 2 plus the pointer words, running
+ * past the mark or wrong for its kind.
  */
 static bool bad_size(const uint32_t *heap, size_t mark, size_t at)
 {
-    return heap[at + 1] < 2 + (heap[at] & 0xffffffu) || heap[at + 1] > mark - at;
+    uint32_t pointers = heap[at] & 0xffffffu, size = heap[at + 1];
+    return size < 2 + pointers || size > mark - at
+        || wrong_for_kind(heap[at] >> 24, pointers, size);
 }
 
 /*
@@ -721,6 +768,60 @@ ref_reply ref_start(const uint8_t *file, size_t file_len,
     return answer(REF_READY, 0, 0, 0);
 }
 
+/* ---- vectors (order 2) ---- */
+
+/* The plain part begins with the lower bound. */
+static inline bool is_bound(uint32_t header, uint32_t s)
+{
+    return header >> 24 != VIEW && s == 2 + (header & 0xffffffu);
+}
+
+/*
+ * 80, 81: 6 for a negative length, then 4; 0 and a new vector at the old mark
+ * otherwise. Its size is 3 + length in both kinds.
+ */
+static uint32_t make_vector(uint32_t *heap, size_t heap_len, uint32_t kind,
+                            uint32_t value, uint32_t length, uint32_t bound)
+{
+    size_t at = heap[0];
+    if (whole(length) < 0)
+        return REF_OUTSIDE_VECTOR;
+    if (heap_len - at < 3 + (size_t)length)
+        return REF_HEAP_FULL;
+    uint32_t pointers = kind == POINTERS ? length : 0;
+    size_t first = at + (kind == PLAIN ? 3 : 2);
+    heap[0] = (uint32_t)at + 3 + length;
+    heap[at] = kind << 24 | pointers;
+    heap[at + 1] = 3 + length;
+    heap[at + 2 + pointers] = bound;
+    for (size_t i = first; i < first + length; i++)
+        heap[i] = value;
+    return 0;
+}
+
+/*
+ * 82 to 85: 2 for nil, then 6 for an object of another kind or an index
+ * outside the vector; 0 and the element's heap index otherwise. The index less
+ * the bound is a whole number: it does not wrap.
+ */
+static inline uint32_t find_element(const uint32_t *heap, size_t heap_len, uint32_t kind,
+                                    uint32_t vector, uint32_t index, size_t *at)
+{
+    if (vector == 0)
+        return REF_NIL_OBJECT;
+    uint32_t header = get(heap, heap_len, vector);
+    if (header >> 24 != kind)
+        return REF_OUTSIDE_VECTOR;
+    uint32_t pointers = header & 0xffffffu;
+    uint32_t bound = get(heap, heap_len, (size_t)vector + 2 + pointers);
+    uint32_t length = get(heap, heap_len, (size_t)vector + 1) - 3;
+    int64_t past = (int64_t)whole(index) - whole(bound);
+    if (past < 0 || past >= length)
+        return REF_OUTSIDE_VECTOR;
+    *at = vector + (kind == PLAIN ? 3u : 2u) + (size_t)past;
+    return 0;
+}
+
 /* ---- run ---- */
 
 ref_reply ref_run(const uint8_t *file, size_t file_len,
@@ -834,7 +935,7 @@ ref_reply ref_run(const uint8_t *file, size_t file_len,
             break;
         }
 
-        /* s counts from the header; 2 for nil comes before 3 */
+        /* s counts from the header; 2 for nil comes before 3; wSet on a bound raises 3 */
         case WFIELD: case WSET: {
             uint32_t s = operand_at(file, file_len, place + 1);
             uint32_t object = get(ptr_stack, ptr_len, pt - 1u);
@@ -842,8 +943,9 @@ ref_reply ref_run(const uint8_t *file, size_t file_len,
                 exception = REF_NIL_OBJECT;
                 goto raise;
             }
-            uint32_t pointers = get(heap, heap_len, object) & 0xffffffu;
-            if (s < 2 + pointers || s >= get(heap, heap_len, (size_t)object + 1)) {
+            uint32_t header = get(heap, heap_len, object);
+            if (s < 2 + (header & 0xffffffu) || s >= get(heap, heap_len, (size_t)object + 1)
+                || (file[place] == WSET && is_bound(header, s))) {
                 exception = REF_NO_SUCH_WORD;
                 goto raise;
             }
@@ -898,6 +1000,82 @@ ref_reply ref_run(const uint8_t *file, size_t file_len,
             cut(ptr_stack, ptr_len, &pt, pt - pointers);
             push(ptr_stack, ptr_len, &pt, object);
             place += 5;
+            break;
+        }
+
+        /* pops initial value, length, lower bound */
+        case WVECTOR: {
+            uint32_t value = get(main_stack, main_len, mt - 1u);
+            uint32_t length = get(main_stack, main_len, mt - 2u);
+            uint32_t bound = get(main_stack, main_len, mt - 3u);
+            uint32_t object = heap[0];
+            exception = make_vector(heap, heap_len, PLAIN, value, length, bound);
+            if (exception != 0)
+                goto raise;
+            cut(main_stack, main_len, &mt, mt - 3u);
+            push(ptr_stack, ptr_len, &pt, object);
+            place += 1;
+            break;
+        }
+        case PVECTOR: {
+            uint32_t value = get(ptr_stack, ptr_len, pt - 1u);
+            uint32_t length = get(main_stack, main_len, mt - 1u);
+            uint32_t bound = get(main_stack, main_len, mt - 2u);
+            uint32_t object = heap[0];
+            exception = make_vector(heap, heap_len, POINTERS, value, length, bound);
+            if (exception != 0)
+                goto raise;
+            cut(main_stack, main_len, &mt, mt - 2u);
+            put(ptr_stack, ptr_len, pt - 1u, object);
+            place += 1;
+            break;
+        }
+        /* pops vector, index */
+        case WELEMENT: {
+            size_t at = 0;
+            exception = find_element(heap, heap_len, PLAIN, get(ptr_stack, ptr_len, pt - 1u),
+                                     get(main_stack, main_len, mt - 1u), &at);
+            if (exception != 0)
+                goto raise;
+            pop(ptr_stack, ptr_len, &pt);
+            put(main_stack, main_len, mt - 1u, get(heap, heap_len, at));
+            place += 1;
+            break;
+        }
+        case PELEMENT: {
+            size_t at = 0;
+            exception = find_element(heap, heap_len, POINTERS, get(ptr_stack, ptr_len, pt - 1u),
+                                     get(main_stack, main_len, mt - 1u), &at);
+            if (exception != 0)
+                goto raise;
+            pop(main_stack, main_len, &mt);
+            put(ptr_stack, ptr_len, pt - 1u, get(heap, heap_len, at));
+            place += 1;
+            break;
+        }
+        /* pops vector, index, value */
+        case WELEMENTSET: {
+            size_t at = 0;
+            exception = find_element(heap, heap_len, PLAIN, get(ptr_stack, ptr_len, pt - 1u),
+                                     get(main_stack, main_len, mt - 1u), &at);
+            if (exception != 0)
+                goto raise;
+            pop(ptr_stack, ptr_len, &pt);
+            pop(main_stack, main_len, &mt);
+            put(heap, heap_len, at, pop(main_stack, main_len, &mt));
+            place += 1;
+            break;
+        }
+        case PELEMENTSET: {
+            size_t at = 0;
+            exception = find_element(heap, heap_len, POINTERS, get(ptr_stack, ptr_len, pt - 1u),
+                                     get(main_stack, main_len, mt - 1u), &at);
+            if (exception != 0)
+                goto raise;
+            pop(ptr_stack, ptr_len, &pt);
+            pop(main_stack, main_len, &mt);
+            put(heap, heap_len, at, pop(ptr_stack, ptr_len, &pt));
+            place += 1;
             break;
         }
 

@@ -26,7 +26,8 @@ enum {
     REF_NIL_OBJECT = 2,
     REF_NO_SUCH_WORD = 3,
     REF_HEAP_FULL = 4,
-    REF_NO_ROOM = 5
+    REF_NO_ROOM = 5,
+    REF_OUTSIDE_VECTOR = 6
 };
 
 typedef struct {

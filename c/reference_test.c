@@ -431,8 +431,8 @@ static void test_start(void)
 /* Body lengths by kind; -1 is unknown. */
 static int body_of(int kind)
 {
-    static const int none[] = { 57, 58, 59, 73, 130, 131, 140, 141, 142, 143, 144, 145, 146,
-                                161, 162, 195, 198, 201, 204 };
+    static const int none[] = { 57, 58, 59, 73, 80, 81, 82, 83, 84, 85, 130, 131, 140, 141, 142,
+                                143, 144, 145, 146, 161, 162, 195, 198, 201, 204 };
     static const int two[] = { 1, 2, 3, 4, 5, 6, 20, 21, 22, 23, 30, 31, 32, 33, 72, 160 };
     static const int four[] = { 36, 56, 60, 62, 64 };
     for (size_t i = 0; i < sizeof none / sizeof none[0]; i++)
@@ -725,6 +725,12 @@ static const depth_row depth_rows[] = {
     { { 64, 0, 2, 0, 1 }, 5, 2, 1, 2, 1, 0, 0 },
     { { 64, 0, 0, 0, 0 }, 5, 0, 0, 0, 0, 0, 0 },
     { { 72, 0, 2 }, 3, 1, 2, 1, 2, 3, 1 },
+    { { 80 }, 1, 3, 0, 3, 0, 0, 1 },
+    { { 81 }, 1, 2, 1, 2, 1, 0, 1 },
+    { { 82 }, 1, 1, 1, 1, 1, 1, 0 },
+    { { 83 }, 1, 1, 1, 1, 1, 0, 1 },
+    { { 84 }, 1, 2, 1, 2, 1, 0, 0 },
+    { { 85 }, 1, 1, 2, 1, 2, 0, 0 },
     { { 130 }, 1, 2, 0, 2, 0, 1, 0 },
     { { 131 }, 1, 0, 2, 0, 2, 1, 0 },
     { { 195 }, 1, 2, 0, 2, 0, 1, 0 },
@@ -1739,8 +1745,9 @@ static ref_reply judge_deep_heap(const rig *sound, int list, size_t i, uint32_t 
         at = (uint32_t)i;
         break;
     case 2: case 6:
-        /* kind 1 with up to two pointer words: words 5 and 9 hold 2 and 6 */
-        if (v >= 0x01000000u && v <= 0x01000002u)
+        /* kind 1 with up to two pointer words: words 5 and 9 hold 2 and 6;
+           or a pointer vector of one element */
+        if ((v >= 0x01000000u && v <= 0x01000002u) || v == 0x03000001u)
             return sound_reply(sound);
         at = v >= 0x01000000u && v <= 0x01ffffffu ? (uint32_t)i + 1 : (uint32_t)i;
         break;
@@ -2058,10 +2065,10 @@ static void test_heap(void)
     HEAP_CASE(1, 4, 4, v, 2);
     HEAP_CASE(2, 4, 0, 0, 2);
     HEAP_CASE(2, 4, 0, 1, 2);
-    HEAP_CASE(2, 4, 0, 0x02000000, 2);
+    HEAP_CASE(2, 4, 0, 0x04000000, 2);
     HEAP_CASE(2, 4, 0, 0x81000000u, 2);
     HEAP_CASE(2, 4, 0, 0xffffffffu, 2);
-    HEAP_CASE(2, 4, 9, 0x02000000, 0, 7); /* the walk comes before root and rest */
+    HEAP_CASE(2, 4, 9, 0x04000000, 0, 7); /* the walk comes before root and rest */
     /* size words */
     HEAP_CASE(3, 4, 0, v, 0);
     HEAP_CASE(3, 4, 0, v, 1);
@@ -2074,9 +2081,9 @@ static void test_heap(void)
     HEAP_CASE(3, 5, 0, v + 2, 3, 0);
     HEAP_CASE(3, 4, 9, v, 1, 7); /* the walk comes before root and rest */
     /* header and size word both bad: the header comes first */
-    HEAP_CASE(2, 4, 0, 0x02000000, 1); /* below 2 */
+    HEAP_CASE(2, 4, 0, 0x04000000, 1); /* below 2 */
     HEAP_CASE(2, 4, 0, 0, 3); /* past the mark */
-    HEAP_CASE(2, 4, 0, 0x02000001, 2); /* below 2 + 1 */
+    HEAP_CASE(2, 4, 0, 0x04000001, 2); /* below 2 + 1 */
     /* two objects at fault: the walk ends at the first */
     HEAP_CASE(2, 6, 0, 0, 2, 0, 2); /* headers 2 and 4 */
     HEAP_CASE(2, 6, 0, 0, 2, v, 3); /* header 2, size word 5 */
@@ -2247,6 +2254,575 @@ static void test_sound(void)
     rig_free(&g);
 }
 
+/* ---- order 2: vectors ---- */
+
+typedef struct {
+    const uint32_t *w;
+    size_t n;
+} words;
+
+#define W(...) ((words){ (const uint32_t[]){ __VA_ARGS__ }, \
+                         sizeof((const uint32_t[]){ __VA_ARGS__ }) / 4 })
+#define NO_WORDS ((words){ NULL, 0 })
+
+/* Right before one instruction, with these stacks and this heap; a handler at depth 0 or none. */
+static rig before_code(int line, bool caught, words m, words p, words heap,
+                       const uint8_t *code, size_t size)
+{
+    /* 7 the handler, the pushes, the code, bjump 3; the target: bjump 3 */
+    uint8_t f[64] = { 240, 0, 0, 0, 0, (uint8_t)(m.n + 1), (uint8_t)(p.n + 1) };
+    size_t n = 7, target = 7 + 3 + 2 * m.n + p.n + size + 3;
+    if (caught) {
+        memcpy(f + n, (const uint8_t[]){ 160, 0, (uint8_t)target }, 3);
+        n += 3;
+    }
+    for (size_t i = 0; i < m.n; i++, n += 2)
+        f[n] = 54;
+    for (size_t i = 0; i < p.n; i++, n++)
+        f[n] = 57;
+    memcpy(f + n, code, size);
+    n += size;
+    for (int i = 0; i < (caught ? 2 : 1); i++, n += 3)
+        memcpy(f + n, (const uint8_t[]){ 3, 0, 3 }, 3);
+    rig g = rig_new(f, n, 3 * n, m.n + 1, p.n + 1, 10, heap.n, 28);
+    uint32_t steps = (uint32_t)(m.n + p.n) + caught;
+    expect(is(do_start(&g), REF_READY, 0, 0, 0), line, "ready");
+    expect(is(do_run(&g, steps), REF_SPENT, 0, 0, steps), line, "the pushes");
+    copy(g.list[MAIN], m.w, m.n * 4);
+    copy(g.list[PTR], p.w, p.n * 4);
+    copy(g.list[HEAP], heap.w, heap.n * 4);
+    expect_sound(line, &g);
+    return g;
+}
+
+/* The instruction's step leaves these, under an open handler too. */
+static void gives(int line, words m, words p, words heap, words m_after, words p_after,
+                  words heap_after, const uint8_t *code, size_t size)
+{
+    for (int caught = 0; caught < 2; caught++) {
+        rig g = before_code(line, caught, m, p, heap, code, size);
+        uint32_t place = reg_of(&g, PLACE);
+        expect(is(do_run(&g, 1), REF_SPENT, 0, 0, 1), line, "one step");
+        expect(list_is(&g, MAIN, m_after.w, m_after.n), line, "the main stack");
+        expect(list_is(&g, PTR, p_after.w, p_after.n), line, "the pointer stack");
+        expect(list_is(&g, HEAP, heap_after.w, heap_after.n), line, "the heap");
+        expect(reg_of(&g, MTOP) == m_after.n && reg_of(&g, PTOP) == p_after.n, line, "the tops");
+        expect(reg_of(&g, PLACE) == place + size, line, "the place");
+        expect_sound(line, &g);
+        rig_free(&g);
+    }
+}
+
+/* The instruction raises: uncaught nothing changes, caught no heap word. */
+static void raises(int line, uint32_t exception, words m, words p, words heap,
+                   const uint8_t *code, size_t size)
+{
+    rig g = before_code(line, false, m, p, heap, code, size);
+    rig before = rig_copy(&g);
+    ref_reply r = do_run(&g, 1);
+    bool ok = is(r, REF_UNCAUGHT, exception, reg_of(&before, PLACE), 0);
+    expect(ok, line, "uncaught");
+    if (!ok)
+        printf("    got: kind %" PRIu32 " number %" PRIu32 "\n", r.kind, r.number);
+    expect(same_rig(&g, &before), line, "the state stays");
+    rig_free(&g);
+    rig_free(&before);
+    g = before_code(line, true, m, p, heap, code, size);
+    uint32_t target = reg_of(&g, PLACE) + (uint32_t)size + 3;
+    expect(is(do_run(&g, 1), REF_SPENT, 0, 0, 1), line, "caught");
+    expect(list_is(&g, MAIN, &exception, 1) && list_is(&g, PTR, NULL, 0), line, "the stacks");
+    expect(list_is(&g, HEAP, heap.w, heap.n), line, "no heap word changes");
+    expect(reg_of(&g, PLACE) == target && reg_of(&g, HANDLER) == 0, line, "the target");
+    expect_sound(line, &g);
+    rig_free(&g);
+}
+
+#define GIVES_STEP(m, p, heap, m2, p2, heap2, ...) \
+    gives(__LINE__, m, p, heap, m2, p2, heap2, BYTES(__VA_ARGS__))
+#define RAISES_STEP(exception, m, p, heap, ...) \
+    raises(__LINE__, exception, m, p, heap, BYTES(__VA_ARGS__))
+
+enum { WV = 0x02000000, PV = 0x03000000, VV = 0x01000000 }; /* headers, 0 pointer words */
+#define LEAST 0x80000000u
+#define MOST 0x7fffffffu
+#define MINUS(n) (0u - (uint32_t)(n))
+
+/* 80: bound, length, value from below; 81: bound, length, and the value on the pointer stack. */
+static void test_make_vectors(void)
+{
+    /* bound 1, length 2, value 3 over a word 99 */
+    GIVES_STEP(W(99, 1, 2, 3), NO_WORDS, W(2, 0, 0, 0, 0, 0, 0, 0),
+               W(99), W(2), W(7, 0, WV, 5, 1, 3, 3), 80);
+    /* behind a view, the root kept; bound and value with their signs */
+    GIVES_STEP(W(MINUS(4), 1, LEAST), W(2), W(4, 2, VV, 2, 0, 0, 0, 0),
+               NO_WORDS, W(2, 4), W(8, 2, VV, 2, WV, 4, MINUS(4), LEAST), 80);
+    /* bound 5, length 2 over 99; the value, the view at 2, over nil */
+    GIVES_STEP(W(99, 5, 2), W(0, 2), W(4, 0, VV, 2, 0, 0, 0, 0, 0, 0),
+               W(99), W(0, 4), W(9, 0, VV, 2, PV + 2, 5, 2, 2, 5), 81);
+    /* a nil value is a value */
+    GIVES_STEP(W(3, 2), W(0), W(2, 0, 0, 0, 0, 0, 0),
+               NO_WORDS, W(2), W(7, 0, PV + 2, 5, 0, 0, 3), 81);
+    /* a pointer to a vector of either kind */
+    GIVES_STEP(W(0, 1), W(5), W(8, 0, WV, 3, 0, PV, 3, 0, 0, 0, 0, 0),
+               NO_WORDS, W(8), W(12, 0, WV, 3, 0, PV, 3, 0, PV + 1, 4, 5, 0), 81);
+
+    /* length 0: the bound alone */
+    GIVES_STEP(W(7, 0, 9), NO_WORDS, W(2, 0, 0, 0, 0), NO_WORDS, W(2), W(5, 0, WV, 3, 7), 80);
+    GIVES_STEP(W(7, 0), W(2), W(4, 0, VV, 2, 0, 0, 0),
+               NO_WORDS, W(4), W(7, 0, VV, 2, PV, 3, 7), 81);
+    /* bound + length may pass 2^31 */
+    GIVES_STEP(W(MOST, 3, 8), NO_WORDS, W(2, 0, 0, 0, 0, 0, 0, 0),
+               NO_WORDS, W(2), W(8, 0, WV, 6, MOST, 8, 8, 8), 80);
+    GIVES_STEP(W(MOST, 3), W(0), W(2, 0, 0, 0, 0, 0, 0, 0),
+               NO_WORDS, W(2), W(8, 0, PV + 3, 6, 0, 0, 0, MOST), 81);
+    GIVES_STEP(W(LEAST, 1, 8), NO_WORDS, W(2, 0, 0, 0, 0, 0),
+               NO_WORDS, W(2), W(6, 0, WV, 4, LEAST, 8), 80);
+    GIVES_STEP(W(LEAST, 1), W(0), W(2, 0, 0, 0, 0, 0),
+               NO_WORDS, W(2), W(6, 0, PV + 1, 4, 0, LEAST), 81);
+}
+
+/* 6 for a negative length, then 4. */
+static void test_vector_lengths(void)
+{
+    RAISES_STEP(6, W(1, MINUS(1), 3), NO_WORDS, W(2, 0, 0, 0, 0, 0, 0), 80);
+    RAISES_STEP(6, W(1, LEAST, 3), NO_WORDS, W(2, 0, 0, 0, 0, 0, 0), 80);
+    RAISES_STEP(6, W(1, MINUS(1)), W(0), W(2, 0, 0, 0, 0, 0, 0), 81);
+    RAISES_STEP(6, W(1, LEAST), W(0), W(2, 0, 0, 0, 0, 0, 0), 81);
+    RAISES_STEP(6, W(1, MINUS(3), 3), NO_WORDS, W(2, 0, 0), 80); /* 3 + length is 0 */
+    /* 6 before 4: no free word */
+    RAISES_STEP(6, W(1, MINUS(1), 3), NO_WORDS, W(2, 0), 80);
+    RAISES_STEP(6, W(1, LEAST), W(0), W(2, 0), 81);
+    /* a negative bound or value is no fault, and not taken for the length */
+    GIVES_STEP(W(MINUS(1), 1, MINUS(2)), NO_WORDS, W(2, 0, 0, 0, 0, 0),
+               NO_WORDS, W(2), W(6, 0, WV, 4, MINUS(1), MINUS(2)), 80);
+
+    /* 4: a word short, where the exact fit would be 3 + length */
+    RAISES_STEP(4, W(1, 2, 3), NO_WORDS, W(2, 0, 0, 0, 0, 0), 80);
+    RAISES_STEP(4, W(1, 2), W(0), W(2, 0, 0, 0, 0, 0), 81);
+    RAISES_STEP(4, W(1, 0, 3), NO_WORDS, W(2, 0, 0, 0), 80);
+    RAISES_STEP(4, W(1, 0), W(0), W(2, 0, 0, 0), 81);
+    RAISES_STEP(4, W(1, 0, 3), NO_WORDS, W(2, 0), 80);
+    RAISES_STEP(4, W(1, 2), W(2), W(4, 0, VV, 2, 0, 0, 0, 0), 81);
+    /* lengths that a size in 32 or 24 bits would not hold */
+    static const uint32_t huge[] = { MOST, MOST - 1, MOST - 2, MOST - 3, 0x40000000,
+                                     0x01000000, 0x00ffffff, 0x00fffffd, 65536, 16385 };
+    for (size_t i = 0; i < sizeof huge / sizeof *huge; i++) {
+        RAISES_STEP(4, W(1, huge[i], 3), NO_WORDS, W(2, 0, 0, 0, 0, 0, 0), 80);
+        RAISES_STEP(4, W(1, huge[i]), W(0), W(2, 0, 0, 0, 0, 0, 0), 81);
+        RAISES_STEP(4, W(MOST, huge[i], MOST), NO_WORDS, W(2, 0), 80);
+    }
+}
+
+/* The greatest heap: 16,379 elements fit exactly, with 2 + 3 words. */
+static void test_greatest_vectors(void)
+{
+    static uint32_t empty[16384] = { 2 }, full[16384];
+    const words before = { empty, 16384 }, after = { full, 16384 };
+    full[0] = 16384;
+    full[2] = WV;
+    full[3] = 16382;
+    full[4] = 9;
+    for (size_t i = 5; i < 16384; i++)
+        full[i] = 7;
+    GIVES_STEP(W(9, 16379, 7), NO_WORDS, before, NO_WORDS, W(2), after, 80);
+    RAISES_STEP(4, W(9, 16380, 7), NO_WORDS, before, 80);
+    GIVES_STEP(W(9 + 16378), W(2), after, W(7), NO_WORDS, after, 82);
+    RAISES_STEP(6, W(9 + 16379), W(2), after, 82);
+    memset(full, 0, sizeof full);
+    full[0] = 16384;
+    full[2] = PV + 16379;
+    full[3] = 16382;
+    full[16383] = 9;
+    GIVES_STEP(W(9, 16379), W(0), before, NO_WORDS, W(2), after, 81);
+    RAISES_STEP(4, W(9, 16380), W(0), before, 81);
+    GIVES_STEP(W(9 + 16378), W(2), after, NO_WORDS, W(0), after, 83);
+    RAISES_STEP(6, W(9 + 16379), W(2), after, 83);
+}
+
+/*
+ * At 2 a plain vector of bound 10: 7, 8, 9. At 8 a pointer vector of bound -1:
+ * nil, 2. At 13 a view of one pointer word, nil, and one plain word, 10.
+ */
+#define MIXED(e10, e11, e12, p1, p0) \
+    W(17, 0, WV, 6, 10, e10, e11, e12, PV + 2, 5, p1, p0, MINUS(1), VV + 1, 4, 0, 10, 0, 0)
+
+static void test_read_vectors(void)
+{
+    const words heap = MIXED(7, 8, 9, 0, 2);
+
+    /* each element, over other words; the vector and the index are popped */
+    GIVES_STEP(W(99, 10), W(13, 2), heap, W(99, 7), W(13), heap, 82);
+    GIVES_STEP(W(11), W(2), heap, W(8), NO_WORDS, heap, 82);
+    GIVES_STEP(W(12), W(2), heap, W(9), NO_WORDS, heap, 82);
+    GIVES_STEP(W(99, MINUS(1)), W(13, 8), heap, W(99), W(13, 0), heap, 83);
+    GIVES_STEP(W(0), W(8), heap, NO_WORDS, W(2), heap, 83);
+    /* the top of each stack, not the word below it */
+    GIVES_STEP(W(12, 10), W(8, 2), heap, W(12, 7), W(8), heap, 82);
+    GIVES_STEP(W(MINUS(1), 0), W(2, 8), heap, W(MINUS(1)), W(2, 2), heap, 83);
+
+    /* 6: below the bound, past the last element, far off */
+    static const uint32_t off_plain[] = { 9, 13, 0, 3, MINUS(1), LEAST, MOST, LEAST + 10,
+                                          LEAST + 12, MINUS(6) };
+    for (size_t i = 0; i < sizeof off_plain / sizeof *off_plain; i++)
+        RAISES_STEP(6, W(off_plain[i]), W(2), heap, 82);
+    static const uint32_t off_ptr[] = { MINUS(2), 1, 2, MINUS(3), LEAST, MOST, MOST - 1,
+                                        LEAST + 1 };
+    for (size_t i = 0; i < sizeof off_ptr / sizeof *off_ptr; i++)
+        RAISES_STEP(6, W(off_ptr[i]), W(8), heap, 83);
+}
+
+/* 6 for an object of another kind, whatever the index. */
+static void test_read_other_kinds(void)
+{
+    const words heap = MIXED(7, 8, 9, 0, 2);
+    static const uint32_t index[] = { MINUS(1), 0, 1, 2, 10, 11, LEAST, MOST };
+    for (size_t i = 0; i < sizeof index / sizeof *index; i++) {
+        RAISES_STEP(6, W(index[i]), W(8), heap, 82);
+        RAISES_STEP(6, W(index[i]), W(13), heap, 82);
+        RAISES_STEP(6, W(index[i]), W(2), heap, 83);
+        RAISES_STEP(6, W(index[i]), W(13), heap, 83);
+        /* nil comes first, whatever the index */
+        RAISES_STEP(2, W(index[i]), W(0), heap, 82);
+        RAISES_STEP(2, W(index[i]), W(0), heap, 83);
+        /* length 0: the object behind it is not in reach */
+        RAISES_STEP(6, W(index[i]), W(2), W(11, 0, WV, 3, 10, WV, 6, 10, 1, 2, 3), 82);
+        RAISES_STEP(6, W(index[i]), W(2), W(9, 0, PV, 3, 0, PV + 1, 4, 0, 0), 83);
+    }
+    /* a view whose words would be a vector's: one plain word, one pointer word */
+    RAISES_STEP(6, W(0), W(2), W(6, 0, VV, 4, 0, 5), 82);
+    RAISES_STEP(6, W(0), W(2), W(6, 0, VV + 1, 4, 2, 0), 83);
+}
+
+/* The index less the bound is a whole number. */
+static void test_vector_ends(void)
+{
+    /* bounds and indices at the ends of the range; elements 5, 6, 7 and nil, 2, 2 */
+    static const struct {
+        uint32_t bound, index, found; /* the element's number from 0; 3: none, so 6 */
+    } rows[] = {
+        { MOST, MOST, 0 }, { MOST, MOST - 1, 3 }, { MOST, LEAST, 3 }, { MOST, LEAST + 1, 3 },
+        { MOST, LEAST + 2, 3 }, { MOST, MINUS(1), 3 }, { MOST, 0, 3 },
+        { MOST - 1, MOST - 1, 0 }, { MOST - 1, MOST, 1 }, { MOST - 1, LEAST, 3 },
+        { MOST - 1, MOST - 2, 3 },
+        { MOST - 2, MOST, 2 }, { MOST - 2, LEAST, 3 }, { MOST - 2, MOST - 3, 3 },
+        { MOST - 3, MOST, 3 }, { MOST - 3, MOST - 1, 2 },
+        { LEAST, LEAST, 0 }, { LEAST, LEAST + 1, 1 }, { LEAST, LEAST + 2, 2 },
+        { LEAST, LEAST + 3, 3 }, { LEAST, 0, 3 }, { LEAST, 1, 3 }, { LEAST, MOST, 3 },
+        { LEAST, MOST - 1, 3 }, { LEAST + 1, LEAST, 3 }, { LEAST + 1, LEAST + 3, 2 },
+        { MINUS(1), MINUS(1), 0 }, { MINUS(1), 0, 1 }, { MINUS(1), 1, 2 }, { MINUS(1), 2, 3 },
+        { MINUS(1), MINUS(2), 3 }, { MINUS(1), MOST, 3 }, { MINUS(1), LEAST, 3 },
+        { 0, 0, 0 }, { 0, 2, 2 }, { 0, 3, 3 }, { 0, MINUS(1), 3 }, { 0, LEAST, 3 },
+        { 0, MOST, 3 }, { 1, LEAST, 3 }, { 1, LEAST + 1, 3 }, { 2, LEAST + 2, 3 }
+    };
+    for (size_t i = 0; i < sizeof rows / sizeof *rows; i++) {
+        uint32_t b = rows[i].bound, k = rows[i].found;
+        const words plain = W(8, 0, WV, 6, b, 5, 6, 7), ptrs = W(8, 0, PV + 3, 6, 0, 2, 2, b);
+        if (k == 3) {
+            RAISES_STEP(6, W(rows[i].index), W(2), plain, 82);
+            RAISES_STEP(6, W(rows[i].index), W(2), ptrs, 83);
+            RAISES_STEP(6, W(1, rows[i].index), W(2), plain, 84);
+            RAISES_STEP(6, W(rows[i].index), W(0, 2), ptrs, 85);
+            continue;
+        }
+        GIVES_STEP(W(rows[i].index), W(2), plain, W(5 + k), NO_WORDS, plain, 82);
+        GIVES_STEP(W(rows[i].index), W(2), ptrs, NO_WORDS, W(k == 0 ? 0 : 2), ptrs, 83);
+        GIVES_STEP(W(1, rows[i].index), W(2), plain, NO_WORDS, NO_WORDS,
+                   W(8, 0, WV, 6, b, k == 0 ? 1 : 5, k == 1 ? 1 : 6, k == 2 ? 1 : 7), 84);
+        GIVES_STEP(W(rows[i].index), W(0, 2), ptrs, NO_WORDS, NO_WORDS,
+                   W(8, 0, PV + 3, 6, 0, k == 1 ? 0 : 2, k == 2 ? 0 : 2, b), 85);
+    }
+}
+
+static void test_write_vectors(void)
+{
+    const words heap = MIXED(7, 8, 9, 0, 2);
+
+    /* 84: index over value: 55 goes to 10, 11, 12 */
+    GIVES_STEP(W(99, 55, 10), W(13, 2), heap, W(99), W(13), MIXED(55, 8, 9, 0, 2), 84);
+    GIVES_STEP(W(55, 11), W(2), heap, NO_WORDS, NO_WORDS, MIXED(7, 55, 9, 0, 2), 84);
+    GIVES_STEP(W(55, 12), W(2), heap, NO_WORDS, NO_WORDS, MIXED(7, 8, 55, 0, 2), 84);
+    GIVES_STEP(W(10, 12), W(2), heap, NO_WORDS, NO_WORDS, MIXED(7, 8, 10, 0, 2), 84);
+    RAISES_STEP(6, W(10, 55), W(2), heap, 84); /* value over index */
+    /* 85: vector over value: 13 goes to -1, 0 */
+    GIVES_STEP(W(99, MINUS(1)), W(2, 13, 8), heap, W(99), W(2), MIXED(7, 8, 9, 13, 2), 85);
+    GIVES_STEP(W(0), W(13, 8), heap, NO_WORDS, NO_WORDS, MIXED(7, 8, 9, 0, 13), 85);
+    RAISES_STEP(6, W(0), W(8, 13), heap, 85); /* value over vector */
+    /* a nil value is a value; so is the vector itself */
+    GIVES_STEP(W(0), W(0, 8), heap, NO_WORDS, NO_WORDS, MIXED(7, 8, 9, 0, 0), 85);
+    GIVES_STEP(W(0), W(8, 8), heap, NO_WORDS, NO_WORDS, MIXED(7, 8, 9, 0, 8), 85);
+    RAISES_STEP(2, W(0), W(8, 0), heap, 85); /* a nil vector over a value */
+
+    static const uint32_t off_plain[] = { 9, 13, 0, MINUS(1), LEAST, MOST };
+    for (size_t i = 0; i < sizeof off_plain / sizeof *off_plain; i++)
+        RAISES_STEP(6, W(55, off_plain[i]), W(2), heap, 84);
+    static const uint32_t off_ptr[] = { MINUS(2), 1, 2, LEAST, MOST };
+    for (size_t i = 0; i < sizeof off_ptr / sizeof *off_ptr; i++) {
+        RAISES_STEP(6, W(off_ptr[i]), W(13, 8), heap, 85);
+        RAISES_STEP(6, W(off_ptr[i]), W(0, 8), heap, 85);
+    }
+    static const uint32_t index[] = { MINUS(1), 0, 1, 2, 10, 11, LEAST, MOST };
+    for (size_t i = 0; i < sizeof index / sizeof *index; i++) {
+        RAISES_STEP(6, W(55, index[i]), W(8), heap, 84);
+        RAISES_STEP(6, W(55, index[i]), W(13), heap, 84);
+        RAISES_STEP(6, W(index[i]), W(2, 2), heap, 85);
+        RAISES_STEP(6, W(index[i]), W(2, 13), heap, 85);
+        RAISES_STEP(2, W(55, index[i]), W(0), heap, 84);
+        RAISES_STEP(2, W(index[i]), W(2, 0), heap, 85);
+        RAISES_STEP(2, W(index[i]), W(0, 0), heap, 85);
+        RAISES_STEP(6, W(55, index[i]), W(2), W(8, 0, WV, 3, 10, WV, 3, 10, 0), 84);
+        RAISES_STEP(6, W(index[i]), W(0, 2), W(9, 0, PV, 3, 0, PV + 1, 4, 0, 0), 85);
+    }
+}
+
+/* 30 to 33 go by the header's counts; 32 does not reach the bound, word 2 of a plain vector. */
+static void test_plain_fields(void)
+{
+    const words heap = MIXED(7, 8, 9, 0, 2);
+    const uint32_t word_of_plain[] = { 10, 7, 8, 9 };
+
+    for (unsigned s = 0; s <= 16; s++) {
+        uint8_t b = (uint8_t)s;
+        if (s >= 2 && s <= 5)
+            GIVES_STEP(NO_WORDS, W(2), heap, W(word_of_plain[s - 2]), NO_WORDS, heap, 30, 0, b);
+        else
+            RAISES_STEP(3, NO_WORDS, W(2), heap, 30, 0, b);
+        if (s >= 3 && s <= 5)
+            GIVES_STEP(W(55), W(2), heap, NO_WORDS, NO_WORDS,
+                       MIXED(s == 3 ? 55 : 7, s == 4 ? 55 : 8, s == 5 ? 55 : 9, 0, 2), 32, 0, b);
+        else
+            RAISES_STEP(3, W(55), W(2), heap, 32, 0, b);
+        RAISES_STEP(3, NO_WORDS, W(2), heap, 31, 0, b);
+        RAISES_STEP(3, NO_WORDS, W(13, 2), heap, 33, 0, b);
+        /* nil comes first */
+        RAISES_STEP(2, W(55), W(0), heap, 32, 0, b);
+    }
+}
+
+/* A pointer vector: 2 and 3 are the elements, 4 the bound. */
+static void test_pointer_fields(void)
+{
+    const words heap = MIXED(7, 8, 9, 0, 2);
+    const uint32_t word_of_ptrs[] = { 0, 2 };
+
+    for (unsigned s = 0; s <= 16; s++) {
+        uint8_t b = (uint8_t)s;
+        if (s == 4)
+            GIVES_STEP(NO_WORDS, W(8), heap, W(MINUS(1)), NO_WORDS, heap, 30, 0, b);
+        else
+            RAISES_STEP(3, NO_WORDS, W(8), heap, 30, 0, b);
+        RAISES_STEP(3, W(55), W(8), heap, 32, 0, b);
+        if (s == 2 || s == 3) {
+            GIVES_STEP(NO_WORDS, W(8), heap, NO_WORDS, W(word_of_ptrs[s - 2]), heap, 31, 0, b);
+            GIVES_STEP(NO_WORDS, W(13, 8), heap, NO_WORDS, NO_WORDS,
+                       MIXED(7, 8, 9, s == 2 ? 13 : 0, s == 3 ? 13 : 2), 33, 0, b);
+        } else {
+            RAISES_STEP(3, NO_WORDS, W(8), heap, 31, 0, b);
+            RAISES_STEP(3, NO_WORDS, W(13, 8), heap, 33, 0, b);
+        }
+    }
+    /* length 0: the bound is read, not set */
+    GIVES_STEP(NO_WORDS, W(2), W(5, 0, WV, 3, 9), W(9), NO_WORDS, W(5, 0, WV, 3, 9), 30, 0, 2);
+    GIVES_STEP(NO_WORDS, W(2), W(5, 0, PV, 3, 9), W(9), NO_WORDS, W(5, 0, PV, 3, 9), 30, 0, 2);
+    RAISES_STEP(3, W(55), W(2), W(5, 0, WV, 3, 9), 32, 0, 2);
+    RAISES_STEP(3, W(55), W(2), W(5, 0, PV, 3, 9), 32, 0, 2);
+    RAISES_STEP(3, NO_WORDS, W(0, 2), W(5, 0, PV, 3, 9), 33, 0, 2);
+    /* a view's first plain word is no bound */
+    GIVES_STEP(W(55), W(2), W(5, 0, VV, 3, 9), NO_WORDS, NO_WORDS, W(5, 0, VV, 3, 55), 32, 0, 2);
+    GIVES_STEP(W(55), W(2), W(6, 0, VV + 1, 4, 0, 9), NO_WORDS, NO_WORDS,
+               W(6, 0, VV + 1, 4, 0, 55), 32, 0, 3);
+}
+
+/*
+ * 7 54 -1; 9 54 3; 11 54 4; 13 80; 14 54 9; 16 54 0; 18 21 0; 21 84; 22 54 -1;
+ * 24 21 0; 27 82; 28 54 0; 30 21 0; 33 82; 34 140; 35 54 last; 37 21 0; 40 82;
+ * 41 140; 42 73: 4 + 9 + 4
+ */
+#define SUM_FILE(last) \
+    240, 0, 0, 1, 1, 3, 2, 54, 255, 54, 3, 54, 4, 80, 54, 9, 54, 0, 21, 0, 0, 84, 54, 255, \
+    21, 0, 0, 82, 54, 0, 21, 0, 0, 82, 140, 54, last, 21, 0, 0, 82, 140, 73
+
+/*
+ * 7 54 5; 9 54 2; 11 57; 12 81; 13 54 6; 15 21 0; 18 21 0; 21 85: itself in 6;
+ * 22 54 6; 24 21 0; 27 83; 28 131 with itself; 29 73
+ */
+#define SELF_FILE \
+    240, 0, 0, 1, 0, 2, 3, 54, 5, 54, 2, 57, 81, 54, 6, 21, 0, 0, 21, 0, 0, 85, 54, 6, \
+    21, 0, 0, 83, 131, 73
+
+static void test_vector_routines(void)
+{
+    BENCH("finished steps=20 main=17", SUM_FILE(1));
+    BENCH("uncaught 6 at 40 steps=17 main=13,2", SUM_FILE(2));
+    BENCH("uncaught 6 at 40 steps=17 main=13,-2", SUM_FILE(254));
+    rig g = run_out(__LINE__, reply(REF_FINISHED, 0, 0, 13), BYTES(SELF_FILE));
+    LIST_IS(g, MAIN, 1);
+    LIST_IS(g, PTR, 0);
+    LIST_IS(g, HEAP, 7, 0, PV + 2, 5, 0, 2, 5);
+    rig_free(&g);
+    cut_runs(__LINE__, REF_FINISHED, 20, BYTES(SUM_FILE(1)));
+    cut_runs(__LINE__, REF_UNCAUGHT, 17, BYTES(SUM_FILE(2)));
+    cut_runs(__LINE__, REF_FINISHED, 13, BYTES(SELF_FILE));
+
+    /* 6 raised by the routine itself is the same word: 7 54 6; 9 162 */
+    BENCH("uncaught 6 at 9 steps=1 main=6", 240, 0, 0, 0, 0, 1, 0, 54, 6, 162);
+    /* 79 and 86 are unknown; 80 to 85 have no operand: 73 stands right behind */
+    REFUSAL(3, 7, HEAD0, 79, 73);
+    REFUSAL(3, 7, HEAD0, 86, 73);
+    PASSES(HEAD0, 73, 240, 3, 0, 0, 1, 3, 1, 80, 73);
+    PASSES(HEAD0, 73, 240, 2, 1, 0, 1, 2, 1, 81, 73);
+    PASSES(HEAD0, 73, 240, 1, 1, 1, 0, 1, 1, 82, 73);
+    PASSES(HEAD0, 73, 240, 1, 1, 0, 1, 1, 1, 83, 73);
+    PASSES(HEAD0, 73, 240, 2, 1, 0, 0, 2, 1, 84, 73);
+    PASSES(HEAD0, 73, 240, 1, 2, 0, 0, 1, 2, 85, 73);
+    /* 80 pushes where y is 0 */
+    REFUSAL(7, 15, HEAD0, 73, 240, 3, 0, 0, 0, 3, 0, 80, 3, 0, 3);
+}
+
+/* ---- order 2: the heap's audit ---- */
+
+static void test_plain_heaps(void)
+{
+    HEAP_CASE(-1, 5, 2, WV, 3, 7); /* length 0 */
+    HEAP_CASE(-1, 7, 2, WV, 5, LEAST, 1, 0xffffffffu); /* elements hold anything */
+    HEAP_CASE(3, 4, 0, WV, 2); /* no bound */
+    HEAP_CASE(3, 5, 2, WV, 2, 0); /* nor looked for behind it */
+    HEAP_CASE(3, 6, 0, WV, 2, VV, 2);
+    HEAP_CASE(3, 5, 0, WV, 1, 0);
+    HEAP_CASE(3, 5, 0, WV, 0, 0);
+    HEAP_CASE(3, 5, 0, WV, 4, 0);
+    HEAP_CASE(3, 5, 0, WV, 4, 0, 0);
+    HEAP_CASE(3, 5, 0, WV, 0xffffffffu, 0);
+    HEAP_CASE(2, 3, 0, WV); /* at mark - 1 */
+    HEAP_CASE(2, 3, 0, PV);
+    /* pointer words fault the header, the size word right or not */
+    HEAP_CASE(2, 6, 0, WV + 1, 4, 0, 0);
+    HEAP_CASE(2, 5, 0, WV + 1, 3, 0);
+    HEAP_CASE(2, 4, 0, WV + 1, 2);
+    HEAP_CASE(2, 5, 0, WV + 1, 0, 0);
+    HEAP_CASE(2, 5, 0, WV + 1, 9, 0);
+    HEAP_CASE(2, 5, 0, WV + 2, 3, 0);
+    HEAP_CASE(2, 5, 0, 0x02800000, 3, 0);
+    HEAP_CASE(2, 4, 0, 0x02ffffff, 2);
+    HEAP_CASE(2, 3, 0, WV + 1); /* at mark - 1 too */
+}
+
+static void test_pointer_heaps(void)
+{
+    HEAP_CASE(-1, 5, 2, PV, 3, 7); /* length 0 */
+    HEAP_CASE(-1, 7, 2, PV + 2, 5, 2, 0, 9); /* the bound is no pointer */
+    HEAP_CASE(3, 4, 0, PV, 2); /* 2 + pointers */
+    HEAP_CASE(3, 6, 0, PV, 4, 0, 0); /* 4 + pointers */
+    HEAP_CASE(3, 5, 0, PV + 1, 3, 0);
+    HEAP_CASE(3, 7, 0, PV + 1, 5, 0, 0, 0);
+    HEAP_CASE(3, 6, 0, PV + 2, 4, 0, 0);
+    HEAP_CASE(3, 8, 0, PV + 2, 6, 0, 0, 0, 0);
+    HEAP_CASE(3, 4, 0, PV + 1, 2); /* below 2 plus the pointers */
+    HEAP_CASE(3, 5, 0, PV + 1, 4, 0, 0); /* past the mark */
+    HEAP_CASE(3, 4, 0, 0x03ffffff, 2);
+    HEAP_CASE(3, 4, 0, 0x03ffffff, 0x01000002);
+    HEAP_CASE(3, 5, 0, PV, 0xffffffffu, 0);
+    /* unknown kinds */
+    HEAP_CASE(2, 5, 0, 0, 3, 0);
+    HEAP_CASE(2, 5, 0, 0x04000000, 3, 0);
+    HEAP_CASE(2, 6, 0, 0x04000001, 4, 0, 0);
+    HEAP_CASE(2, 5, 0, 0x05000000, 3, 0);
+    HEAP_CASE(2, 5, 0, 0x12000000, 3, 0);
+    HEAP_CASE(2, 5, 0, 0x82000000u, 3, 0);
+    HEAP_CASE(2, 5, 0, 0x83000000u, 3, 0);
+}
+
+static void test_element_heaps(void)
+{
+    /* elements that are no pointers, the lowest of them */
+    HEAP_CASE(4, 7, 2, PV + 2, 5, 3, 0, 0);
+    HEAP_CASE(5, 7, 2, PV + 2, 5, 2, 9, 0);
+    HEAP_CASE(4, 7, 2, PV + 2, 5, 9, 9, 0);
+    HEAP_CASE(4, 6, 2, PV + 1, 4, 1, 0);
+    HEAP_CASE(1, 6, 5, PV + 1, 4, 5, 0); /* the root in the vector, and an element */
+    HEAP_CASE(4, 6, 2, PV + 1, 4, 0x80000002u, 0, 7); /* before a free word */
+    /* pointers to vectors of both kinds, forwards and back */
+    HEAP_CASE(-1, 9, 2, PV + 1, 4, 6, 0, WV, 3, 6);
+    HEAP_CASE(-1, 10, 6, WV, 4, 0, 9, PV + 1, 4, 2, 5);
+    HEAP_CASE(-1, 9, 2, VV + 1, 3, 5, PV + 1, 4, 2, 5);
+    HEAP_CASE(4, 9, 2, PV + 1, 4, 7, 0, WV, 3, 6); /* its size word */
+    HEAP_CASE(4, 9, 2, PV + 1, 4, 8, 0, WV, 3, 6); /* its bound */
+    /* the walk comes before pointers and free words, the first object before others */
+    HEAP_CASE(5, 9, 9, VV + 1, 3, 9, WV + 1, 4, 0, 0);
+    HEAP_CASE(6, 7, 9, VV + 1, 3, 9, WV, 2);
+    HEAP_CASE(6, 9, 9, VV + 1, 3, 9, PV, 4, 0, 0, 7);
+    HEAP_CASE(3, 7, 0, WV, 2, WV + 1, 3, 0);
+    HEAP_CASE(2, 9, 0, WV + 1, 4, 0, 0, PV, 3, 0);
+    HEAP_CASE(2, 8, 0, WV + 1, 4, 0, 0, PV, 2);
+}
+
+/* The greatest heap: one vector of 16,379 elements, each itself or anything. */
+static void test_greatest_heaps(void)
+{
+    static uint32_t big[16384];
+    big[0] = 16384;
+    big[2] = PV + 16379;
+    big[3] = 16382;
+    for (size_t i = 4; i < 16384; i++)
+        big[i] = 2;
+    big[16383] = 0xffffffffu; /* the bound */
+    heap_case(__LINE__, -1, big, 16384);
+    big[16382] = 3;
+    heap_case(__LINE__, 16382, big, 16384);
+    big[2] = PV + 16380;
+    heap_case(__LINE__, 3, big, 16384);
+    big[2] = PV + 16378;
+    heap_case(__LINE__, 3, big, 16384);
+    big[2] = WV;
+    heap_case(__LINE__, -1, big, 16384);
+    big[2] = WV + 16379;
+    heap_case(__LINE__, 2, big, 16384);
+}
+
+/* The heap 10, 6, plain vector (bound 70; 71), pointer vector (2; bound 72), 0, 0. */
+static ref_reply judge_vector_heap(const rig *sound, int list, size_t i, uint32_t v)
+{
+    (void)list;
+    uint32_t kind = v >> 24, at = (uint32_t)i;
+    switch (i) {
+    case 0:
+        if (v >= 2 && v <= 12)
+            at = v == 2 || v == 6 ? 1 /* the root has no object */
+                : v == 3 ? 2 : v < 6 ? 3 : v == 7 ? 6 : v < 10 ? 7 : 10;
+        break;
+    case 1: case 8:
+        if (v == 0 || v == 2 || v == 6)
+            return sound_reply(sound);
+        break;
+    case 2: /* a view of very many pointers, or a pointer vector with a word too many */
+        at = kind == 1 || kind == 3 ? 3 : 2;
+        break;
+    case 3: /* the next header would lie at 5, 7, 8 or 9; one object hides the root's */
+        at = v == 3 ? 5 : v >= 5 && v <= 7 ? v + 2 : v == 8 ? 1 : 3;
+        break;
+    case 4: case 5: case 9:
+        return sound_reply(sound);
+    case 6: /* a view of one pointer is sound; a plain vector has none */
+        if (v == VV + 1)
+            return sound_reply(sound);
+        at = kind == 3 ? 7 : 6;
+        break;
+    default: /* size word 7 has one value; 10 and 11 are free words */
+        break;
+    }
+    return reply(REF_REFUSED, 11, at, 0);
+}
+
+static void test_vector_damage(void)
+{
+    const uint32_t heap[] = { 10, 6, WV, 4, 70, 71, PV + 1, 4, 2, 72, 0, 0 };
+    rig g = rig_new(BYTES(HEAD0, 73), 24, 1, 1, 5, 12, 28);
+    EXPECT(is(do_start(&g), REF_READY, 0, 0, 0));
+    memcpy(g.list[HEAP], heap, sizeof heap);
+    EXPECT(is(do_run(&g, 0), REF_SPENT, 0, 0, 0));
+    damage(__LINE__, &g, HEAP, judge_vector_heap);
+    rig_free(&g);
+}
+
 int main(void)
 {
     test_samples();
@@ -2265,6 +2841,21 @@ int main(void)
     test_lengths();
     test_heap();
     test_sound();
+    test_make_vectors();
+    test_vector_lengths();
+    test_greatest_vectors();
+    test_read_vectors();
+    test_read_other_kinds();
+    test_vector_ends();
+    test_write_vectors();
+    test_plain_fields();
+    test_pointer_fields();
+    test_vector_routines();
+    test_plain_heaps();
+    test_pointer_heaps();
+    test_element_heaps();
+    test_greatest_heaps();
+    test_vector_damage();
     printf("%lu checks, %lu failed\n", checks, failures);
     return failures == 0 ? 0 : 1;
 }

@@ -52,11 +52,14 @@ enum {
 
 /* The machine exceptions. A routine may raise any word with 162, these too. */
 enum {
-    YALGOVIM_OUT_OF_RANGE = 1, /* a result outside -2^31 to 2^31-1, or a division by 0 */
-    YALGOVIM_NIL_OBJECT = 2,   /* 30 to 33: the object is nil */
-    YALGOVIM_NO_SUCH_WORD = 3, /* 30 to 33: word s is not in the object's part */
-    YALGOVIM_HEAP_FULL = 4,    /* 36: the heap has too few free words */
-    YALGOVIM_NO_ROOM = 5       /* 72: a callee's x, y or record does not fit; 160: its record */
+    YALGOVIM_OUT_OF_RANGE = 1,  /* a result outside -2^31 to 2^31-1, or a division by 0 */
+    YALGOVIM_NIL_OBJECT = 2,    /* 30 to 33, 82 to 85: the object is nil */
+    YALGOVIM_NO_SUCH_WORD = 3,  /* 30 to 33: word s is not in the object's part;
+                                   32: it is a vector's lower bound */
+    YALGOVIM_HEAP_FULL = 4,     /* 36, 80, 81: the heap has too few free words */
+    YALGOVIM_NO_ROOM = 5,       /* 72: a callee's x, y or record does not fit; 160: its record */
+    YALGOVIM_OUTSIDE_VECTOR = 6 /* 80, 81: a negative length; 82 to 85: an index outside
+                                   the vector, or an object of another kind */
 };
 
 enum {
