@@ -220,17 +220,21 @@ fn on_heap(text: &[u8], heap: &mut [u32]) {
     on(text, &mut map, &mut main, heap, &mut regs);
 }
 
-// A view's header without pointer words; a header of kind 2, which is unknown.
+// Headers without pointer words: of a view, of a vector of words, of a vector of pointers, of kind 6, which is unknown.
 const VIEW: u32 = 0x1000000;
 
-const KIND_2: u32 = 0x2000000;
+const WORDS: u32 = 0x2000000;
+
+const POINTERS: u32 = 0x3000000;
+
+const KIND_6: u32 = 0x6000000;
 
 // Refusal 11, first step: the mark below 2, and one past the heap's length with a bad root and a bad header beside it; a mark of the length is
 // right.
 fn marks_of_heaps() {
     let mut low = [1u32, 0];
     on_heap(b"11", &mut low);
-    let mut high = [5u32, 9, KIND_2, 0];
+    let mut high = [5u32, 9, KIND_6, 0];
     on_heap(b"11 mark of length + 1", &mut high);
     let mut full = [4u32, 2, VIEW, 2];
     on_heap(b"mark of the length", &mut full);
@@ -238,7 +242,7 @@ fn marks_of_heaps() {
 
 // Second step: headers and size words, upwards.
 fn walks_of_heaps() {
-    let mut kind = [4u32, 0, KIND_2, 2];
+    let mut kind = [4u32, 0, KIND_6, 2];
     on_heap(b"11 kind", &mut kind);
     let mut last = [3u32, 0, VIEW, 2];
     on_heap(b"11 no size word", &mut last);
@@ -248,11 +252,11 @@ fn walks_of_heaps() {
     on_heap(b"11 size past the mark", &mut past);
     let mut wraps = [4u32, 0, VIEW, 0xfffffffe];
     on_heap(b"11 size that would wrap", &mut wraps);
-    let mut both = [4u32, 0, KIND_2 + 3, 0];
+    let mut both = [4u32, 0, KIND_6 + 3, 0];
     on_heap(b"11 header and size word", &mut both);
     let mut root = [4u32, 9, VIEW, 9];
     on_heap(b"11 root and size word", &mut root);
-    let mut later = [7u32, 9, VIEW + 1, 3, 9, KIND_2, 2, 7];
+    let mut later = [7u32, 9, VIEW + 1, 3, 9, KIND_6, 2, 7];
     on_heap(b"11 all, a later header", &mut later);
 }
 
@@ -274,6 +278,34 @@ fn words_of_heaps() {
     on_heap(b"plain word", &mut plain);
     let mut free = [5u32, 2, VIEW + 1, 3, 2, 7, 7];
     on_heap(b"11 own pointer, free words", &mut free);
+}
+
+// Vectors: pointer words among words, which fault the header whatever the size; sizes that are wrong for the kind.
+fn sizes_of_vectors() {
+    let mut words = [6u32, 0, WORDS + 1, 4, 0, 0];
+    on_heap(b"11 pointer word among words", &mut words);
+    let mut past = [6u32, 0, WORDS + 1, 9, 0, 0];
+    on_heap(b"11 and a size past the mark", &mut past);
+    let mut small = [6u32, 0, WORDS + 1, 2, 0, 0];
+    on_heap(b"11 and a size too small", &mut small);
+    let mut unbounded = [4u32, 0, WORDS, 2];
+    on_heap(b"11 words without bound", &mut unbounded);
+    let mut none = [5u32, 2, WORDS, 3, 9];
+    on_heap(b"no words", &mut none);
+    let mut short = [5u32, 0, POINTERS + 1, 3, 0];
+    on_heap(b"11 pointers without bound", &mut short);
+    let mut long = [7u32, 0, POINTERS + 1, 5, 0, 0, 0];
+    on_heap(b"11 word behind the bound", &mut long);
+    let mut own = [6u32, 2, POINTERS + 1, 4, 2, 9];
+    on_heap(b"own element", &mut own);
+}
+
+// Words and bounds may be anything; an element that is a pointer is judged as one.
+fn elements_of_vectors() {
+    let mut any = [11u32, 0, WORDS, 5, 9, 9, 9, POINTERS + 1, 4, 7, 9];
+    on_heap(b"any words", &mut any);
+    let mut bad = [11u32, 0, WORDS, 5, 9, 9, 9, POINTERS + 1, 4, 3, 9];
+    on_heap(b"11 element", &mut bad);
 }
 
 fn put(l: &mut [u32], w: u32) {
@@ -361,6 +393,8 @@ fn main() {
     marks_of_heaps();
     walks_of_heaps();
     words_of_heaps();
+    sizes_of_vectors();
+    elements_of_vectors();
     view_made(b"12", 3, 4);
     view_made(b"11 in run", 2, 3);
 }
