@@ -2,7 +2,7 @@
 ghost use mathlib.Core.Path.{_≡_};
 ghost use mathlib.Core.Bool.{false};
 ghost use mathlib.Core.List.{List};
-ghost use Prim.Native.Nat.{ℕ, _+_, _≤_};
+ghost use Prim.Native.Nat.{ℕ, _+_, _<_, _≤_};
 ghost use lib.ListN.{length};
 ghost use Rattle.model.specs.Words.{cut};
 ghost use Rattle.model.specs.Control.{Machine};
@@ -44,6 +44,16 @@ fn pop_last(l: &mut [u32], new: usize, old: usize)
     l[new] = 0;
 }
 
+// Where one or two go: no test; a single one is zeroed twice.
+fn pop_some(l: &mut [u32], new: usize, old: usize)
+    requires { ⌜ Topped old (now l) × (new < old) × (old ≤ new + 2) ⌝ }
+    ensures { λ _. ⌜ now (l .exit) ≡ cut new (now (l .entry)) ⌝ }
+{
+    let last = old - 1;
+    l[last] = 0;
+    l[new] = 0;
+}
+
 // Where at most two go.
 fn pop_two(l: &mut [u32], new: usize, old: usize)
     requires { ⌜ Topped old (now l) × (old ≤ new + 2) ⌝ }
@@ -52,9 +62,7 @@ fn pop_two(l: &mut [u32], new: usize, old: usize)
     if old <= new {
         return;
     }
-    let last = old - 1;
-    l[last] = 0;
-    l[new] = 0;
+    pop_some(l, new, old);
 }
 
 // Where at most four go.
@@ -169,7 +177,7 @@ fn drop_few(main: &mut [u32], ptr: &mut [u32], regs: Regs, put: Put) -> bool
 
 // The stacks are cut, and a word, or none, is written into one of them or into the heap; or nothing is done, where many words would be dropped.
 // Each arm pops by itself: a plan made with a known `into` then jumps to its arm, which looks at no stack that its instructions leave alone.
-// `Push`, `Pop` and `ReadPointer` ask nothing: how many words go is known.
+// All but `Pointer` and the retracts ask nothing: how many words go is known, or that one or two go.
 pub fn plain(main: &mut [u32], ptr: &mut [u32], heap: &mut [u32], regs: Regs, put: Put) -> bool
     requires { ⌜ Plain (length (now heap)) (now main) (now ptr) regs put ⌝ }
     ensures state { λ r. ⌜ ((ctl : List ℕ) → record {
@@ -194,7 +202,7 @@ pub fn plain(main: &mut [u32], ptr: &mut [u32], heap: &mut [u32], regs: Regs, pu
             true
         }
         Into::Main => {
-            pop_one(main, put.mtop, regs.mtop);
+            pop_last(main, put.mtop, regs.mtop);
             main[at] = put.word;
             true
         }
@@ -204,13 +212,12 @@ pub fn plain(main: &mut [u32], ptr: &mut [u32], heap: &mut [u32], regs: Regs, pu
             true
         }
         Into::Heap => {
-            pop_one(main, put.mtop, regs.mtop);
-            pop_two(ptr, put.ptop, regs.ptop);
+            pop_some(ptr, put.ptop, regs.ptop);
             heap[at] = put.word;
             true
         }
         Into::Read => {
-            pop_two(ptr, put.ptop, regs.ptop);
+            pop_some(ptr, put.ptop, regs.ptop);
             main[at] = put.word;
             true
         }
@@ -220,8 +227,8 @@ pub fn plain(main: &mut [u32], ptr: &mut [u32], heap: &mut [u32], regs: Regs, pu
             true
         }
         Into::Store => {
-            pop_two(main, put.mtop, regs.mtop);
-            pop_two(ptr, put.ptop, regs.ptop);
+            pop_some(main, put.mtop, regs.mtop);
+            pop_some(ptr, put.ptop, regs.ptop);
             heap[at] = put.word;
             true
         }

@@ -232,17 +232,19 @@ module _ (f : List ℕ) (m : Machine) (q : ℕ) where
       let h = A .push-ptr in
       comes (same refl refl (main-same _ A) (ptr-push _ A _)) (omega arith, gone (omega arith) (omega arith))
   basic-comes (assign onMain s) A =
+      let b = A .pop-main in
       let h = A .assign-main s refl in
       let l = A .main-fits in
-      comes (same refl refl refl (ptr-same _ A)) (omega arith, gone (omega arith) (omega arith))
+      comes (same refl refl refl (ptr-same _ A)) (omega arith, omega arith, gone (omega arith) (omega arith))
   basic-comes (assign onPtr s) A =
       let h = A .assign-ptr s refl in
       let l = A .ptr-fits in
       comes (same refl refl (main-same _ A) refl) (omega arith, gone (omega arith) (omega arith))
   basic-comes (field onMain s) A =
+      let b = A .pop-ptr in
       let h = A .push-main in
       on-object (ptrWord m 1) (inPlain (m .heap) (ptrWord m 1) s) _ _ _ (λ u. refl)
-      (λ u v. comes (same refl refl (main-push _ A _) refl) (omega arith, gone (omega arith) (omega arith)))
+      (λ u v. comes (same refl refl (main-push _ A _) refl) (omega arith, omega arith, gone (omega arith) (omega arith)))
   basic-comes (field onPtr s) A =
       let k = A .pop-ptr in
       let l = A .ptr-fits in
@@ -250,11 +252,15 @@ module _ (f : List ℕ) (m : Machine) (q : ℕ) where
       (λ u v. comes (same refl (omega arith) (main-same _ A) (set-over (m .ptr) _ _ _ _ refl (omega arith)))
       (omega arith, gone (omega arith) (omega arith)))
   basic-comes (setField onMain s) A =
+      let h = A .pop-main in
+      let k = A .pop-ptr in
       on-object (ptrWord m 1) (maySetPlain (m .heap) (ptrWord m 1) s) _ _ _ (λ u. refl)
-      (λ u v. comes refl (A .plain-in s u (plain-set (m .heap) (ptrWord m 1) s v), gone (omega arith) (omega arith)))
+      (λ u v. comes refl (A .plain-in s u (plain-set (m .heap) (ptrWord m 1) s v), omega arith, omega arith, gone (omega arith) (omega arith)))
   basic-comes (setField onPtr s) A =
+      let h = A .pop-main in
+      let k = A .pop-ptr in
       on-object (ptrWord m 1) (inPtrs (m .heap) (ptrWord m 1) s) _ _ _ (A .may-ptr s)
-      (λ u v. comes (same refl refl (main-same _ A) refl) (A .ptr-in s u v, gone (omega arith) (omega arith)))
+      (λ u v. comes (same refl refl (main-same _ A) refl) (A .ptr-in s u v, omega arith, gone (omega arith) (omega arith)))
   basic-comes (make (form k n)) A = form-comes k n A
   basic-comes (make (vector d)) A = vector-comes d A
   basic-comes (literal w) A =
@@ -267,8 +273,9 @@ module _ (f : List ℕ) (m : Machine) (q : ℕ) where
       let h = A .push-ptr in
       comes (same refl refl (main-same _ A) (ptr-push _ A _)) (omega arith, gone (omega arith) (omega arith))
   basic-comes setRoot A =
+      let b = A .pop-ptr in
       let h = A .root-in in
-      comes (same refl refl (main-same _ A) refl) (omega arith, gone (omega arith) (omega arith))
+      comes (same refl refl (main-same _ A) refl) (omega arith, omega arith, gone (omega arith) (omega arith))
   basic-comes (retract keepMain k n) A =
       let h = A .pop-main in
       let l = A .main-fits in
@@ -285,10 +292,11 @@ module _ (f : List ℕ) (m : Machine) (q : ℕ) where
       let l = A .main-fits in
       on-value (operate o (mainWord m 2) (mainWord m 1)) _ _
       (λ w. comes (same (omega arith) refl (set-over (m .main) _ _ _ _ refl (omega arith)) (ptr-same _ A))
-      (omega arith, gone (omega arith) (omega arith)))
+      (omega arith, omega arith, gone (omega arith) (omega arith)))
   basic-comes samePtr A =
+      let b = A .pop-ptr in
       let h = A .push-main in
-      comes (same refl refl (main-push _ A _) refl) (omega arith, gone (omega arith) (omega arith))
+      comes (same refl refl (main-push _ A _) refl) (omega arith, omega arith, gone (omega arith) (omega arith))
   basic-comes (unary o) A =
       let h = A .pop-main in
       let l = A .main-fits in
@@ -296,10 +304,11 @@ module _ (f : List ℕ) (m : Machine) (q : ℕ) where
       (λ w. comes (same (omega arith) refl (set-over (m .main) _ _ _ _ refl (omega arith)) (ptr-same _ A))
       (omega arith, gone (omega arith) (omega arith)))
   basic-comes (element onMain) A =
+      let b = A .pop-ptr in
       let h = A .pop-main in
       let k = A .main-fits in
       on-element (elementOf onMain (m .heap) (ptrWord m 1) (mainWord m 1)) _ _
-      (λ a e. comes (same (omega arith) refl (set-over (m .main) _ _ _ _ refl (omega arith)) refl) (omega arith, gone (omega arith) (omega arith)))
+      (λ a e. comes (same (omega arith) refl (set-over (m .main) _ _ _ _ refl (omega arith)) refl) (omega arith, omega arith, gone (omega arith) (omega arith)))
   basic-comes (element onPtr) A =
       let h = A .pop-main in
       let k = A .pop-ptr in
@@ -308,11 +317,15 @@ module _ (f : List ℕ) (m : Machine) (q : ℕ) where
       (λ a e. comes (same refl (omega arith) refl (set-over (m .ptr) _ _ _ _ refl (omega arith)))
       (omega arith, omega arith, gone (omega arith) (omega arith)))
   basic-comes (setElement onMain) A =
+      let h = A .pop-main in
+      let k = A .pop-ptr in
       on-element (elementOf onMain (m .heap) (ptrWord m 1) (mainWord m 1)) _ _
-      (λ a e. comes refl (A .element-in onMain a e, gone (omega arith) (omega arith)))
+      (λ a e. comes refl (A .element-in onMain a e, omega arith, omega arith, gone (omega arith) (omega arith)))
   basic-comes (setElement onPtr) A =
+      let h = A .pop-main in
+      let k = A .pop-ptr in
       on-element (elementOf onPtr (m .heap) (ptrWord m 1) (mainWord m 1)) _ _
-      (λ a e. comes refl (A .element-in onPtr a e, gone (omega arith) (omega arith)))
+      (λ a e. comes refl (A .element-in onPtr a e, omega arith, omega arith, gone (omega arith) (omega arith)))
 
   both : (g : Bool → Plan) (r : Bool → Machine) → Comes (g true) (done (r true)) → Comes (g false) (done (r false)) →
       (t : Bool) → Comes (g t) (done (r t))

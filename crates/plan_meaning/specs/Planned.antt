@@ -68,7 +68,7 @@ basicPlan m q (field onPtr s) =
     (write Pointer q (mtop m) (ptop m) (ptop m - 1) (wordAt (m .heap) (ptrWord m 1 + s)))
 basicPlan m q (setField onMain s) =
     planObject (ptrWord m 1) (maySetPlain (m .heap) (ptrWord m 1) s)
-    (write Heap q (mtop m - 1) (ptop m - 1) (ptrWord m 1 + s) (mainWord m 1))
+    (write Store q (mtop m - 1) (ptop m - 1) (ptrWord m 1 + s) (mainWord m 1))
 basicPlan m q (setField onPtr s) =
     planObject (ptrWord m 1) (inPtrs (m .heap) (ptrWord m 1) s)
     (write Heap q (mtop m) (ptop m - 2) (ptrWord m 1 + s) (ptrWord m 2))
@@ -85,7 +85,7 @@ basicPlan m q (retract keepNone k n) = write Drop q (mtop m - k) (ptop m - n) 0 
 basicPlan m q (binary o) =
     planValue (operate o (mainWord m 2) (mainWord m 1)) (λ w. write Main q (mtop m - 1) (ptop m) (mtop m - 2) w)
 basicPlan m q samePtr = write Read q (mtop m + 1) (ptop m - 2) (mtop m) (bit (eqb (ptrWord m 2) (ptrWord m 1)))
-basicPlan m q (unary o) = planValue (operate1 o (mainWord m 1)) (λ w. write Main q (mtop m) (ptop m) (mtop m - 1) w)
+basicPlan m q (unary o) = planValue (operate1 o (mainWord m 1)) (λ w. write Push q (mtop m) (ptop m) (mtop m - 1) w)
 basicPlan m q (element onMain) =
     planElement (elementOf onMain (m .heap) (ptrWord m 1) (mainWord m 1))
     (λ a. write Read q (mtop m) (ptop m - 1) (mtop m - 1) (wordAt (m .heap) a))

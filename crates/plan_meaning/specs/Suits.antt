@@ -25,16 +25,16 @@ pub record Drops (r : Regs) (put : Put) : Type 0 where
   pub main : put .mtop ≤ r .mtop
   pub ptr : put .ptop ≤ r .ptop
 
--- a write into a list of the stacks or the heap, whose lengths are lm, lp and lh: the word lies in it, and so many words go at most, at `Pop`
--- exactly one; of a retract only that none is added
+-- a write into a list of the stacks or the heap, whose lengths are lm, lp and lh: the word lies in it, and so many words go at most, and where
+-- that is asked at least one; of a retract only that none is added
 abbrev pub WriteFits : Into → ℕ → ℕ → ℕ → Regs → Put → Type 0
 WriteFits Nothing lm lp lh r put = Pops 0 0 r put
 WriteFits Pop lm lp lh r put = (put .mtop < r .mtop) × Pops 1 0 r put
 WriteFits Push lm lp lh r put = (put .at < lm) × Pops 0 0 r put
-WriteFits Main lm lp lh r put = (put .at < lm) × Pops 1 0 r put
+WriteFits Main lm lp lh r put = (put .at < lm) × (put .mtop < r .mtop) × Pops 1 0 r put
 WriteFits Pointer lm lp lh r put = (put .at < lp) × Pops 0 1 r put
-WriteFits Heap lm lp lh r put = (put .at < lh) × Pops 1 2 r put
-WriteFits Read lm lp lh r put = (put .at < lm) × Pops 0 2 r put
+WriteFits Heap lm lp lh r put = (put .at < lh) × (put .ptop < r .ptop) × Pops 0 2 r put
+WriteFits Read lm lp lh r put = (put .at < lm) × (put .ptop < r .ptop) × Pops 0 2 r put
 WriteFits Drop lm lp lh r put = Drops r put
 WriteFits DropMain lm lp lh r put = (put .at < lm) × Drops r put
 WriteFits DropPointer lm lp lh r put = (put .at < lp) × Drops r put
@@ -44,7 +44,7 @@ WriteFits Return lm lp lh r put = ⊥
 WriteFits Handler lm lp lh r put = ⊥
 WriteFits Close lm lp lh r put = ⊥
 WriteFits ReadPointer lm lp lh r put = (put .at < lp) × (put .mtop < r .mtop) × Pops 1 0 r put
-WriteFits Store lm lp lh r put = (put .at < lh) × Pops 2 2 r put
+WriteFits Store lm lp lh r put = (put .at < lh) × (put .mtop < r .mtop) × (put .ptop < r .ptop) × Pops 2 2 r put
 WriteFits WordVector lm lp lh r put = ⊥
 WriteFits PtrVector lm lp lh r put = ⊥
 

@@ -7,10 +7,10 @@ pub enum Into {
     Nothing,
     Pop, // nothing; the topmost word of the main stack goes
     Push, // a word of the main stack, of which none goes
-    Main, // a word of the main stack, of which at most one goes
+    Main, // a word of the main stack, of which one goes
     Pointer, // a word of the pointer stack
-    Heap, // a word of the heap
-    Read, // a word of the main stack, had from one or two pointers, which go: 30, 131
+    Heap, // a word of the heap; one or two words of the pointer stack go: 33, 59
+    Read, // a word of the main stack, had from one or two pointers, which go: 30, 82, 131
     Drop, // nothing; words of both stacks go, as many as the instruction says
     DropMain, // a word of the main stack, set aside while words of both stacks go
     DropPointer, // the same with a word of the pointer stack
@@ -20,7 +20,7 @@ pub enum Into {
     Handler, // a handler's record on the control stack
     Close, // takes the innermost handler's record away
     ReadPointer, // a word of the pointer stack, had by an index, the topmost main word, which goes: 83
-    Store, // a word of the heap, had by an index; words of both stacks go, at most two of each: 84, 85
+    Store, // a word of the heap; one or two words of each stack go: 32, 84, 85
     WordVector, // a new vector of words, and its index on the pointer stack
     PtrVector, // a new vector of pointers, and its index on the pointer stack
 }

@@ -59,7 +59,7 @@ pub fn plain_fields(
                 return Plan::NoSuchWord;
             }
             let value = regs.mtop - 1;
-            writes(Into::Heap, place + 3, value, top, at, main[value])
+            writes(Into::Store, place + 3, value, top, at, main[value])
         }
     }
 }

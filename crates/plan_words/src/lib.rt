@@ -186,7 +186,7 @@ pub fn unaries(main: &[u32], regs: Regs, kind: u8) -> Plan
                 return Plan::OutOfRange;
             }
             writes(
-                Into::Main,
+                Into::Push,
                 place,
                 regs.mtop,
                 regs.ptop,
@@ -195,7 +195,7 @@ pub fn unaries(main: &[u32], regs: Regs, kind: u8) -> Plan
             )
         }
         _ => writes(
-            Into::Main,
+            Into::Push,
             place,
             regs.mtop,
             regs.ptop,

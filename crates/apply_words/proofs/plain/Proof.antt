@@ -32,10 +32,11 @@ slice-write-main c = fits-at (c .before .before .before .before .before .pre) (c
 enum-told-4 : tie.Need-enum-told-4
 enum-told-4 c = search needs
 
-pop-one-requires : tie.Need-pop-one-requires
-pop-one-requires c κs =
+pop-last-requires-2 : tie.Need-pop-last-requires-2
+pop-last-requires-2 c κs =
     let P = c .before .before .before .before .before .before .pre in
-    (P .main-top, fits-at P (c .before .enum-told4 .given .1) .1 .main)
+    let F = fits-at P (c .before .enum-told4 .given .1) in
+    (P .main-top, omega (arith, F .1, F .2 .main))
 
 mul-main-2 : tie.Need-mul-main-2
 mul-main-2 c =
@@ -45,15 +46,16 @@ mul-main-2 c =
 slice-write-main-2 : tie.Need-slice-write-main-2
 slice-write-main-2 c =
     let at-told = c .before .before .before .before in
-    rw (c .before .before .pop-one .ensures, length-cut) (fits-at (at-told .before .before .before .before .before .pre) (at-told .enum-told4 .given .1) .0)
+    rw (c .before .before .pop-last2 .ensures, length-cut) (fits-at (at-told .before .before .before .before .before .pre) (at-told .enum-told4 .given .1) .0)
 
 enum-told-5 : tie.Need-enum-told-5
 enum-told-5 c = search needs
 
-pop-one-requires-2 : tie.Need-pop-one-requires-2
-pop-one-requires-2 c κs =
+pop-one-requires : tie.Need-pop-one-requires
+pop-one-requires c κs =
     let P = c .before .before .before .before .before .before .pre in
-    (P .ptr-top, fits-at P (c .before .enum-told5 .given .1) .1 .ptr)
+    let F = fits-at P (c .before .enum-told5 .given .1) in
+    (P .ptr-top, F .1 .ptr)
 
 mul-ptr : tie.Need-mul-ptr
 mul-ptr c =
@@ -63,39 +65,35 @@ mul-ptr c =
 slice-write-ptr : tie.Need-slice-write-ptr
 slice-write-ptr c =
     let at-told = c .before .before .before .before in
-    rw (c .before .before .pop-one2 .ensures, length-cut) (fits-at (at-told .before .before .before .before .before .pre) (at-told .enum-told5 .given .1) .0)
+    rw (c .before .before .pop-one .ensures, length-cut) (fits-at (at-told .before .before .before .before .before .pre) (at-told .enum-told5 .given .1) .0)
 
 enum-told-6 : tie.Need-enum-told-6
 enum-told-6 c = search needs
 
-pop-one-requires-3 : tie.Need-pop-one-requires-3
-pop-one-requires-3 c κs =
+pop-some-requires : tie.Need-pop-some-requires
+pop-some-requires c κs =
     let P = c .before .before .before .before .before .before .pre in
-    (P .main-top, fits-at P (c .before .enum-told6 .given .1) .1 .main)
-
-pop-two-requires : tie.Need-pop-two-requires
-pop-two-requires c κs =
-    let at-told = c .before .before .before .before .before in
-    let P = at-told .before .before .before .before .before .pre in
-    (P .ptr-top, fits-at P (at-told .enum-told6 .given .1) .1 .ptr)
+    let F = fits-at P (c .before .enum-told6 .given .1) in
+    (P .ptr-top, F .1, F .2 .ptr)
 
 mul-heap : tie.Need-mul-heap
 mul-heap c =
-    let at-told = c .before .before .before .before .before .before .before .before in
+    let at-told = c .before .before .before .before in
     omega (arith, fits-at (at-told .before .before .before .before .before .pre) (at-told .enum-told6 .given .1) .0)
 
 slice-write-heap : tie.Need-slice-write-heap
 slice-write-heap c =
-    let at-told = c .before .before .before .before .before .before .before .before in
+    let at-told = c .before .before .before .before in
     fits-at (at-told .before .before .before .before .before .pre) (at-told .enum-told6 .given .1) .0
 
 enum-told-7 : tie.Need-enum-told-7
 enum-told-7 c = search needs
 
-pop-two-requires-2 : tie.Need-pop-two-requires-2
-pop-two-requires-2 c κs =
+pop-some-requires-2 : tie.Need-pop-some-requires-2
+pop-some-requires-2 c κs =
     let P = c .before .before .before .before .before .before .pre in
-    (P .ptr-top, fits-at P (c .before .enum-told7 .given .1) .1 .ptr)
+    let F = fits-at P (c .before .enum-told7 .given .1) in
+    (P .ptr-top, F .1, F .2 .ptr)
 
 mul-main-3 : tie.Need-mul-main-3
 mul-main-3 c =
@@ -110,8 +108,8 @@ slice-write-main-3 c =
 enum-told-8 : tie.Need-enum-told-8
 enum-told-8 c = search needs
 
-pop-last-requires-2 : tie.Need-pop-last-requires-2
-pop-last-requires-2 c κs =
+pop-last-requires-3 : tie.Need-pop-last-requires-3
+pop-last-requires-3 c κs =
     let P = c .before .before .before .before .before .before .pre in
     let F = fits-at P (c .before .enum-told8 .given .1) in
     (P .main-top, omega (arith, F .1, F .2 .main))
@@ -129,16 +127,18 @@ slice-write-ptr-2 c =
 enum-told-9 : tie.Need-enum-told-9
 enum-told-9 c = search needs
 
-pop-two-requires-3 : tie.Need-pop-two-requires-3
-pop-two-requires-3 c κs =
+pop-some-requires-3 : tie.Need-pop-some-requires-3
+pop-some-requires-3 c κs =
     let P = c .before .before .before .before .before .before .pre in
-    (P .main-top, fits-at P (c .before .enum-told9 .given .1) .1 .main)
+    let F = fits-at P (c .before .enum-told9 .given .1) in
+    (P .main-top, F .1, F .3 .main)
 
-pop-two-requires-4 : tie.Need-pop-two-requires-4
-pop-two-requires-4 c κs =
+pop-some-requires-4 : tie.Need-pop-some-requires-4
+pop-some-requires-4 c κs =
     let at-told = c .before .before .before .before .before in
     let P = at-told .before .before .before .before .before .pre in
-    (P .ptr-top, fits-at P (at-told .enum-told9 .given .1) .1 .ptr)
+    let F = fits-at P (at-told .enum-told9 .given .1) in
+    (P .ptr-top, F .2, F .3 .ptr)
 
 mul-heap-2 : tie.Need-mul-heap-2
 mul-heap-2 c =
@@ -188,7 +188,7 @@ returns-4 c =
     let at-told = c .before .before .before .before in
     let P = at-told .before .before .before .before .before .pre in
     let e = at-told .enum-told4 .given .1 in
-    plainly-main P (c .before .before .pop-one .ensures) (ptr-kept P (fits-at P e .1)) e refl
+    plainly-main P (c .before .before .pop-last2 .ensures) (ptr-kept P (fits-at P e .2)) e refl
 
 same-length-4 : tie.Need-same-length-4
 same-length-4 c = search needs
@@ -198,7 +198,7 @@ returns-5 c =
     let at-told = c .before .before .before .before in
     let P = at-told .before .before .before .before .before .pre in
     let e = at-told .enum-told5 .given .1 in
-    plainly-ptr P (main-kept P (fits-at P e .1)) (c .before .before .pop-one2 .ensures) e refl
+    plainly-ptr P (main-kept P (fits-at P e .1)) (c .before .before .pop-one .ensures) e refl
 
 same-length-5 : tie.Need-same-length-5
 same-length-5 c = search needs
@@ -206,40 +206,41 @@ same-length-5 c = search needs
 same-length-6 : tie.Need-same-length-6
 same-length-6 c = search needs
 
+returns-6 : tie.Need-returns-6
+returns-6 c =
+    let at-told = c .before .before .before .before in
+    let P = at-told .before .before .before .before .before .pre in
+    let e = at-told .enum-told6 .given .1 in
+    plainly-heap P (main-kept P (fits-at P e .2)) (c .before .before .pop-some .ensures) e refl _
+
 same-length-7 : tie.Need-same-length-7
 same-length-7 c = search needs
 
-returns-6 : tie.Need-returns-6
-returns-6 c =
-    let at-pop = c .before .before .before .before .before .before in
-    let at-told = at-pop .before .before in
-    plainly-heap (at-told .before .before .before .before .before .pre) (at-pop .pop-one3 .ensures) (c .before .before .pop-two .ensures) (at-told .enum-told6 .given .1) refl _
-
 same-length-8 : tie.Need-same-length-8
 same-length-8 c = search needs
-
-same-length-9 : tie.Need-same-length-9
-same-length-9 c = search needs
 
 returns-7 : tie.Need-returns-7
 returns-7 c =
     let at-told = c .before .before .before .before in
     let P = at-told .before .before .before .before .before .pre in
     let e = at-told .enum-told7 .given .1 in
-    plainly-main P (main-kept P (fits-at P e .1)) (c .before .before .pop-two2 .ensures) e refl
+    plainly-main P (main-kept P (fits-at P e .2)) (c .before .before .pop-some2 .ensures) e refl
+
+same-length-9 : tie.Need-same-length-9
+same-length-9 c = search needs
 
 same-length-10 : tie.Need-same-length-10
 same-length-10 c = search needs
-
-same-length-11 : tie.Need-same-length-11
-same-length-11 c = search needs
 
 returns-8 : tie.Need-returns-8
 returns-8 c =
     let at-told = c .before .before .before .before in
     let P = at-told .before .before .before .before .before .pre in
     let e = at-told .enum-told8 .given .1 in
-    plainly-ptr P (c .before .before .pop-last2 .ensures) (ptr-kept P (fits-at P e .2)) e refl
+    plainly-ptr P (c .before .before .pop-last3 .ensures) (ptr-kept P (fits-at P e .2)) e refl
+
+same-length-11 : tie.Need-same-length-11
+same-length-11 c = search needs
 
 same-length-12 : tie.Need-same-length-12
 same-length-12 c = search needs
@@ -247,20 +248,17 @@ same-length-12 c = search needs
 same-length-13 : tie.Need-same-length-13
 same-length-13 c = search needs
 
-same-length-14 : tie.Need-same-length-14
-same-length-14 c = search needs
-
 returns-9 : tie.Need-returns-9
 returns-9 c =
     let at-pop = c .before .before .before .before .before .before in
     let at-told = at-pop .before .before in
-    plainly-heap (at-told .before .before .before .before .before .pre) (at-pop .pop-two3 .ensures) (c .before .before .pop-two4 .ensures) (at-told .enum-told9 .given .1) refl _
+    plainly-heap (at-told .before .before .before .before .before .pre) (at-pop .pop-some3 .ensures) (c .before .before .pop-some4 .ensures) (at-told .enum-told9 .given .1) refl _
+
+same-length-14 : tie.Need-same-length-14
+same-length-14 c = search needs
 
 same-length-15 : tie.Need-same-length-15
 same-length-15 c = search needs
-
-same-length-16 : tie.Need-same-length-16
-same-length-16 c = search needs
 
 returns-10 : tie.Need-returns-10
 returns-10 c =
@@ -278,29 +276,28 @@ plain-spec =
     mul-main
     slice-write-main
     enum-told-4
-    pop-one-requires
+    pop-last-requires-2
     mul-main-2
     slice-write-main-2
     enum-told-5
-    pop-one-requires-2
+    pop-one-requires
     mul-ptr
     slice-write-ptr
     enum-told-6
-    pop-one-requires-3
-    pop-two-requires
+    pop-some-requires
     mul-heap
     slice-write-heap
     enum-told-7
-    pop-two-requires-2
+    pop-some-requires-2
     mul-main-3
     slice-write-main-3
     enum-told-8
-    pop-last-requires-2
+    pop-last-requires-3
     mul-ptr-2
     slice-write-ptr-2
     enum-told-9
-    pop-two-requires-3
-    pop-two-requires-4
+    pop-some-requires-3
+    pop-some-requires-4
     mul-heap-2
     slice-write-heap-2
     drop-few-requires
@@ -315,18 +312,17 @@ plain-spec =
     returns-5
     same-length-5
     same-length-6
-    same-length-7
     returns-6
+    same-length-7
     same-length-8
-    same-length-9
     returns-7
+    same-length-9
     same-length-10
-    same-length-11
     returns-8
+    same-length-11
     same-length-12
     same-length-13
-    same-length-14
     returns-9
+    same-length-14
     same-length-15
-    same-length-16
     returns-10)
