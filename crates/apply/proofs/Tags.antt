@@ -25,7 +25,7 @@ apart i j u e = u (ap (tagOf made.the-type) e)
 
 -- the writes into the stacks and the heap
 abbrev noRecord : List ℕ
-noRecord = 0 ∷ 1 ∷ 2 ∷ 3 ∷ 4 ∷ 5 ∷ 6 ∷ 7 ∷ 8 ∷ 9 ∷ 15 ∷ 16 ∷ []
+noRecord = 0 ∷ 1 ∷ 2 ∷ 3 ∷ 4 ∷ 5 ∷ 6 ∷ 7 ∷ 8 ∷ 9 ∷ 15 ∷ 16 ∷ 19 ∷ 20 ∷ []
 
 plain-write : (f : List ℕ) (i : Into) (put : Put) (m : Machine) → OneOf noRecord (tagOf made.the-type i) → Suits f i put m →
     FitsIn i put m × (plainWrite i put m ≡ applyInto f i put m)
@@ -49,6 +49,8 @@ plain-write f into.ReadPointer put m k s = (s, refl)
 plain-write f into.Store put m k s = (s, refl)
 plain-write f into.WordVector put m k s = absurd (miss noRecord 17 tt k)
 plain-write f into.PtrVector put m k s = absurd (miss noRecord 18 tt k)
+plain-write f into.StoreWord put m k s = (s, refl)
+plain-write f into.StorePointer put m k s = (s, refl)
 
 pub plainly : {f : List ℕ} {put : Put} {m : Machine} → Applies f put m → OneOf noRecord (tagOf made.the-type (put .into)) →
     FitsIn (put .into) put m × (plainWrite (put .into) put m ≡ applied f put m)
@@ -57,7 +59,7 @@ plainly {f = f} {put = put} {m = m} A k = plain-write f (put .into) put m k (A .
 
 -- of the late ones: a return is the first frame's; all but a new object and a return are retracts
 abbrev noReturn : List ℕ
-noReturn = 0 ∷ 1 ∷ 2 ∷ 3 ∷ 4 ∷ 5 ∷ 6 ∷ 7 ∷ 8 ∷ 9 ∷ 11 ∷ 13 ∷ 14 ∷ 15 ∷ 16 ∷ []
+noReturn = 0 ∷ 1 ∷ 2 ∷ 3 ∷ 4 ∷ 5 ∷ 6 ∷ 7 ∷ 8 ∷ 9 ∷ 11 ∷ 13 ∷ 14 ∷ 15 ∷ 16 ∷ 19 ∷ 20 ∷ []
 
 module _ {put : Put} {m : Machine} (L : Lately put m) where
   pub late-return : put .into ≡ into.Return → m .regs .frame ≡ 1

@@ -12,7 +12,7 @@ use Rattle.apply_objects.specs.Asks.{MakesNew}
 
 -- all but View and WordVector
 abbrev others : List ℕ
-others = 0 ∷ 1 ∷ 2 ∷ 3 ∷ 4 ∷ 5 ∷ 6 ∷ 7 ∷ 8 ∷ 9 ∷ 11 ∷ 12 ∷ 13 ∷ 14 ∷ 15 ∷ 16 ∷ 18 ∷ []
+others = 0 ∷ 1 ∷ 2 ∷ 3 ∷ 4 ∷ 5 ∷ 6 ∷ 7 ∷ 8 ∷ 9 ∷ 11 ∷ 12 ∷ 13 ∷ 14 ∷ 15 ∷ 16 ∷ 18 ∷ 19 ∷ 20 ∷ []
 
 pub last-one : (i : Into) → MakesNew i → OneOf others (tagOf made.the-type i) → i ≡ into.PtrVector
 last-one i (inl e) k = absurd (miss others 10 tt (rw e at k))

@@ -19,14 +19,14 @@ use Rattle.apply_words.specs.Asks.{Plain, Retract, Dropping, plainWrite}
 
 -- all but DropMain and DropPointer: no word is put back
 abbrev noneAside : List ℕ
-noneAside = 0 ∷ 1 ∷ 2 ∷ 3 ∷ 4 ∷ 5 ∷ 6 ∷ 7 ∷ 10 ∷ 11 ∷ 12 ∷ 13 ∷ 14 ∷ 15 ∷ 16 ∷ 17 ∷ 18 ∷ []
+noneAside = 0 ∷ 1 ∷ 2 ∷ 3 ∷ 4 ∷ 5 ∷ 6 ∷ 7 ∷ 10 ∷ 11 ∷ 12 ∷ 13 ∷ 14 ∷ 15 ∷ 16 ∷ 17 ∷ 18 ∷ 19 ∷ 20 ∷ []
 
 pub none-aside : (i : Into) (put : Put) (m : Machine) → OneOf noneAside (tagOf made.the-type i) → Retract i → cutOnly put m ≡ plainWrite i put m
 none-aside i put m k (inl e) = rw e
 none-aside i put m k (inr (inl e)) = absurd (miss noneAside 8 tt (rw e at k))
 none-aside i put m k (inr (inr e)) = absurd (miss noneAside 9 tt (rw e at k))
 
--- all but Nothing, Pop, Push, Main, Pointer, Heap, Read, ReadPointer and Store: of these only the retracts are plain writes
+-- all but Nothing, Pop, Push, Main, Pointer, Heap, Read, ReadPointer and the stores: of these only the retracts are plain writes
 abbrev others : List ℕ
 others = 7 ∷ 8 ∷ 9 ∷ 10 ∷ 11 ∷ 12 ∷ 13 ∷ 14 ∷ 17 ∷ 18 ∷ []
 
@@ -78,6 +78,8 @@ drop into.ReadPointer lm lp lh r put k F = absurd (miss others 15 tt k)
 drop into.Store lm lp lh r put k F = absurd (miss others 16 tt k)
 drop into.WordVector lm lp lh r put k F = absurd F
 drop into.PtrVector lm lp lh r put k F = absurd F
+drop into.StoreWord lm lp lh r put k F = absurd (miss others 19 tt k)
+drop into.StorePointer lm lp lh r put k F = absurd (miss others 20 tt k)
 
 pub dropping : {lh : ℕ} {main ptr : List ℕ} {r : Regs} {put : Put} → Plain lh main ptr r put → OneOf others (tagOf made.the-type (put .into)) →
     Dropping main ptr r put

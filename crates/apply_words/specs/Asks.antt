@@ -71,6 +71,8 @@ plainWrite into.ReadPointer p m = ptrSet p m
 plainWrite into.Store p m = heapSet p m
 plainWrite into.WordVector p m = cutOnly p m
 plainWrite into.PtrVector p m = cutOnly p m
+plainWrite into.StoreWord p m = heapSet p m
+plainWrite into.StorePointer p m = heapSet p m
 
 -- done, or not: then all is as before
 abbrev pub triedOn : Bool → Put → Regs → Regs

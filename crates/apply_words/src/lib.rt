@@ -227,7 +227,19 @@ pub fn plain(main: &mut [u32], ptr: &mut [u32], heap: &mut [u32], regs: Regs, pu
             true
         }
         Into::Store => {
+            pop_last(main, put.mtop, regs.mtop);
+            pop_last(ptr, put.ptop, regs.ptop);
+            heap[at] = put.word;
+            true
+        }
+        Into::StoreWord => {
             pop_some(main, put.mtop, regs.mtop);
+            pop_last(ptr, put.ptop, regs.ptop);
+            heap[at] = put.word;
+            true
+        }
+        Into::StorePointer => {
+            pop_last(main, put.mtop, regs.mtop);
             pop_some(ptr, put.ptop, regs.ptop);
             heap[at] = put.word;
             true

@@ -18,7 +18,7 @@ use Rattle.model.specs.declared.Value.{Value}
 use Rattle.model.specs.declared.Value.the-variants.{Word, Outside}
 use Rattle.plan_meaning.specs.declared.Into.{Into}
 use Rattle.plan_meaning.specs.declared.Into.the-variants.{Nothing, Pop, Push, Main, Pointer, Heap, Read, Drop, DropMain, DropPointer, View, Frame, Return, Handler, Close}
-use Rattle.plan_meaning.specs.declared.Into.the-variants.{ReadPointer, Store, WordVector, PtrVector}
+use Rattle.plan_meaning.specs.declared.Into.the-variants.{ReadPointer, Store, WordVector, PtrVector, StoreWord, StorePointer}
 use Rattle.plan_meaning.specs.declared.Put.{Put}
 use Rattle.plan_meaning.specs.declared.Plan.{Plan}
 use Rattle.plan_meaning.specs.declared.Plan.the-variants.{Write, OutOfRange, NilObject, NoSuchWord, HeapFull, NoRoom, VectorFault, Thrown}
@@ -93,9 +93,9 @@ basicPlan m q (element onPtr) =
     planElement (elementOf onPtr (m .heap) (ptrWord m 1) (mainWord m 1))
     (λ a. write ReadPointer q (mtop m - 1) (ptop m) (ptop m - 1) (wordAt (m .heap) a))
 basicPlan m q (setElement onMain) =
-    planElement (elementOf onMain (m .heap) (ptrWord m 1) (mainWord m 1)) (λ a. write Store q (mtop m - 2) (ptop m - 1) a (mainWord m 2))
+    planElement (elementOf onMain (m .heap) (ptrWord m 1) (mainWord m 1)) (λ a. write StoreWord q (mtop m - 2) (ptop m - 1) a (mainWord m 2))
 basicPlan m q (setElement onPtr) =
-    planElement (elementOf onPtr (m .heap) (ptrWord m 1) (mainWord m 1)) (λ a. write Store q (mtop m - 1) (ptop m - 2) a (ptrWord m 2))
+    planElement (elementOf onPtr (m .heap) (ptrWord m 1) (mainWord m 1)) (λ a. write StorePointer q (mtop m - 1) (ptop m - 2) a (ptrWord m 2))
 
 -- q is the next place. 1 to 6: jumps; 72: the word and the index written are the new frame's bases; 73: back to the return place;
 -- 160, 161: the handler's record; 162: its word is raised

@@ -14,7 +14,7 @@ use Rattle.model.specs.Instructions.{codeOf, outOfRange, nilObject, noSuchWord,
 use Rattle.model.specs.Step.{Stepped, next, raised}
 use Rattle.plan_meaning.specs.declared.Into.{Into}
 use Rattle.plan_meaning.specs.declared.Into.the-variants.{Nothing, Pop, Push, Main, Pointer, Heap, Read, Drop, DropMain, DropPointer, View, Frame, Return, Handler, Close}
-use Rattle.plan_meaning.specs.declared.Into.the-variants.{ReadPointer, Store, WordVector, PtrVector}
+use Rattle.plan_meaning.specs.declared.Into.the-variants.{ReadPointer, Store, WordVector, PtrVector, StoreWord, StorePointer}
 use Rattle.plan_meaning.specs.declared.Put.{Put}
 use Rattle.plan_meaning.specs.declared.Plan.{Plan}
 use Rattle.plan_meaning.specs.declared.Plan.the-variants.{Write, OutOfRange, NilObject, NoSuchWord, HeapFull, NoRoom, VectorFault, Thrown}
@@ -109,6 +109,8 @@ applyInto f ReadPointer p m = ptrSet p m
 applyInto f Store p m = heapSet p m
 applyInto f WordVector p m = newSet (wordsFrom m) p m
 applyInto f PtrVector p m = newSet (pointersFrom m) p m
+applyInto f StoreWord p m = heapSet p m
+applyInto f StorePointer p m = heapSet p m
 
 unfoldable pub applied : List ℕ → Put → Machine → Machine
 applied f p m = applyInto f (p .into) p m

@@ -10,7 +10,7 @@ use Rattle.model.specs.Moves.{mtop, ptop, mainWord}
 use Rattle.model.specs.declared.Regs.{Regs}
 use Rattle.plan_meaning.specs.declared.Into.{Into}
 use Rattle.plan_meaning.specs.declared.Into.the-variants.{Nothing, Pop, Push, Main, Pointer, Heap, Read, Drop, DropMain, DropPointer, View, Frame, Return, Handler, Close}
-use Rattle.plan_meaning.specs.declared.Into.the-variants.{ReadPointer, Store, WordVector, PtrVector}
+use Rattle.plan_meaning.specs.declared.Into.the-variants.{ReadPointer, Store, WordVector, PtrVector, StoreWord, StorePointer}
 use Rattle.plan_meaning.specs.declared.Put.{Put}
 use Rattle.plan_meaning.specs.declared.Plan.{Plan}
 use Rattle.plan_meaning.specs.declared.Plan.the-variants.{Write, OutOfRange, NilObject, NoSuchWord, HeapFull, NoRoom, VectorFault, Thrown}
@@ -44,9 +44,11 @@ WriteFits Return lm lp lh r put = ⊥
 WriteFits Handler lm lp lh r put = ⊥
 WriteFits Close lm lp lh r put = ⊥
 WriteFits ReadPointer lm lp lh r put = (put .at < lp) × (put .mtop < r .mtop) × Pops 1 0 r put
-WriteFits Store lm lp lh r put = (put .at < lh) × (put .mtop < r .mtop) × (put .ptop < r .ptop) × Pops 2 2 r put
+WriteFits Store lm lp lh r put = (put .at < lh) × (put .mtop < r .mtop) × (put .ptop < r .ptop) × Pops 1 1 r put
 WriteFits WordVector lm lp lh r put = ⊥
 WriteFits PtrVector lm lp lh r put = ⊥
+WriteFits StoreWord lm lp lh r put = (put .at < lh) × (put .mtop < r .mtop) × (put .ptop < r .ptop) × Pops 2 1 r put
+WriteFits StorePointer lm lp lh r put = (put .at < lh) × (put .mtop < r .mtop) × (put .ptop < r .ptop) × Pops 1 2 r put
 
 abbrev pub FitsIn : Into → Put → Machine → Type 0
 FitsIn i put m = WriteFits i (length (m .main)) (length (m .ptr)) (length (m .heap)) (m .regs) put
@@ -93,6 +95,8 @@ Suits f ReadPointer put m = FitsIn ReadPointer put m
 Suits f Store put m = FitsIn Store put m
 Suits f WordVector put m = VectorFits 3 0 (mainWord m 2) put m
 Suits f PtrVector put m = VectorFits 2 1 (mainWord m 1) put m
+Suits f StoreWord put m = FitsIn StoreWord put m
+Suits f StorePointer put m = FitsIn StorePointer put m
 
 -- any plan; 162 has a word to pop
 abbrev pub Suited : List ℕ → Machine → Plan → Type 0

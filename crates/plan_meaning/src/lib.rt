@@ -20,9 +20,11 @@ pub enum Into {
     Handler, // a handler's record on the control stack
     Close, // takes the innermost handler's record away
     ReadPointer, // a word of the pointer stack, had by an index, the topmost main word, which goes: 83
-    Store, // a word of the heap; one or two words of each stack go: 32, 84, 85
+    Store, // a word of the heap; a word of each stack goes: 32
     WordVector, // a new vector of words, and its index on the pointer stack
     PtrVector, // a new vector of pointers, and its index on the pointer stack
+    StoreWord, // a word of the heap; two words of the main stack go, and one of the pointer stack: 84
+    StorePointer, // a word of the heap; one word of the main stack goes, and two of the pointer stack: 85
 }
 
 // The writes of an instruction. Both stacks are cut to their new tops, then a word is written, a new object with its pointer, or nothing; what

@@ -105,7 +105,7 @@ pub fn word_elements(main: &[u32], ptr: &[u32], heap: &[u32], regs: Regs, kind: 
         82 => writes(Into::Read, regs.place + 1, regs.mtop, top, last, heap[at]),
         _ => {
             let value = regs.mtop - 2;
-            writes(Into::Store, regs.place + 1, value, top, at, main[value])
+            writes(Into::StoreWord, regs.place + 1, value, top, at, main[value])
         }
     }
 }
@@ -144,7 +144,7 @@ pub fn ptr_elements(main: &[u32], ptr: &[u32], heap: &[u32], regs: Regs, kind: u
         ),
         _ => {
             let value = regs.ptop - 2;
-            writes(Into::Store, regs.place + 1, last, value, at, ptr[value])
+            writes(Into::StorePointer, regs.place + 1, last, value, at, ptr[value])
         }
     }
 }

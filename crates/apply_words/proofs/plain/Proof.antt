@@ -127,18 +127,18 @@ slice-write-ptr-2 c =
 enum-told-9 : tie.Need-enum-told-9
 enum-told-9 c = search needs
 
-pop-some-requires-3 : tie.Need-pop-some-requires-3
-pop-some-requires-3 c κs =
+pop-last-requires-4 : tie.Need-pop-last-requires-4
+pop-last-requires-4 c κs =
     let P = c .before .before .before .before .before .before .pre in
     let F = fits-at P (c .before .enum-told9 .given .1) in
-    (P .main-top, F .1, F .3 .main)
+    (P .main-top, omega (arith, F .1, F .3 .main))
 
-pop-some-requires-4 : tie.Need-pop-some-requires-4
-pop-some-requires-4 c κs =
+pop-last-requires-5 : tie.Need-pop-last-requires-5
+pop-last-requires-5 c κs =
     let at-told = c .before .before .before .before .before in
     let P = at-told .before .before .before .before .before .pre in
     let F = fits-at P (at-told .enum-told9 .given .1) in
-    (P .ptr-top, F .2, F .3 .ptr)
+    (P .ptr-top, omega (arith, F .2, F .3 .ptr))
 
 mul-heap-2 : tie.Need-mul-heap-2
 mul-heap-2 c =
@@ -150,8 +150,60 @@ slice-write-heap-2 c =
     let at-told = c .before .before .before .before .before .before .before .before in
     fits-at (at-told .before .before .before .before .before .pre) (at-told .enum-told9 .given .1) .0
 
+enum-told-10 : tie.Need-enum-told-10
+enum-told-10 c = search needs
+
+pop-some-requires-3 : tie.Need-pop-some-requires-3
+pop-some-requires-3 c κs =
+    let P = c .before .before .before .before .before .before .pre in
+    let F = fits-at P (c .before .enum-told10 .given .1) in
+    (P .main-top, F .1, F .3 .main)
+
+pop-last-requires-6 : tie.Need-pop-last-requires-6
+pop-last-requires-6 c κs =
+    let at-told = c .before .before .before .before .before in
+    let P = at-told .before .before .before .before .before .pre in
+    let F = fits-at P (at-told .enum-told10 .given .1) in
+    (P .ptr-top, omega (arith, F .2, F .3 .ptr))
+
+mul-heap-3 : tie.Need-mul-heap-3
+mul-heap-3 c =
+    let at-told = c .before .before .before .before .before .before .before .before in
+    omega (arith, fits-at (at-told .before .before .before .before .before .pre) (at-told .enum-told10 .given .1) .0)
+
+slice-write-heap-3 : tie.Need-slice-write-heap-3
+slice-write-heap-3 c =
+    let at-told = c .before .before .before .before .before .before .before .before in
+    fits-at (at-told .before .before .before .before .before .pre) (at-told .enum-told10 .given .1) .0
+
+enum-told-11 : tie.Need-enum-told-11
+enum-told-11 c = search needs
+
+pop-last-requires-7 : tie.Need-pop-last-requires-7
+pop-last-requires-7 c κs =
+    let P = c .before .before .before .before .before .before .pre in
+    let F = fits-at P (c .before .enum-told11 .given .1) in
+    (P .main-top, omega (arith, F .1, F .3 .main))
+
+pop-some-requires-4 : tie.Need-pop-some-requires-4
+pop-some-requires-4 c κs =
+    let at-told = c .before .before .before .before .before in
+    let P = at-told .before .before .before .before .before .pre in
+    let F = fits-at P (at-told .enum-told11 .given .1) in
+    (P .ptr-top, F .2, F .3 .ptr)
+
+mul-heap-4 : tie.Need-mul-heap-4
+mul-heap-4 c =
+    let at-told = c .before .before .before .before .before .before .before .before in
+    omega (arith, fits-at (at-told .before .before .before .before .before .pre) (at-told .enum-told11 .given .1) .0)
+
+slice-write-heap-4 : tie.Need-slice-write-heap-4
+slice-write-heap-4 c =
+    let at-told = c .before .before .before .before .before .before .before .before in
+    fits-at (at-told .before .before .before .before .before .pre) (at-told .enum-told11 .given .1) .0
+
 drop-few-requires : tie.Need-drop-few-requires
-drop-few-requires c κs = dropping (c .before .before .before .before .before .before .pre) (c .before .before .match .keys10)
+drop-few-requires c κs = dropping (c .before .before .before .before .before .before .pre) (c .before .before .match .keys12)
 
 returns : tie.Need-returns
 returns c =
@@ -252,7 +304,7 @@ returns-9 : tie.Need-returns-9
 returns-9 c =
     let at-pop = c .before .before .before .before .before .before in
     let at-told = at-pop .before .before in
-    plainly-heap (at-told .before .before .before .before .before .pre) (at-pop .pop-some3 .ensures) (c .before .before .pop-some4 .ensures) (at-told .enum-told9 .given .1) refl _
+    plainly-heap (at-told .before .before .before .before .before .pre) (at-pop .pop-last4 .ensures) (c .before .before .pop-last5 .ensures) (at-told .enum-told9 .given .1) refl _
 
 same-length-14 : tie.Need-same-length-14
 same-length-14 c = search needs
@@ -260,10 +312,40 @@ same-length-14 c = search needs
 same-length-15 : tie.Need-same-length-15
 same-length-15 c = search needs
 
+same-length-16 : tie.Need-same-length-16
+same-length-16 c = search needs
+
 returns-10 : tie.Need-returns-10
 returns-10 c =
+    let at-pop = c .before .before .before .before .before .before in
+    let at-told = at-pop .before .before in
+    plainly-heap (at-told .before .before .before .before .before .pre) (at-pop .pop-some3 .ensures) (c .before .before .pop-last6 .ensures) (at-told .enum-told10 .given .1) refl _
+
+same-length-17 : tie.Need-same-length-17
+same-length-17 c = search needs
+
+same-length-18 : tie.Need-same-length-18
+same-length-18 c = search needs
+
+same-length-19 : tie.Need-same-length-19
+same-length-19 c = search needs
+
+returns-11 : tie.Need-returns-11
+returns-11 c =
+    let at-pop = c .before .before .before .before .before .before in
+    let at-told = at-pop .before .before in
+    plainly-heap (at-told .before .before .before .before .before .pre) (at-pop .pop-last7 .ensures) (c .before .before .pop-some4 .ensures) (at-told .enum-told11 .given .1) refl _
+
+same-length-20 : tie.Need-same-length-20
+same-length-20 c = search needs
+
+same-length-21 : tie.Need-same-length-21
+same-length-21 c = search needs
+
+returns-12 : tie.Need-returns-12
+returns-12 c =
     let at-match = c .before .before .before .before .before .before .before in
-    (λ ctl. c .before .before .before .before .drop-few .ensures _ _, λ e. dropping (at-match .before .before .before .before .pre) (at-match .match .keys10) .retract)
+    (λ ctl. c .before .before .before .before .drop-few .ensures _ _, λ e. dropping (at-match .before .before .before .before .pre) (at-match .match .keys12) .retract)
 
 pub plain-spec : {M : Type 1} → statement M
 plain-spec =
@@ -296,10 +378,20 @@ plain-spec =
     mul-ptr-2
     slice-write-ptr-2
     enum-told-9
-    pop-some-requires-3
-    pop-some-requires-4
+    pop-last-requires-4
+    pop-last-requires-5
     mul-heap-2
     slice-write-heap-2
+    enum-told-10
+    pop-some-requires-3
+    pop-last-requires-6
+    mul-heap-3
+    slice-write-heap-3
+    enum-told-11
+    pop-last-requires-7
+    pop-some-requires-4
+    mul-heap-4
+    slice-write-heap-4
     drop-few-requires
     returns
     same-length
@@ -325,4 +417,12 @@ plain-spec =
     returns-9
     same-length-14
     same-length-15
-    returns-10)
+    same-length-16
+    returns-10
+    same-length-17
+    same-length-18
+    same-length-19
+    returns-11
+    same-length-20
+    same-length-21
+    returns-12)
