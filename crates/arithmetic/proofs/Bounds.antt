@@ -17,7 +17,7 @@ use native.Mathlib.Omega.{arith}
 use Rattle.model.specs.Choice.{if_then_else_}
 use Rattle.model.specs.Words.{signed, toWord, bit, inRange, valueOf}
 use Rattle.model.specs.declared.Value.the-variants.{Word}
-use Rattle.arithmetic.specs.Distance.{distance}
+use Rattle.arithmetic.specs.Distance.{negative?}
 
 pub split : (a b : ℕ) → (a < b) ⊎ (b ≤ a)
 split a b = elim (decLt a b) [ yes h ↦ inl h | no h ↦ inr (omega arith) ]
@@ -219,11 +219,11 @@ made {r} {z} f e = rw (← (in-range z f)) (ap Word e)
 
 -- ---- distances: the machine's test of the sign, and the cast of what is not negative
 
-pub below-zero : (z : ℤ) → SFits w64 z → ltZ (toZ w64 (ofZ w64 z)) (pos 0) ≡ true → 4294967296 ≡ distance z
-below-zero (pos n) f e = absurd (true≢false (sym (rw (toZ-ofZ w64 (pos n) f) at e) ∙ le-ltb n 0 (omega arith)))
-below-zero (negsuc n) f e = refl
+pub sign-tested : (z : ℤ) → SFits w64 z → ltZ (toZ w64 (ofZ w64 z)) (pos 0) ≡ negative? z
+sign-tested (pos n) f = rw (toZ-ofZ w64 (pos n) f) (le-ltb n 0 (omega arith))
+sign-tested (negsuc n) f = rw (toZ-ofZ w64 (negsuc n) f)
 
-pub above-zero : (z : ℤ) → SFits w64 z → ltZ (toZ w64 (ofZ w64 z)) (pos 0) ≡ false →
-    T (nonNeg (toZ w64 (ofZ w64 z))) × Fits w64 (natAbs (toZ w64 (ofZ w64 z))) × (natAbs (toZ w64 (ofZ w64 z)) ≡ distance z)
-above-zero (pos n) f e = rw (toZ-ofZ w64 (pos n) f) (tt, record { fits = omega (arith, f .sfits) }, refl)
-above-zero (negsuc n) f e = absurd (true≢false (rw (toZ-ofZ w64 (negsuc n) f) at e))
+pub cast-natural : (z : ℤ) → SFits w64 z → negative? z ≡ false →
+    T (nonNeg (toZ w64 (ofZ w64 z))) × Fits w64 (natAbs (toZ w64 (ofZ w64 z))) × (pos (natAbs (toZ w64 (ofZ w64 z))) ≡ z)
+cast-natural (pos n) f e = rw (toZ-ofZ w64 (pos n) f) (tt, record { fits = omega (arith, f .sfits) }, refl)
+cast-natural (negsuc n) f e = absurd (true≢false e)

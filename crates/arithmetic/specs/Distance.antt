@@ -1,7 +1,7 @@
--- How far an index lies above a vector's lower bound, as one number: below it, so far that no vector reaches there.
-use Prim.Native.Nat.{ℕ}
+-- Whether a whole number is negative.
+use mathlib.Core.Bool.{Bool, true, false}
 use lib.IntN.{ℤ, pos, negsuc}
 
-abbrev pub distance : ℤ → ℕ
-distance (pos n) = n
-distance (negsuc n) = 4294967296
+abbrev pub negative? : ℤ → Bool
+negative? (pos n) = false
+negative? (negsuc n) = true

@@ -1,10 +1,10 @@
 // Arithmetic and comparisons on words, which are whole numbers in two's complement (Manual 2.1, 4.17 to 4.20).
 // A word becomes a signed number, is computed with, and becomes a word again.
 use model::Value;
-ghost use mathlib.Core.Bool.{true};
+ghost use mathlib.Core.Bool.{true, false};
 ghost use mathlib.Core.Path.{_≡_};
-ghost use lib.IntN.{negℤ, _+ℤ_, _-ℤ_, _*ℤ_};
-ghost use Rattle.arithmetic.specs.Distance.{distance};
+ghost use lib.IntN.{pos, negℤ, _+ℤ_, _-ℤ_, _*ℤ_};
+ghost use Rattle.arithmetic.specs.Distance.{negative?};
 ghost use Rattle.model.specs.Words.{signed, toWord, inRange, Op, operate, Op1, operate1};
 
 const LEAST: u32 = 2147483648; // the word of -2^31
@@ -73,15 +73,19 @@ pub fn minus(a: u32, b: u32) -> i64
     wide(a) - wide(b)
 }
 
-// how far an index lies above a lower bound; if it lies below, 2^32, which no vector's length reaches: one test then finds both
-pub fn distance(index: u32, bound: u32) -> usize
-    ensures { λ r. ⌜ r ≡ distance (signed index -ℤ signed bound) ⌝ }
+// whether an index lies below a lower bound
+pub fn under(index: u32, bound: u32) -> bool
+    ensures { λ r. ⌜ r ≡ negative? (signed index -ℤ signed bound) ⌝ }
 {
-    let far = minus(index, bound);
-    if far < 0 {
-        return 4294967296;
-    }
-    far as usize
+    minus(index, bound) < 0
+}
+
+// how far it lies above the bound else. A function of its own: a number for "below" would stand between the bound and the element's address
+pub fn distance(index: u32, bound: u32) -> usize
+    requires { ⌜ negative? (signed index -ℤ signed bound) ≡ false ⌝ }
+    ensures { λ r. ⌜ pos r ≡ signed index -ℤ signed bound ⌝ }
+{
+    minus(index, bound) as usize
 }
 
 pub fn times(a: u32, b: u32) -> i64

@@ -1,7 +1,7 @@
--- What the code asks of a vector is what the definition asks: nil, then the kind, then one comparison of the index's distance from the bound with
--- the number of elements, which is below 2^32.
+-- What the code asks of a vector is what the definition asks: nil, then the kind, then whether the index lies below the bound, and then its distance
+-- from that against the number of elements.
 use Prim.Native.Nat.{ℕ, _+_, _<_, _≤_}
-use mathlib.Core.Bool.{Bool, true, false}
+use mathlib.Core.Bool.{true, true≢false}
 use mathlib.Core.List.{List}
 use mathlib.Core.Logic.{_⊎_, inl, inr, _≢_}
 use mathlib.Core.Path.{_≡_, refl, sym, _∙_}
@@ -13,15 +13,17 @@ use Rattle.model.specs.Words.{signed}
 use Rattle.model.specs.File.{Side}
 use Rattle.model.specs.Heap.{kindAt}
 use Rattle.model.specs.Vectors.{vectorKind, boundAt, firstElement, elementsAt, Element, found, ofNil, nowhere, elementIn, elementOf}
-use Rattle.arithmetic.specs.Distance.{distance}
+use Rattle.arithmetic.specs.Distance.{negative?}
 
-in-past : (first count : ℕ) (z : ℤ) → count ≤ distance z → elementIn first count z ≡ nowhere
-in-past first count (pos n) l = rw (le-ltb n count l)
-in-past first count (negsuc n) l = refl
+in-under : (first count : ℕ) (z : ℤ) → negative? z ≡ true → elementIn first count z ≡ nowhere
+in-under first count (pos n) e = absurd (true≢false (sym e))
+in-under first count (negsuc n) e = refl
 
-in-found : (first count : ℕ) (z : ℤ) → count ≤ 4294967296 → distance z < count → elementIn first count z ≡ found (first + distance z)
-in-found first count (pos n) s l = rw (lt-ltb n count l)
-in-found first count (negsuc n) s l = absurd (omega arith)
+in-past : (first count far : ℕ) {z : ℤ} → pos far ≡ z → count ≤ far → elementIn first count z ≡ nowhere
+in-past first count far f l = rw (← f, le-ltb far count l)
+
+in-found : (first count far : ℕ) {z : ℤ} → pos far ≡ z → far < count → elementIn first count z ≡ found (first + far)
+in-found first count far f l = rw (← f, lt-ltb far count l)
 
 -- the object q, which is read as r, and the index i
 module _ (d : Side) (h : List ℕ) (q i : ℕ) {r : ℕ} (e : r ≡ q) where
@@ -35,15 +37,19 @@ module _ (d : Side) (h : List ℕ) (q i : ℕ) {r : ℕ} (e : r ≡ q) where
     unfolding elementOf
     other-kind u = rw (← e, ne-eqb r 0 n, ← is, ne-eqb k (vectorKind d) u)
 
-    -- so are the number of its elements, its bound, and the distance of the index from that
-    module _ (u : k ≡ vectorKind d) {count bound far : ℕ} (c : count ≡ elementsAt d h r) (b : bound ≡ boundAt h r)
-        (f : far ≡ distance (signed i -ℤ signed bound)) where
+    -- so are the number of its elements and its bound
+    module _ (u : k ≡ vectorKind d) {count bound : ℕ} (c : count ≡ elementsAt d h r) (b : bound ≡ boundAt h r) where
       sought : elementOf d h q i ≡ elementIn (r + firstElement d) count (signed i -ℤ signed bound)
       unfolding elementOf
       sought = rw (← e, ne-eqb r 0 n, ← is, eq-eqb k (vectorKind d) u, ← c, ← b)
 
-      pub past-sought : count ≤ far → elementOf d h q i ≡ nowhere
-      past-sought l = sought ∙ in-past (r + firstElement d) count (signed i -ℤ signed bound) (rw f at l)
+      pub under-sought : negative? (signed i -ℤ signed bound) ≡ true → elementOf d h q i ≡ nowhere
+      under-sought v = sought ∙ in-under (r + firstElement d) count (signed i -ℤ signed bound) v
 
-      pub found-sought : count ≤ 4294967296 → far < count → elementOf d h q i ≡ found (r + firstElement d + far)
-      found-sought s l = rw f (sought ∙ in-found (r + firstElement d) count (signed i -ℤ signed bound) s (rw f at l))
+      -- the distance of the index from the bound
+      module _ {far : ℕ} (f : pos far ≡ signed i -ℤ signed bound) where
+        pub past-sought : count ≤ far → elementOf d h q i ≡ nowhere
+        past-sought l = sought ∙ in-past _ _ _ f l
+
+        pub found-sought : far < count → elementOf d h q i ≡ found (r + firstElement d + far)
+        found-sought l = sought ∙ in-found _ _ _ f l

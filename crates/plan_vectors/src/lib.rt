@@ -96,6 +96,9 @@ pub fn word_elements(main: &[u32], ptr: &[u32], heap: &[u32], regs: Regs, kind: 
     }
     let elements = heap::size_at(heap, object) - 3;
     let bound = object + 2;
+    if arithmetic::under(main[last], heap[bound]) {
+        return Plan::VectorFault;
+    }
     let far = arithmetic::distance(main[last], heap[bound]);
     if elements <= far {
         return Plan::VectorFault;
@@ -128,6 +131,9 @@ pub fn ptr_elements(main: &[u32], ptr: &[u32], heap: &[u32], regs: Regs, kind: u
     }
     let elements = heap::ptrs_at(heap, object);
     let bound = object + (2 + elements);
+    if arithmetic::under(main[last], heap[bound]) {
+        return Plan::VectorFault;
+    }
     let far = arithmetic::distance(main[last], heap[bound]);
     if elements <= far {
         return Plan::VectorFault;
@@ -144,7 +150,14 @@ pub fn ptr_elements(main: &[u32], ptr: &[u32], heap: &[u32], regs: Regs, kind: u
         ),
         _ => {
             let value = regs.ptop - 2;
-            writes(Into::StorePointer, regs.place + 1, last, value, at, ptr[value])
+            writes(
+                Into::StorePointer,
+                regs.place + 1,
+                last,
+                value,
+                at,
+                ptr[value],
+            )
         }
     }
 }
