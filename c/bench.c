@@ -712,7 +712,7 @@ static const long_loop loops[] = {
         3, 0, 28) }
 };
 
-/* On a vector of 16: what is read is the next index, or the vector itself; the last one adds 1 to each element. */
+/* On a vector of 16. Words read are the next index; pointers are compared, or are the vector itself; the last one adds 1 to each element. */
 static const long_loop vector_loops[] = {
     { "plain elements read", LISTED(240, 0, 0, 0, 0, 3, 2, 54, 0, 54, 16, 54, 3, 80, 54, 3,
         21, 0, 0, 82, 21, 0, 0, 82, 21, 0, 0, 82, 21, 0, 0, 82, 3, 0, 19) },
@@ -720,6 +720,8 @@ static const long_loop vector_loops[] = {
         54, 5, 54, 3, 21, 0, 0, 84, 54, 6, 54, 4, 21, 0, 0, 84, 54, 7, 54, 15, 21, 0, 0, 84,
         3, 0, 27) },
     { "pointer elements read", LISTED(240, 0, 0, 0, 0, 2, 3, 54, 0, 54, 16, 57, 81,
+        54, 3, 21, 0, 0, 83, 54, 4, 21, 0, 0, 83, 131, 64, 0, 1, 0, 0, 3, 0, 21) },
+    { "pointer elements, each read from the last", LISTED(240, 0, 0, 0, 0, 2, 3, 54, 0, 54, 16, 57, 81,
         54, 3, 21, 0, 0, 21, 0, 0, 85,
         54, 3, 83, 54, 3, 83, 54, 3, 83, 54, 3, 83, 3, 0, 15) },
     { "pointer elements written", LISTED(240, 0, 0, 0, 0, 2, 3, 54, 0, 54, 16, 57, 81,
