@@ -721,7 +721,7 @@ static const long_loop vector_loops[] = {
         3, 0, 27) },
     { "pointer elements read", LISTED(240, 0, 0, 0, 0, 2, 3, 54, 0, 54, 16, 57, 81,
         54, 3, 21, 0, 0, 83, 54, 4, 21, 0, 0, 83, 131, 64, 0, 1, 0, 0, 3, 0, 21) },
-    { "pointer elements, each read from the last", LISTED(240, 0, 0, 0, 0, 2, 3, 54, 0, 54, 16, 57, 81,
+    { "a chain of pointers read", LISTED(240, 0, 0, 0, 0, 2, 3, 54, 0, 54, 16, 57, 81,
         54, 3, 21, 0, 0, 21, 0, 0, 85,
         54, 3, 83, 54, 3, 83, 54, 3, 83, 54, 3, 83, 3, 0, 15) },
     { "pointer elements written", LISTED(240, 0, 0, 0, 0, 2, 3, 54, 0, 54, 16, 57, 81,
