@@ -78,7 +78,7 @@ static const char *exception_words(uint32_t code)
     case YALGOVIM_NO_SUCH_WORD: return "the object has no such word";
     case YALGOVIM_HEAP_FULL: return "the heap is full";
     case YALGOVIM_NO_ROOM: return "a stack is full";
-    case YALGOVIM_OUTSIDE_VECTOR: return "not a vector of this kind, or an index or length out of range";
+    case YALGOVIM_VECTOR_FAULT: return "not a vector of this kind, or an index or length out of range";
     default: return "raised by the routine itself";
     }
 }

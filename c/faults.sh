@@ -74,7 +74,7 @@ plant "the heap's last free word not judged" \
 plant "80 pops the length before the value" 's/PLAIN, value, length, bound)/PLAIN, length, value, bound)/'
 plant "80 pops the bound before the length" 's/PLAIN, value, length, bound)/PLAIN, value, bound, length)/'
 plant "81 pops the bound before the length" 's/POINTERS, value, length, bound)/POINTERS, value, bound, length)/'
-plant "a negative length raises 4" '/^static uint32_t make_vector/,/^}/s/REF_OUTSIDE_VECTOR/REF_HEAP_FULL/'
+plant "a negative length raises 4" '/^static uint32_t make_vector/,/^}/s/REF_VECTOR_FAULT/REF_HEAP_FULL/'
 plant "a full heap raises 4 before a negative length 6" 's/^    if (whole(length) < 0)/    if (heap_len - at < 3)\
         return REF_HEAP_FULL;\
 &/'

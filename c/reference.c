@@ -785,7 +785,7 @@ static uint32_t make_vector(uint32_t *heap, size_t heap_len, uint32_t kind,
 {
     size_t at = heap[0];
     if (whole(length) < 0)
-        return REF_OUTSIDE_VECTOR;
+        return REF_VECTOR_FAULT;
     if (heap_len - at < 3 + (size_t)length)
         return REF_HEAP_FULL;
     uint32_t pointers = kind == POINTERS ? length : 0;
@@ -811,13 +811,13 @@ static inline uint32_t find_element(const uint32_t *heap, size_t heap_len, uint3
         return REF_NIL_OBJECT;
     uint32_t header = get(heap, heap_len, vector);
     if (header >> 24 != kind)
-        return REF_OUTSIDE_VECTOR;
+        return REF_VECTOR_FAULT;
     uint32_t pointers = header & 0xffffffu;
     uint32_t bound = get(heap, heap_len, (size_t)vector + 2 + pointers);
     uint32_t length = get(heap, heap_len, (size_t)vector + 1) - 3;
     int64_t past = (int64_t)whole(index) - whole(bound);
     if (past < 0 || past >= length)
-        return REF_OUTSIDE_VECTOR;
+        return REF_VECTOR_FAULT;
     *at = vector + (kind == PLAIN ? 3u : 2u) + (size_t)past;
     return 0;
 }

@@ -27,7 +27,7 @@ enum {
     REF_NO_SUCH_WORD = 3,
     REF_HEAP_FULL = 4,
     REF_NO_ROOM = 5,
-    REF_OUTSIDE_VECTOR = 6
+    REF_VECTOR_FAULT = 6
 };
 
 typedef struct {
