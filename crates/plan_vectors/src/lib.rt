@@ -14,7 +14,7 @@ ghost use lib.Dec.{leb};
 ghost use lib.ListN.{length};
 ghost use Rattle.model.specs.Words.{wordAt};
 ghost use Rattle.model.specs.File.{fileMost};
-ghost use Rattle.model.specs.Calls.{mainMost, ptrMost, heapMost};
+ghost use Rattle.model.specs.Calls.{ptrMost};
 ghost use Rattle.model.specs.Heap.{markOf};
 ghost use Rattle.model.specs.Control.{Machine, setRegs, setMain, setPtr, setHeap};
 ghost use Rattle.plan_meaning.specs.Planned.{planned};
@@ -82,7 +82,7 @@ pub fn make_pointers(main: &[u32], heap: &[u32], regs: Regs) -> Plan
 pub fn word_elements(main: &[u32], ptr: &[u32], heap: &[u32], regs: Regs, kind: u8) -> Plan
     requires { ⌜ (regs .place < fileMost) × TopWithin (now main) (regs .mtop) × TopWithin (now ptr) (regs .ptop) × (1 ≤ regs .mtop) × (1 ≤ regs .ptop)
         × ((wordAt (now ptr) (regs .ptop - 1) ≡ 0) ⊎ Lies (now heap) (wordAt (now ptr) (regs .ptop - 1)))
-        × (length (now heap) ≤ heapMost) × (kind ≡ 84 → 2 ≤ regs .mtop) × ((kind ≡ 82) ⊎ (kind ≡ 84)) ⌝ }
+        × (kind ≡ 84 → 2 ≤ regs .mtop) × ((kind ≡ 82) ⊎ (kind ≡ 84)) ⌝ }
     ensures { λ r. ⌜ ((f : List ℕ) (m : Machine) → r ≡ planned f (setRegs regs (setMain (now (main .entry)) (setPtr (now (ptr .entry)) (setHeap (now (heap .entry)) m)))) 1 kind) ⌝ }
 {
     let top = regs.ptop - 1;
@@ -117,7 +117,7 @@ pub fn word_elements(main: &[u32], ptr: &[u32], heap: &[u32], regs: Regs, kind: 
 pub fn ptr_elements(main: &[u32], ptr: &[u32], heap: &[u32], regs: Regs, kind: u8) -> Plan
     requires { ⌜ (regs .place < fileMost) × TopWithin (now main) (regs .mtop) × TopWithin (now ptr) (regs .ptop) × (1 ≤ regs .mtop) × (1 ≤ regs .ptop)
         × ((wordAt (now ptr) (regs .ptop - 1) ≡ 0) ⊎ Lies (now heap) (wordAt (now ptr) (regs .ptop - 1)))
-        × (length (now heap) ≤ heapMost) × (kind ≡ 85 → 2 ≤ regs .ptop) × ((kind ≡ 83) ⊎ (kind ≡ 85)) ⌝ }
+        × (kind ≡ 85 → 2 ≤ regs .ptop) × ((kind ≡ 83) ⊎ (kind ≡ 85)) ⌝ }
     ensures { λ r. ⌜ ((f : List ℕ) (m : Machine) → r ≡ planned f (setRegs regs (setMain (now (main .entry)) (setPtr (now (ptr .entry)) (setHeap (now (heap .entry)) m)))) 1 kind) ⌝ }
 {
     let top = regs.ptop - 1;

@@ -202,28 +202,28 @@ unfolding insOf effectOf basicEffect
 word-elements-requires c κs =
     let R = ready (c .before) in
     let e = c .match .keys35 in
-    (place-small R, main-within R, ptr-within R, omega (arith, pops-main R e), omega (arith, pops-ptr R e), points R _, R .heap-most, λ z. omega (arith, z), inl refl)
+    (place-small R, main-within R, ptr-within R, omega (arith, pops-main R e), omega (arith, pops-ptr R e), points R _, λ z. omega (arith, z), inl refl)
 
 word-elements-requires-2 : tie.Need-word-elements-requires-2
 unfolding insOf effectOf basicEffect
 word-elements-requires-2 c κs =
     let R = ready (c .before) in
     let e = c .match .keys36 in
-    (place-small R, main-within R, ptr-within R, omega (arith, pops-main R e), omega (arith, pops-ptr R e), points R _, R .heap-most, λ z. pops-main R e, inr refl)
+    (place-small R, main-within R, ptr-within R, omega (arith, pops-main R e), omega (arith, pops-ptr R e), points R _, λ z. pops-main R e, inr refl)
 
 ptr-elements-requires : tie.Need-ptr-elements-requires
 unfolding insOf effectOf basicEffect
 ptr-elements-requires c κs =
     let R = ready (c .before) in
     let e = c .match .keys37 in
-    (place-small R, main-within R, ptr-within R, omega (arith, pops-main R e), omega (arith, pops-ptr R e), points R _, R .heap-most, λ z. omega (arith, z), inl refl)
+    (place-small R, main-within R, ptr-within R, omega (arith, pops-main R e), omega (arith, pops-ptr R e), points R _, λ z. omega (arith, z), inl refl)
 
 ptr-elements-requires-2 : tie.Need-ptr-elements-requires-2
 unfolding insOf effectOf basicEffect
 ptr-elements-requires-2 c κs =
     let R = ready (c .before) in
     let e = c .match .keys38 in
-    (place-small R, main-within R, ptr-within R, omega (arith, pops-main R e), omega (arith, pops-ptr R e), points R _, R .heap-most, λ z. pops-ptr R e, inr refl)
+    (place-small R, main-within R, ptr-within R, omega (arith, pops-main R e), omega (arith, pops-ptr R e), points R _, λ z. pops-ptr R e, inr refl)
 
 returns : tie.Need-returns
 unfolding bodyOf bodies codes
