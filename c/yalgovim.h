@@ -58,7 +58,7 @@ enum {
                                    32: it is a vector's lower bound */
     YALGOVIM_HEAP_FULL = 4,     /* 36, 80, 81: the heap has too few free words */
     YALGOVIM_NO_ROOM = 5,       /* 72: a callee's x, y or record does not fit; 160: its record */
-    YALGOVIM_VECTOR_FAULT = 6 /* 80, 81: a negative length; 82 to 85: an index outside
+    YALGOVIM_VECTOR_FAULT = 6   /* 80, 81: a negative length; 82 to 85: an index outside
                                    the vector, or an object of another kind */
 };
 

@@ -23,7 +23,7 @@ use Rattle.apply_objects.specs.Asks.{VectorRoom, MakesNew, Making}
 use Rattle.apply_words.specs.Asks.{Plain, Retract, Dropping, onwards, plainWrite, triedOn, triedWrite}
 use Rattle.apply.specs.declared.Tried.{Tried}
 use Rattle.plan_meaning.specs.Suits.{FitsIn, Forms, VectorFits, CallSuits, Suits}
-use Rattle.apply.specs.Applies.{Applies, Late, New, Lately, tried, appliedIf}
+use Rattle.apply.specs.Applies.{Applies, Late, PutsNew, Lately, tried, appliedIf}
 use Rattle.model.specs.Calls.{mainMost, ptrMost}
 
 -- the registers and what is left of the lists
@@ -87,7 +87,7 @@ module _ {f : List ℕ} {put : Put} {m : Machine} (A : Applies f put m) where
             (F .words, S .main .fits, F .pointers, S .ptr .fits, heap-room (F .room));
       }
 
-  to-new : MakesNew (put .into) → New (m .main) (m .ptr) (m .heap) (m .regs) put
+  to-new : MakesNew (put .into) → PutsNew (m .main) (m .ptr) (m .heap) (m .regs) put
   to-new N = record { making = making N; main-top = A .stands .main; ptr-top = A .stands .ptr; below = at N }
     where
       at : MakesNew (put .into) → put .at < length (m .ptr)

@@ -61,7 +61,7 @@ appliedIf true f p m = applied f p m
 appliedIf false f p m = m
 
 -- what is asked where an object is made: its words are there, the stacks have their tops, and the place of its index lies in the stack
-pub record New (main ptr heap : List ℕ) (r : Regs) (put : Put) : Type 0 where
+pub record PutsNew (main ptr heap : List ℕ) (r : Regs) (put : Put) : Type 0 where
   pub making : Making main ptr heap r put
   pub main-top : Topped (r .mtop) main
   pub ptr-top : Topped (r .ptop) ptr
@@ -71,5 +71,5 @@ pub record New (main ptr heap : List ℕ) (r : Regs) (put : Put) : Type 0 where
 pub record Lately (put : Put) (m : Machine) : Type 0 where
   pub late : Late (put .into) (m .regs)
   pub ctl : Topped (m .regs .ctop) (m .ctl)
-  pub new : MakesNew (put .into) → New (m .main) (m .ptr) (m .heap) (m .regs) put
+  pub new : MakesNew (put .into) → PutsNew (m .main) (m .ptr) (m .heap) (m .regs) put
   pub retract : Retract (put .into) → Dropping (m .main) (m .ptr) (m .regs) put

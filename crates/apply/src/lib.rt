@@ -11,7 +11,7 @@ ghost use Rattle.model.specs.Step.{raised};
 ghost use Rattle.plan_meaning.specs.Settled.{applied, settle};
 ghost use Rattle.laws.specs.Cuts.{Topped};
 ghost use Rattle.apply_words.specs.Asks.{onwards};
-ghost use Rattle.apply.specs.Applies.{Applies, Late, New, Lately, Later, tried, appliedIf};
+ghost use Rattle.apply.specs.Applies.{Applies, Late, PutsNew, Lately, Later, tried, appliedIf};
 ghost use Rattle.apply.specs.Ended.{Targets, Raises, Settles, endedOf, resumed, raisedBy};
 use control_stack::Handler;
 use model::PROCS_MOST;
@@ -109,7 +109,7 @@ pub fn apply(
 
 // 36, 80 and 81: a new object in the place of what is popped, and its index on the pointer stack.
 fn put_new(main: &mut [u32], ptr: &mut [u32], heap: &mut [u32], regs: Regs, put: Put)
-    requires { ⌜ New (now main) (now ptr) (now heap) regs put ⌝ }
+    requires { ⌜ PutsNew (now main) (now ptr) (now heap) regs put ⌝ }
     ensures { λ _. ⌜ ((f ctl : List ℕ) → record { regs = onwards put regs; main = now (main .exit); ptr = now (ptr .exit); ctl = ctl; heap = now (heap .exit) }
         ≡ applied f put (record { regs = regs; main = now (main .entry); ptr = now (ptr .entry); ctl = ctl; heap = now (heap .entry) })) ⌝ }
 {

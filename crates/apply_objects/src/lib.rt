@@ -1,5 +1,5 @@
 // New objects in the heap: a view of words that are popped, and vectors (Manual 4.11, 4.28). All of them begin by one function, which alone
-// knows the mark.
+// writes the mark.
 ghost use mathlib.Core.Path.{_≡_};
 ghost use mathlib.Core.List.{List, [], _∷_};
 ghost use Prim.Native.Nat.{ℕ, _+_, _-_, _≤_};

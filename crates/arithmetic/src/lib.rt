@@ -1,4 +1,4 @@
-// Arithmetic and comparisons on words, which are whole numbers in two's complement (Manual 2.1, 4.17 to 4.20).
+// Arithmetic and comparisons on words, which are whole numbers in two's complement (Manual 2.1, 4.17 to 4.20, 4.29).
 // A word becomes a signed number, is computed with, and becomes a word again.
 use model::Value;
 ghost use mathlib.Core.Bool.{true, false};

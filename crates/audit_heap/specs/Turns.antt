@@ -13,7 +13,7 @@ use lib.Seq.{getD-set-same, getD-set-other}
 use borrow.Author.Tests.{eq-eqb, ne-eqb, le-leb, lt-leb, le-ltb, lt-ltb, not-true, not-false}
 use Rattle.model.specs.Choice.{if_then_else_, member}
 use Rattle.model.specs.Words.{wordAt}
-use Rattle.model.specs.Heap.{markOf, firstObject, kindAt, ptrsAt, sizeAt, viewKind, kindOf, Object, Objects, Audit, fault, clean, andObject, badHeader}
+use Rattle.model.specs.Heap.{markOf, firstObject, ptrsAt, sizeAt, kindOf, Object, Objects, Audit, fault, clean, andObject, badHeader}
 use Rattle.model.specs.Heap.{badSize, walk, isPointer, range, pointerWords}
 use Rattle.audit_heap.specs.declared.HeapAudit.{HeapAudit}
 use Rattle.audit_heap.specs.declared.HeapAudit.the-variants.{Clean, Fault}

@@ -46,7 +46,7 @@ fn judge_object(heap: &[u32], q: usize, mark: usize) -> HeapAudit
         return HeapAudit::Fault(next);
     }
     if !heap::size_right(heap, q) {
-        return HeapAudit::Fault(next);
+        return HeapAudit::Fault(next); // wrong for its kind
     }
     HeapAudit::Clean
 }

@@ -13,8 +13,8 @@ use borrow.Author.Tests.{eqb-true, eqb-false, ltb-true, le-leb, lt-ltb}
 use Rattle.model.specs.Choice.{if_then_else_, Mem}
 use Rattle.model.specs.Words.{signed, wordAt}
 use Rattle.model.specs.File.{Side, onMain, onPtr}
-use Rattle.model.specs.Heap.{ptrsAt, sizeAt, kindAt, kindOf, inPtrs, inPlain, maySetPlain, maySetPtr, Pointer, Heap}
-use Rattle.model.specs.Vectors.{vectorKind, boundAt, firstElement, elementsAt, Element, found, ofNil, nowhere, elementIn, elementOf}
+use Rattle.model.specs.Heap.{ptrsAt, sizeAt, kindAt, inPtrs, inPlain, maySetPlain, maySetPtr, Pointer, Heap}
+use Rattle.model.specs.Vectors.{vectorKind, boundAt, firstElement, elementsAt, found, ofNil, nowhere, elementIn, elementOf}
 use Rattle.heap.specs.Kinds.{at-words, at-pointers}
 use Rattle.heap.specs.Stores.{object-lies}
 

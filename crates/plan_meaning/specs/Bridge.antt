@@ -21,7 +21,7 @@ use Rattle.model.specs.File.{branchKeep, call, return, enter, exit, raise, afte
 use Rattle.model.specs.Checker.{basicEffect, effectOf}
 use Rattle.model.specs.Heap.{markOf, viewKind, wordVectorKind, ptrVectorKind, kindOf, ptrsAt, inPtrs, inPlain, maySetPlain, maySetPtr, made}
 use Rattle.model.specs.Vectors.{Element, found, ofNil, nowhere, elementOf}
-use Rattle.model.specs.Control.{Machine, running, records, recordWords, setHeap}
+use Rattle.model.specs.Control.{Machine, running, records, recordWords}
 use Rattle.model.specs.Moves.{mtop, ptop, mainWord, ptrWord, mainWords, ptrWords, goTo, inFrame, popMain, popPtr, pushNew, finished}
 use Rattle.model.specs.Instructions.{codeOf, nilObject, noSuchWord, heapFull, noRoom, Result, done, throws, fails, andGo, onValue, onObject, onElement}
 use Rattle.model.specs.Instructions.{New, object, ofLength, newOf, onNew, makes, calleeTests, basicRule, rule}
@@ -36,7 +36,7 @@ use Rattle.plan_meaning.specs.declared.Plan.{Plan}
 use Rattle.plan_meaning.specs.declared.Plan.the-variants.{NilObject, NoSuchWord, HeapFull, VectorFault}
 use Rattle.plan_meaning.specs.Planned.{basicPlan, planOf, planAt}
 use Rattle.plan_meaning.specs.Planned as plan
-use Rattle.plan_meaning.specs.Settled.{ptrSet, newSet, popRec, returned, applyInto, applied, settle}
+use Rattle.plan_meaning.specs.Settled.{newSet, popRec, returned, applyInto, applied, settle}
 use Rattle.plan_meaning.specs.Suits.{Pops, Suits, Suited}
 
 -- a word that is set may have been popped before
@@ -75,7 +75,7 @@ pub record Apt (f : List ℕ) (m : Machine) (x : Ins) : Type 0 where
   pub may-ptr : (s : ℕ) → ptrWord m 1 ≢ 0 → maySetPtr (m .heap) (ptrWord m 1) s ≡ inPtrs (m .heap) (ptrWord m 1) s
   pub plain-in : (s : ℕ) → ptrWord m 1 ≢ 0 → inPlain (m .heap) (ptrWord m 1) s ≡ true → ptrWord m 1 + s < length (m .heap)
   pub ptr-in : (s : ℕ) → ptrWord m 1 ≢ 0 → inPtrs (m .heap) (ptrWord m 1) s ≡ true → ptrWord m 1 + s < length (m .heap)
-  pub element-in : (d : Side) (a : ℕ) → elementOf d (m .heap) (ptrWord m 1) (mainWord m 1) ≡ found a → a < length (m .heap)
+  pub element-within : (d : Side) (a : ℕ) → elementOf d (m .heap) (ptrWord m 1) (mainWord m 1) ≡ found a → a < length (m .heap)
   pub root-in : 2 ≤ length (m .heap)
   -- the instruction is not cut short; the control records are whole; at a 161 a handler is open
   pub in-file : after f (m .regs .place) ≤ length f
@@ -143,12 +143,12 @@ module _ (f : List ℕ) (m : Machine) (q : ℕ) where
     ptr-push : (w : ℕ) → set (cut (ptop m + 1) (m .ptr)) (ptop m) w ≡ set (m .ptr) (ptop m) w
     ptr-push w = ap (λ (l : List ℕ). set l (ptop m) w) (cut-same (ptop m + 1) (m .ptr) (λ i h. A .ptr-zero i (omega arith)))
 
-  on-element : (e : Element) (p : ℕ → Plan) (r : ℕ → Result) → ((a : ℕ) → e ≡ found a → Comes (p a) (andGo q (r a))) →
+  element-comes : (e : Element) (p : ℕ → Plan) (r : ℕ → Result) → ((a : ℕ) → e ≡ found a → Comes (p a) (andGo q (r a))) →
       Comes (plan.planElement e p) (andGo q (onElement e r))
   unfolding settle
-  on-element (found a) p r k = k a refl
-  on-element ofNil p r k = comes refl tt
-  on-element nowhere p r k = comes refl tt
+  element-comes (found a) p r k = k a refl
+  element-comes ofNil p r k = comes refl tt
+  element-comes nowhere p r k = comes refl tt
 
   -- what is written for a new object
   abbrev newPut : Maker → Into → Put
@@ -307,25 +307,25 @@ module _ (f : List ℕ) (m : Machine) (q : ℕ) where
       let b = A .pop-ptr in
       let h = A .pop-main in
       let k = A .main-fits in
-      on-element (elementOf onMain (m .heap) (ptrWord m 1) (mainWord m 1)) _ _
+      element-comes (elementOf onMain (m .heap) (ptrWord m 1) (mainWord m 1)) _ _
       (λ a e. comes (same (omega arith) refl (set-over (m .main) _ _ _ _ refl (omega arith)) refl) (omega arith, omega arith, gone (omega arith) (omega arith)))
   basic-comes (element onPtr) A =
       let h = A .pop-main in
       let k = A .pop-ptr in
       let l = A .ptr-fits in
-      on-element (elementOf onPtr (m .heap) (ptrWord m 1) (mainWord m 1)) _ _
+      element-comes (elementOf onPtr (m .heap) (ptrWord m 1) (mainWord m 1)) _ _
       (λ a e. comes (same refl (omega arith) refl (set-over (m .ptr) _ _ _ _ refl (omega arith)))
       (omega arith, omega arith, gone (omega arith) (omega arith)))
   basic-comes (setElement onMain) A =
       let h = A .pop-main in
       let k = A .pop-ptr in
-      on-element (elementOf onMain (m .heap) (ptrWord m 1) (mainWord m 1)) _ _
-      (λ a e. comes refl (A .element-in onMain a e, omega arith, omega arith, gone (omega arith) (omega arith)))
+      element-comes (elementOf onMain (m .heap) (ptrWord m 1) (mainWord m 1)) _ _
+      (λ a e. comes refl (A .element-within onMain a e, omega arith, omega arith, gone (omega arith) (omega arith)))
   basic-comes (setElement onPtr) A =
       let h = A .pop-main in
       let k = A .pop-ptr in
-      on-element (elementOf onPtr (m .heap) (ptrWord m 1) (mainWord m 1)) _ _
-      (λ a e. comes refl (A .element-in onPtr a e, omega arith, omega arith, gone (omega arith) (omega arith)))
+      element-comes (elementOf onPtr (m .heap) (ptrWord m 1) (mainWord m 1)) _ _
+      (λ a e. comes refl (A .element-within onPtr a e, omega arith, omega arith, gone (omega arith) (omega arith)))
 
   both : (g : Bool → Plan) (r : Bool → Machine) → Comes (g true) (done (r true)) → Comes (g false) (done (r false)) →
       (t : Bool) → Comes (g t) (done (r t))

@@ -73,15 +73,15 @@ pub fn ptr_fields(file: &[u8], ptr: &[u32], heap: &[u32], regs: Regs, kind: u8) 
 {
     let place = regs.place;
     let top = regs.ptop - 1;
-    let view = numbers::word(ptr[top]);
-    if view == 0 {
+    let object = numbers::word(ptr[top]);
+    if object == 0 {
         return Plan::NilObject;
     }
     let s = code_file::operand(file, place);
-    if !heap::in_ptrs(heap, view, s) {
+    if !heap::in_ptrs(heap, object, s) {
         return Plan::NoSuchWord;
     }
-    let slot = view + s;
+    let slot = object + s;
     match kind {
         31 => writes(
             Into::Pointer,

@@ -3,16 +3,14 @@
 use Prim.Native.Nat.{ℕ, _+_, _<_, _≤_}
 use mathlib.Core.Bool.{true, true≢false}
 use mathlib.Core.List.{List}
-use mathlib.Core.Logic.{_⊎_, inl, inr, _≢_}
+use mathlib.Core.Logic.{_≢_}
 use mathlib.Core.Path.{_≡_, refl, sym, _∙_}
-use native.Mathlib.Omega.{arith}
 use lib.IntN.{ℤ, pos, negsuc, _-ℤ_}
 use borrow.Author.Tests.{eq-eqb, ne-eqb, lt-ltb, le-ltb}
-use Rattle.model.specs.Choice.{if_then_else_}
 use Rattle.model.specs.Words.{signed}
 use Rattle.model.specs.File.{Side}
 use Rattle.model.specs.Heap.{kindAt}
-use Rattle.model.specs.Vectors.{vectorKind, boundAt, firstElement, elementsAt, Element, found, ofNil, nowhere, elementIn, elementOf}
+use Rattle.model.specs.Vectors.{vectorKind, boundAt, firstElement, elementsAt, found, ofNil, nowhere, elementIn, elementOf}
 use Rattle.arithmetic.specs.Distance.{negative?}
 
 in-under : (first count : ℕ) (z : ℤ) → negative? z ≡ true → elementIn first count z ≡ nowhere

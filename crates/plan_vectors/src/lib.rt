@@ -21,6 +21,8 @@ ghost use Rattle.plan_meaning.specs.Planned.{planned};
 ghost use Rattle.plan_meaning.specs.Asked.{TopWithin};
 ghost use Rattle.heap.specs.Stores.{Lies};
 
+const LEAST: u32 = 2147483648; // the word of -2^31, the least that is negative
+
 // The free words suffice for a vector of so many elements: header, size and lower bound come to them.
 fn has_room(heap: &[u32], elements: u32) -> bool
     requires { ⌜ 1 ≤ length (now heap) ⌝ }
@@ -37,7 +39,7 @@ pub fn make_words(main: &[u32], heap: &[u32], regs: Regs) -> Plan
 {
     let under = regs.mtop - 2;
     let elements = main[under];
-    if 2147483648 <= elements {
+    if LEAST <= elements {
         return Plan::VectorFault; // a negative length, before the heap is looked at: 6, not 4
     }
     if !has_room(heap, elements) {
@@ -61,7 +63,7 @@ pub fn make_pointers(main: &[u32], heap: &[u32], regs: Regs) -> Plan
 {
     let under = regs.mtop - 1;
     let elements = main[under];
-    if 2147483648 <= elements {
+    if LEAST <= elements {
         return Plan::VectorFault;
     }
     if !has_room(heap, elements) {

@@ -201,10 +201,10 @@ module _ (f map : List ℕ) (m : Machine) (os : List ℕ) (i j : ℕ) where
       go false e true d = k (eqb-false o 0 e) d
       go false e false d = tt
 
-  on-element : (q : ℕ) (e : Element) (r : ℕ → Result) → ((a : ℕ) → e ≡ found a → Fine (andGo q (r a))) → Fine (andGo q (onElement e r))
-  on-element q (found a) r k = k a refl
-  on-element q ofNil r k = tt
-  on-element q nowhere r k = tt
+  element-fine : (q : ℕ) (e : Element) (r : ℕ → Result) → ((a : ℕ) → e ≡ found a → Fine (andGo q (r a))) → Fine (andGo q (onElement e r))
+  element-fine q (found a) r k = k a refl
+  element-fine q ofNil r k = tt
+  element-fine q nowhere r k = tt
 
   on-length : (q : ℕ) (b : Maker) (z : ℤ) (new : ℕ → New) → ((n : ℕ) → Fine (andGo q (onNew m b (new n)))) → Fine (andGo q (onNew m b (ofLength z new)))
   on-length q b (pos n) new k = k n
@@ -388,20 +388,20 @@ module _ (f map : List ℕ) (m : Machine) (os : List ℕ) (i j : ℕ) where
     basic-fine (unary o) e =
         on-value ahead (operate1 o (mainWord m 1)) _ (λ w. on (unary o) _ e (push-main (pop-main start 1) w) (omega arith) (omega arith))
     basic-fine (element onMain) e =
-        on-element ahead (elementOf onMain (m .heap) (ptrWord m 1) (mainWord m 1)) _
+        element-fine ahead (elementOf onMain (m .heap) (ptrWord m 1) (mainWord m 1)) _
         (λ a u. on (element onMain) _ e (push-main (pop-main (pop-ptr start 1) 1) _) (omega arith) (omega arith))
     basic-fine (element onPtr) e =
-        on-element ahead (elementOf onPtr (m .heap) (ptrWord m 1) (mainWord m 1)) _
+        element-fine ahead (elementOf onPtr (m .heap) (ptrWord m 1) (mainWord m 1)) _
         (λ a u. let F = is-found onPtr (m .heap) (ptrWord m 1) (mainWord m 1) a u in
         on (element onPtr) _ e (push-ptr (pop-main (pop-ptr start 1) 1) _ (ptr-element K _ a (vector-here F) F)) (omega arith) (omega arith))
     basic-fine (setElement onMain) e =
-        on-element ahead (elementOf onMain (m .heap) (ptrWord m 1) (mainWord m 1)) _
+        element-fine ahead (elementOf onMain (m .heap) (ptrWord m 1) (mainWord m 1)) _
         (λ a u. let F = is-found onMain (m .heap) (ptrWord m 1) (mainWord m 1) a u in
         let h = H .plain-store (m .heap) os (ptrWord m 1) (3 + F .n) (mainWord m 2) K (vector-here F) (word-set K _ a (vector-here F) F) in
         let i : ptrWord m 1 + (3 + F .n) ≡ a = omega (arith, F .is) in
         on (setElement onMain) _ e (store-heap (pop-main (pop-ptr start 1) 2) _ _ (rw i at h)) (omega arith) (omega arith))
     basic-fine (setElement onPtr) e =
-        on-element ahead (elementOf onPtr (m .heap) (ptrWord m 1) (mainWord m 1)) _
+        element-fine ahead (elementOf onPtr (m .heap) (ptrWord m 1) (mainWord m 1)) _
         (λ a u. let F = is-found onPtr (m .heap) (ptrWord m 1) (mainWord m 1) a u in
         let h = H .ptr-store (m .heap) os (ptrWord m 1) (2 + F .n) (ptrWord m 2) K (vector-here F) (ptr-set K _ a (vector-here F) F) (pointer _) in
         let i : ptrWord m 1 + (2 + F .n) ≡ a = omega (arith, F .is) in

@@ -152,7 +152,7 @@ module _ {f map table : List ℕ} {m : Machine} (A : Alive f map table m) (n i j
         may-ptr = λ s u. may-set-ptr (A .heap) (ptrWord m 1) s (object u);
         plain-in = λ s u v. read-plain (A .heap) (ptrWord m 1) s (object u) v;
         ptr-in = λ s u v. read-ptr (A .heap) (ptrWord m 1) s (object u) v .1;
-        element-in = λ d a u.
+        element-within = λ d a u.
             let F = is-found d (m .heap) (ptrWord m 1) (mainWord m 1) a u in
             element-in (A .heap) (ptrWord m 1) a (object (F .some)) d F;
         root-in = Y .heap-least;

@@ -1,5 +1,5 @@
 -- `apply_objects::begin` meets its contract: the three stores are those of `begun`, the mark being read first.
-use mathlib.Core.Path.{refl, ap}
+use mathlib.Core.Path.{refl}
 use native.Mathlib.Omega.{arith}
 use lib.ListN.{length-set}
 use Rattle.apply_objects.specs.Asks.{begun}

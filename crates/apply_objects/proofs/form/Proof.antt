@@ -1,8 +1,7 @@
 -- `apply_objects::form` meets its contract: the object is begun, and pointers and plain words are copied behind its size.
-use mathlib.Core.Path.{_∙_, sym}
+use mathlib.Core.Path.{sym}
 use native.Mathlib.Omega.{arith}
-use lib.ListN.{length-set}
-use lib.Seq.{length-sets, length-slice}
+use lib.Seq.{length-slice}
 use Rattle.apply_objects.specs.Laws.{both-copied}
 use borrow.Author.Needs.{needs}
 use Rattle.apply_objects.proofs.form.Statement.{statement}

@@ -1,5 +1,4 @@
 -- `apply_objects::make` meets its contract: each arm knows which object is made.
-use mathlib.Core.Path.{_∙_}
 use Rattle.plan_meaning.specs.Settled.{applyInto, applied}
 use Rattle.apply_objects.proofs.Tags.{last-one}
 use borrow.Author.Needs.{needs}

@@ -1,5 +1,5 @@
 -- `apply_objects::ptr_vector` meets its contract: the object is begun, its pointer words are filled, and the word behind them is the bound.
-use mathlib.Core.Path.{refl, ap}
+use mathlib.Core.Path.{refl}
 use native.Mathlib.Omega.{arith}
 use lib.ListN.{length-set}
 use Rattle.apply_objects.specs.Laws.{pointers-filled}

@@ -1,5 +1,5 @@
 -- `apply_objects::word_vector` meets its contract: the object is begun, its first plain word is the bound, and the others are filled.
-use mathlib.Core.Path.{refl, ap}
+use mathlib.Core.Path.{refl}
 use native.Mathlib.Omega.{arith}
 use lib.ListN.{length-set}
 use Rattle.apply_objects.specs.Laws.{plain-filled}
