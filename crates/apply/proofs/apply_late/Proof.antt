@@ -14,19 +14,25 @@ enum-told : tie.Need-enum-told
 enum-told c = search needs
 
 put-new-requires : tie.Need-put-new-requires
-put-new-requires c κs = c .before .before .before .before .before .before .before .before .before .before .pre .new (inl (c .before .before .before .enum-told .given .1))
+put-new-requires c κs =
+    let entry = c .before .before .before .before .before .before .before .before .before .before in
+    entry .pre .new (inl (c .before .before .before .enum-told .given .1))
 
 enum-told-2 : tie.Need-enum-told-2
 enum-told-2 c = search needs
 
 put-new-requires-2 : tie.Need-put-new-requires-2
-put-new-requires-2 c κs = c .before .before .before .before .before .before .before .before .before .before .pre .new (inr (inl (c .before .before .before .enum-told2 .given .1)))
+put-new-requires-2 c κs =
+    let entry = c .before .before .before .before .before .before .before .before .before .before in
+    entry .pre .new (inr (inl (c .before .before .before .enum-told2 .given .1)))
 
 enum-told-3 : tie.Need-enum-told-3
 enum-told-3 c = search needs
 
 put-new-requires-3 : tie.Need-put-new-requires-3
-put-new-requires-3 c κs = c .before .before .before .before .before .before .before .before .before .before .pre .new (inr (inr (c .before .before .before .enum-told3 .given .1)))
+put-new-requires-3 c κs =
+    let entry = c .before .before .before .before .before .before .before .before .before .before in
+    entry .pre .new (inr (inr (c .before .before .before .enum-told3 .given .1)))
 
 enum-told-4 : tie.Need-enum-told-4
 enum-told-4 c = search needs
@@ -36,7 +42,8 @@ finish-requires c κs = search needs
 
 drop-all-requires : tie.Need-drop-all-requires
 drop-all-requires c κs =
-    let L = c .before .before .before .before .before .before .before .before .pre in
+    let entry = c .before .before .before .before .before .before .before .before in
+    let L = entry .pre in
     L .retract (late-retract L (c .before .before .match .keys5))
 
 same-length : tie.Need-same-length
@@ -49,7 +56,9 @@ same-length-3 : tie.Need-same-length-3
 same-length-3 c = search needs
 
 returns : tie.Need-returns
-returns c f = rw (c .before .before .before .before .before .before .before .before .before .before .before .before .onward .ensures) (c .before .before .before .before .before .before .put-new .ensures f _)
+returns c f =
+    let at-put = c .before .before .before .before .before .before in
+    rw (at-put .before .before .before .before .before .before .onward .ensures) (at-put .put-new .ensures f _)
 
 same-length-4 : tie.Need-same-length-4
 same-length-4 c = search needs
@@ -61,7 +70,9 @@ same-length-6 : tie.Need-same-length-6
 same-length-6 c = search needs
 
 returns-2 : tie.Need-returns-2
-returns-2 c f = rw (c .before .before .before .before .before .before .before .before .before .before .before .before .onward .ensures) (c .before .before .before .before .before .before .put-new2 .ensures f _)
+returns-2 c f =
+    let at-put = c .before .before .before .before .before .before in
+    rw (at-put .before .before .before .before .before .before .onward .ensures) (at-put .put-new2 .ensures f _)
 
 same-length-7 : tie.Need-same-length-7
 same-length-7 c = search needs
@@ -73,7 +84,9 @@ same-length-9 : tie.Need-same-length-9
 same-length-9 c = search needs
 
 returns-3 : tie.Need-returns-3
-returns-3 c f = rw (c .before .before .before .before .before .before .before .before .before .before .before .before .onward .ensures) (c .before .before .before .before .before .before .put-new3 .ensures f _)
+returns-3 c f =
+    let at-put = c .before .before .before .before .before .before in
+    rw (at-put .before .before .before .before .before .before .onward .ensures) (at-put .put-new3 .ensures f _)
 
 same-length-10 : tie.Need-same-length-10
 same-length-10 c = search needs

@@ -30,8 +30,10 @@ same-length-3 c = search needs
 
 returns : tie.Need-returns
 returns c f ctl =
-    let S = c .before .before .before .before .before .before .before .before .before .before .before .before .before .before .before .before .before in
-    new-applied f _ _ (S .pre .making .new) (c .before .before .before .before .before .before .before .before .before .before .make .ensures f ctl) (c .before .before .before .before .before .before .cut-to .ensures) (c .before .before .cut-to2 .ensures)
+    let at-cut = c .before .before .before .before .before .before in
+    let at-make = at-cut .before .before .before .before in
+    let S = at-make .before .before .before .before .before .before .before in
+    new-applied f _ _ (S .pre .making .new) (at-make .make .ensures f ctl) (at-cut .cut-to .ensures) (c .before .before .cut-to2 .ensures)
 
 pub put-new-spec : {M : Type 1} → statement M
 put-new-spec =

@@ -15,38 +15,49 @@ sub-words c = search needs
 
 begin-requires : tie.Need-begin-requires
 begin-requires c κs =
-    let P = c .before .before .before .before .before .before .pre in
+    let entry = c .before .before .before .before .before .before in
+    let P = entry .pre in
     record { known = omega arith; free = P .free; heap-most = P .heap-most }
 
 copy-requires : tie.Need-copy-requires
 copy-requires c κs =
+    let entry = c .before .before .before .before .before .before .before .before .before .before in
     let B = c .before .before .before .begin in
-    let P = c .before .before .before .before .before .before .before .before .before .before .pre in
+    let P = entry .pre in
     (P .pointers, P .ptr-fits, omega (arith, P .free, B .ensures .0, B .kept .0))
 
 add-copy : tie.Need-add-copy
 add-copy c =
-    let B = c .before .before .before .before .before .before .before .begin in
-    let P = c .before .before .before .before .before .before .before .before .before .before .before .before .before .before .pre in
+    let at-begin = c .before .before .before .before .before .before .before in
+    let entry = at-begin .before .before .before .before .before .before .before in
+    let B = at-begin .begin in
+    let P = entry .pre in
     omega (arith, P .free, B .ensures .0, P .heap-most)
 
 copy-requires-2 : tie.Need-copy-requires-2
 copy-requires-2 c κs =
-    let B = c .before .before .before .before .before .before .before .begin in
-    let P = c .before .before .before .before .before .before .before .before .before .before .before .before .before .before .pre in
+    let at-begin = c .before .before .before .before .before .before .before in
+    let entry = at-begin .before .before .before .before .before .before .before in
+    let B = at-begin .begin in
+    let P = entry .pre in
     (P .words, P .main-fits, omega (arith, P .free, B .ensures .0, B .kept .0, c .before .before .before .copy .kept .0))
 
 same-length : tie.Need-same-length
 same-length c =
-    omega (arith, c .before .before .copy2 .kept .0, c .before .before .before .before .before .before .copy .kept .0, c .before .before .before .before .before .before .before .before .before .before .begin .kept .0)
+    let at-copy = c .before .before .before .before .before .before in
+    let at-begin = at-copy .before .before .before .before in
+    omega (arith, c .before .before .copy2 .kept .0, at-copy .copy .kept .0, at-begin .begin .kept .0)
 
 returns : tie.Need-returns
 returns c =
-    let B = c .before .before .before .before .before .before .before .before .before .before .begin in
-    let S = c .before .before .before .before .before .before .before .before .before .before .before .before .before .before .before .before .before in
+    let at-copy = c .before .before .before .before .before .before in
+    let at-begin = at-copy .before .before .before .before in
+    let back17 = at-begin .before .before .before .before .before .before .before in
+    let B = at-begin .begin in
+    let S = back17 in
     let P = S .pre in
     both-copied _ _ _ _ (B .ensures .0) (B .ensures .1) _ _ (sym (length-slice (S .args .put .at) (S .args .regs .ptop) (S .args .ptr .now) (P .ptr-fits)))
-    (sym (length-slice (S .args .put .mtop) (S .args .regs .mtop) (S .args .main .now) (P .main-fits))) (c .before .before .before .before .before .before .copy .ensures)
+    (sym (length-slice (S .args .put .mtop) (S .args .regs .mtop) (S .args .main .now) (P .main-fits))) (at-copy .copy .ensures)
     (c .before .before .copy2 .ensures)
 
 pub form-spec : {M : Type 1} → statement M

@@ -54,12 +54,15 @@ slice-write-heap c = search needs
 
 same-length : tie.Need-same-length
 same-length c =
-    simp length-set (omega (arith, c .before .before .fill .kept .0, c .before .before .before .before .before .before .begin .kept .0))
+    let at-begin = c .before .before .before .before .before .before in
+    simp length-set (omega (arith, c .before .before .fill .kept .0, at-begin .begin .kept .0))
 
 returns : tie.Need-returns
 returns c =
-    let B = c .before .before .before .before .before .before .begin in
-    pointers-filled _ _ _ _ (B .ensures .0) (B .ensures .1) _ _ (c .before .before .before .before .before .before .before .before .before .word .ensures .is) refl refl (c .before .before .fill .ensures)
+    let at-begin = c .before .before .before .before .before .before in
+    let at-word = at-begin .before .before .before in
+    let B = at-begin .begin in
+    pointers-filled _ _ _ _ (B .ensures .0) (B .ensures .1) _ _ (at-word .word .ensures .is) refl refl (c .before .before .fill .ensures)
 
 pub ptr-vector-spec : {M : Type 1} → statement M
 ptr-vector-spec =

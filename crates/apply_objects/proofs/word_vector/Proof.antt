@@ -54,18 +54,23 @@ add-fill c = search needs
 
 fill-requires : tie.Need-fill-requires
 fill-requires c κs =
+    let at-word = c .before .before .before .before .before .before in
+    let entry = at-word .before .before .before .before .before in
     let B = c .before .before .before .begin in
-    let P = c .before .before .before .before .before .before .before .before .before .before .before .pre in
-    simp length-set (omega (arith, P .2 .free, B .ensures .0, B .kept .0, c .before .before .before .before .before .before .word .ensures .is))
+    let P = entry .pre in
+    simp length-set (omega (arith, P .2 .free, B .ensures .0, B .kept .0, at-word .word .ensures .is))
 
 same-length : tie.Need-same-length
 same-length c =
-    omega (arith, simp length-set at (c .before .before .fill .kept .0), c .before .before .before .before .before .before .begin .kept .0)
+    let at-begin = c .before .before .before .before .before .before in
+    omega (arith, simp length-set at (c .before .before .fill .kept .0), at-begin .begin .kept .0)
 
 returns : tie.Need-returns
 returns c =
-    let B = c .before .before .before .before .before .before .begin in
-    plain-filled _ _ _ _ (B .ensures .0) (B .ensures .1) _ _ (c .before .before .before .before .before .before .before .before .before .word .ensures .is) refl refl (c .before .before .fill .ensures)
+    let at-begin = c .before .before .before .before .before .before in
+    let at-word = at-begin .before .before .before in
+    let B = at-begin .begin in
+    plain-filled _ _ _ _ (B .ensures .0) (B .ensures .1) _ _ (at-word .word .ensures .is) refl refl (c .before .before .fill .ensures)
 
 pub word-vector-spec : {M : Type 1} → statement M
 word-vector-spec =

@@ -18,23 +18,29 @@ use Rattle.plan_objects.proofs.plain_fields.Tie as tie
 
 -- the object is no nil; and what the code asks of it is what the definition asks
 object : (c : tie.Else1) → Lies (now (c .before .before .before .before .before .before .before .before .args .heap)) (c .before .word .result)
-object c = lies (c .before .before .before .before .before .before .before .before .pre .4) (c .before .word .ensures .is) (c .if1 .left)
+object c =
+    let entry = c .before .before .before .before .before .before .before .before in
+    lies (entry .pre .4) (c .before .word .ensures .is) (c .if1 .left)
 
 read-same : (c : tie.After-in-plain) →
     let a = c .before .before .before .before .before .before .before .before .before .before .before .args in
     let top = wordAt (now (a .ptr)) (a .regs .ptop - 1) in
-    FieldAsked (inPlain (now (a .heap))) top (operand (now (a .file)) (a .regs .place)) (c .before .before .before .before .word .result) (c .before .before .operand .result) (c .in-plain .result)
+    let s = operand (now (a .file)) (a .regs .place) in
+    FieldAsked (inPlain (now (a .heap))) top s (c .before .before .before .before .word .result) (c .before .before .operand .result) (c .in-plain .result)
 read-same c = field-asked _ (c .before .before .before .before .word .ensures .is) (c .before .before .before .if1 .left) (c .before .before .operand .ensures .is) (c .in-plain .ensures)
 
 set-same : (c : tie.After-may-set-plain) →
     let a = c .before .before .before .before .before .before .before .before .before .before .before .args in
     let top = wordAt (now (a .ptr)) (a .regs .ptop - 1) in
-    FieldAsked (maySetPlain (now (a .heap))) top (operand (now (a .file)) (a .regs .place)) (c .before .before .before .before .word .result) (c .before .before .operand .result) (c .may-set-plain .result)
+    let s = operand (now (a .file)) (a .regs .place) in
+    FieldAsked (maySetPlain (now (a .heap))) top s (c .before .before .before .before .word .result) (c .before .before .operand .result) (c .may-set-plain .result)
 set-same c = field-asked _ (c .before .before .before .before .word .ensures .is) (c .before .before .before .if1 .left) (c .before .before .operand .ensures .is) (c .may-set-plain .ensures)
 
 -- the code is the other one
 is-set : (c : tie.At-match-rest) → c .before .before .before .before .before .before .before .before .before .before .args .kind ≡ 32
-is-set c = other (c .before .before .before .before .before .before .before .before .before .before .pre .6) (c .match .rest .1)
+is-set c =
+    let entry = c .before .before .before .before .before .before .before .before .before .before in
+    other (entry .pre .6) (c .match .rest .1)
 
 sub-top : tie.Need-sub-top
 sub-top c = search needs
@@ -51,9 +57,10 @@ word-requires c κs = search needs
 returns : tie.Need-returns
 unfolding planned planOf basicPlan insOf
 returns c =
+    let entry = c .before .before .before .before .before .before .before .before in
     λ m.
     let z = is-nil (c .before .word .ensures .is) (c .if1 .taken) in
-    ⊎-elim (λ e. rw e (rw z)) (λ e. rw e (rw z)) (c .before .before .before .before .before .before .before .before .pre .6)
+    ⊎-elim (λ e. rw e (rw z)) (λ e. rw e (rw z)) (entry .pre .6)
 
 operand-requires : tie.Need-operand-requires
 operand-requires c κs = search needs
@@ -110,16 +117,18 @@ writes-requires-2 c κs = search needs
 returns-4 : tie.Need-returns-4
 unfolding planned planOf basicPlan insOf
 returns-4 c =
+    let at-match = c .before .before .before .before .before in
     λ m.
     let A = read-same (c .before .before .before .before) in
-    rw (c .writes .ensures, c .before .before .before .before .before .match .keys1, A .object, A .number) (rw (A .some, A .part ∙ not-false _ (c .before .before .before .if2 .left)))
+    rw (c .writes .ensures, at-match .match .keys1, A .object, A .number) (rw (A .some, A .part ∙ not-false _ (c .before .before .before .if2 .left)))
 
 returns-5 : tie.Need-returns-5
 unfolding planned planOf basicPlan insOf
 returns-5 c =
+    let back5 = c .before .before .before .before .before in
     λ m.
     let A = set-same (c .before .before .before .before) in
-    rw (c .writes2 .ensures, is-set (c .before .before .before .before .before), A .object, A .number) (rw (A .some, A .part ∙ not-false _ (c .before .before .before .if3 .left)))
+    rw (c .writes2 .ensures, is-set (back5), A .object, A .number) (rw (A .some, A .part ∙ not-false _ (c .before .before .before .if3 .left)))
 
 pub plain-fields-spec : {M : Type 1} → statement M
 plain-fields-spec =

@@ -18,7 +18,9 @@ use Rattle.plan_vectors.proofs.word_elements.Tie as tie
 
 -- the object is no nil, and so lies in the heap
 object : (c : tie.Else1) → Lies (now (c .before .before .before .before .before .before .before .before .args .heap)) (c .before .word .result)
-object c = lies (c .before .before .before .before .before .before .before .before .pre .5) (c .before .word .ensures .is) (c .if1 .left)
+object c =
+    let entry = c .before .before .before .before .before .before .before .before in
+    lies (entry .pre .5) (c .before .word .ensures .is) (c .if1 .left)
 
 -- it is a vector of words
 shape : (c : tie.Else2) →
@@ -50,7 +52,11 @@ under : (c : tie.Then3) →
     elementOf onMain (now (S .heap)) (wordAt (now (S .ptr)) (S .regs .ptop - 1)) (wordAt (now (S .main)) (S .regs .mtop - 1)) ≡ nowhere
 unfolding elementsAt
 under c =
-    under-sought onMain _ _ _ (c .before .before .before .before .before .before .before .before .word .ensures .is) (c .before .before .before .before .before .before .before .if1 .left) (c .before .before .before .before .before .before .kind-at .ensures) (c .before .before .before .before .before .if2 .left)
+    let at-if2 = c .before .before .before .before .before in
+    let at-kind-at = at-if2 .before in
+    let at-if1 = at-kind-at .before in
+    let at-word = at-if1 .before in
+    under-sought onMain _ _ _ (at-word .word .ensures .is) (at-if1 .if1 .left) (at-kind-at .kind-at .ensures) (at-if2 .if2 .left)
     (ap (λ (n : ℕ). n - 3) (c .before .before .before .before .size-at .ensures .is)) (bound (c .before)) (sym (c .before .under .ensures) ∙ c .if3 .taken)
 
 past : (c : tie.Then4) →
@@ -58,16 +64,30 @@ past : (c : tie.Then4) →
     elementOf onMain (now (S .heap)) (wordAt (now (S .ptr)) (S .regs .ptop - 1)) (wordAt (now (S .main)) (S .regs .mtop - 1)) ≡ nowhere
 unfolding elementsAt
 past c =
-    past-sought onMain _ _ _ (c .before .before .before .before .before .before .before .before .before .before .before .before .word .ensures .is) (c .before .before .before .before .before .before .before .before .before .before .before .if1 .left) (c .before .before .before .before .before .before .before .before .before .before .kind-at .ensures) (c .before .before .before .before .before .before .before .before .before .if2 .left)
-    (ap (λ (n : ℕ). n - 3) (c .before .before .before .before .before .before .before .before .size-at .ensures .is)) (bound (c .before .before .before .before .before)) (c .before .distance .ensures) (c .if4 .taken)
+    let back5 = c .before .before .before .before .before in
+    let at-size-at = back5 .before .before .before in
+    let at-if2 = at-size-at .before in
+    let at-kind-at = at-if2 .before in
+    let at-if1 = at-kind-at .before in
+    let at-word = at-if1 .before in
+    past-sought onMain _ _ _ (at-word .word .ensures .is) (at-if1 .if1 .left) (at-kind-at .kind-at .ensures) (at-if2 .if2 .left)
+    (ap (λ (n : ℕ). n - 3) (at-size-at .size-at .ensures .is)) (bound (back5)) (c .before .distance .ensures) (c .if4 .taken)
 
 at : (c : tie.Else4) →
     let S = c .before .before .before .before .before .before .before .before .before .before .before .before .before .before .before .before .before .before .before .args in
-    elementOf onMain (now (S .heap)) (wordAt (now (S .ptr)) (S .regs .ptop - 1)) (wordAt (now (S .main)) (S .regs .mtop - 1)) ≡ found (c .before .before .before .before .before .before .before .before .before .before .before .before .word .result + 3 + c .before .distance .result)
+    let o = c .before .before .before .before .before .before .before .before .before .before .before .before .word .result in
+    elementOf onMain (now (S .heap)) (wordAt (now (S .ptr)) (S .regs .ptop - 1)) (wordAt (now (S .main)) (S .regs .mtop - 1))
+    ≡ found (o + 3 + c .before .distance .result)
 unfolding elementsAt
 at c =
-    found-sought onMain _ _ _ (c .before .before .before .before .before .before .before .before .before .before .before .before .word .ensures .is) (c .before .before .before .before .before .before .before .before .before .before .before .if1 .left) (c .before .before .before .before .before .before .before .before .before .before .kind-at .ensures) (c .before .before .before .before .before .before .before .before .before .if2 .left)
-    (ap (λ (n : ℕ). n - 3) (c .before .before .before .before .before .before .before .before .size-at .ensures .is)) (bound (c .before .before .before .before .before)) (c .before .distance .ensures) (c .if4 .left)
+    let back5 = c .before .before .before .before .before in
+    let at-size-at = back5 .before .before .before in
+    let at-if2 = at-size-at .before in
+    let at-kind-at = at-if2 .before in
+    let at-if1 = at-kind-at .before in
+    let at-word = at-if1 .before in
+    found-sought onMain _ _ _ (at-word .word .ensures .is) (at-if1 .if1 .left) (at-kind-at .kind-at .ensures) (at-if2 .if2 .left)
+    (ap (λ (n : ℕ). n - 3) (at-size-at .size-at .ensures .is)) (bound (back5)) (c .before .distance .ensures) (c .if4 .left)
 
 sub-top : tie.Need-sub-top
 sub-top c = search needs
@@ -86,14 +106,18 @@ word-requires c κs = search needs
 
 returns : tie.Need-returns
 unfolding planned planOf basicPlan insOf
-returns c = λ f m. ⊎-elim (λ e. rw e (rw (nil c))) (λ e. rw e (rw (nil c))) (c .before .before .before .before .before .before .before .before .pre .7)
+returns c =
+    let entry = c .before .before .before .before .before .before .before .before in
+    λ f m. ⊎-elim (λ e. rw e (rw (nil c))) (λ e. rw e (rw (nil c))) (entry .pre .7)
 
 kind-at-requires : tie.Need-kind-at-requires
 kind-at-requires c κs = omega (arith, object c)
 
 returns-2 : tie.Need-returns-2
 unfolding planned planOf basicPlan insOf
-returns-2 c = λ f m. ⊎-elim (λ e. rw e (rw (other c))) (λ e. rw e (rw (other c))) (c .before .before .before .before .before .before .before .before .before .before .pre .7)
+returns-2 c =
+    let entry = c .before .before .before .before .before .before .before .before .before .before in
+    λ f m. ⊎-elim (λ e. rw e (rw (other c))) (λ e. rw e (rw (other c))) (entry .pre .7)
 
 size-at-requires : tie.Need-size-at-requires
 size-at-requires c κs = omega (arith, object (c .before .before))
@@ -114,14 +138,18 @@ mul-under-2 : tie.Need-mul-under-2
 mul-under-2 c = search needs
 
 shared-slice-read-under-2 : tie.Need-shared-slice-read-under-2
-shared-slice-read-under-2 c = omega (arith, object (c .before .before .before .before .before), shape (c .before .before .before) .1)
+shared-slice-read-under-2 c =
+    let back5 = c .before .before .before .before .before in
+    omega (arith, object (back5), shape (c .before .before .before) .1)
 
 under-requires : tie.Need-under-requires
 under-requires c κs = search needs
 
 returns-3 : tie.Need-returns-3
 unfolding planned planOf basicPlan insOf
-returns-3 c = λ f m. ⊎-elim (λ e. rw e (rw (under c))) (λ e. rw e (rw (under c))) (c .before .before .before .before .before .before .before .before .before .before .before .before .before .before .before .pre .7)
+returns-3 c =
+    let entry = c .before .before .before .before .before .before .before .before .before .before .before .before .before .before .before in
+    λ f m. ⊎-elim (λ e. rw e (rw (under c))) (λ e. rw e (rw (under c))) (entry .pre .7)
 
 mul-distance : tie.Need-mul-distance
 mul-distance c = search needs
@@ -133,14 +161,20 @@ mul-distance-2 : tie.Need-mul-distance-2
 mul-distance-2 c = search needs
 
 shared-slice-read-distance-2 : tie.Need-shared-slice-read-distance-2
-shared-slice-read-distance-2 c = omega (arith, object (c .before .before .before .before .before .before .before .before .before), shape (c .before .before .before .before .before .before .before) .1)
+shared-slice-read-distance-2 c =
+    let back7 = c .before .before .before .before .before .before .before in
+    let back9 = back7 .before .before in
+    omega (arith, object (back9), shape (back7) .1)
 
 distance-requires : tie.Need-distance-requires
 distance-requires c κs = sym (c .before .before .before .under .ensures) ∙ c .before .before .if3 .left
 
 returns-4 : tie.Need-returns-4
 unfolding planned planOf basicPlan insOf
-returns-4 c = λ f m. ⊎-elim (λ e. rw e (rw (past c))) (λ e. rw e (rw (past c))) (c .before .before .before .before .before .before .before .before .before .before .before .before .before .before .before .before .before .before .before .pre .7)
+returns-4 c =
+    let far18 = c .before .before .before .before .before .before .before .before .before .before .before .before .before .before .before .before .before .before in
+    let entry = far18 .before in
+    λ f m. ⊎-elim (λ e. rw e (rw (past c))) (λ e. rw e (rw (past c))) (entry .pre .7)
 
 add-at : tie.Need-add-at
 add-at c = search needs
@@ -155,13 +189,19 @@ mul-writes : tie.Need-mul-writes
 mul-writes c = search needs
 
 shared-slice-read-writes : tie.Need-shared-slice-read-writes
-shared-slice-read-writes c = omega (arith, object (c .before .before .before .before .before .before .before .before .before .before .before .before .before .before), c .before .before .before .before .before .before .before .before .before .before .before .size-at .ensures .is, c .before .before .before .if4 .left)
+shared-slice-read-writes c =
+    let at-size-at = c .before .before .before .before .before .before .before .before .before .before .before in
+    let back14 = at-size-at .before .before .before in
+    omega (arith, object (back14), at-size-at .size-at .ensures .is, c .before .before .before .if4 .left)
 
 writes-requires : tie.Need-writes-requires
 writes-requires c κs = search needs
 
 sub-value : tie.Need-sub-value
-sub-value c = let S = c .before .before .before .before .before .before .before .before .before .before .before .before .before .before .before .before .before .before .before .before .before in omega (arith, S .pre .6 (asked.other (S .pre .7) (c .before .match .rest .1)))
+sub-value c =
+    let far18 = c .before .before .before .before .before .before .before .before .before .before .before .before .before .before .before .before .before .before in
+    let back21 = far18 .before .before .before in
+    let S = back21 in omega (arith, S .pre .6 (asked.other (S .pre .7) (c .before .match .rest .1)))
 
 add-writes-2 : tie.Need-add-writes-2
 add-writes-2 c = search needs
@@ -181,7 +221,11 @@ returns-5 c = λ f m. rw (c .writes .ensures, c .before .before .before .match .
 
 returns-6 : tie.Need-returns-6
 unfolding planned planOf basicPlan insOf
-returns-6 c = λ f m. rw (c .writes2 .ensures, asked.other (c .before .before .before .before .before .before .before .before .before .before .before .before .before .before .before .before .before .before .before .before .before .before .before .before .pre .7) (c .before .before .before .before .match .rest .1)) (rw (at (c .before .before .before .before .before)))
+returns-6 c =
+    let back5 = c .before .before .before .before .before in
+    let far23 = back5 .before .before .before .before .before .before .before .before .before .before .before .before .before .before .before .before .before .before in
+    let entry = far23 .before in
+    λ f m. rw (c .writes2 .ensures, asked.other (entry .pre .7) (c .before .before .before .before .match .rest .1)) (rw (at (back5)))
 
 pub word-elements-spec : {M : Type 1} → statement M
 word-elements-spec =
