@@ -1,16 +1,16 @@
 -- A number that a match has found to be one of a list, or none of several: what holds at each code of the list holds at it, and a number
--- that is no other instruction's code stands for raise, and has raise's body if it has any.
+-- that is no other instruction's code stands for raise, and has raise's body if it has any; of the codes but one is left.
 use Prim.Native.Nat.{ℕ}
-use mathlib.Core.Bool.{Bool, true, false}
+use mathlib.Core.Bool.{Bool, true, false, true≢false}
 use mathlib.Core.List.{List, [], _∷_}
 use mathlib.Core.Logic.{_⊎_, inl, inr, ⊎-elim}
-use mathlib.Core.Path.{_≡_, refl}
+use mathlib.Core.Path.{_≡_, refl, sym, _∙_}
 use native.Mathlib.Decide.{ℕ-discrete}
 use lib.Dec.{T, eqb, eqb→eq}
 use borrow.Author.Tests.{ne-eqb}
 use Rattle.model.specs.Choice.{member, if_then_else_}
 use Rattle.model.specs.File as model
-use Rattle.model.specs.File.{unknown, bodyIn, bodies, bodyOf, raise, insOf}
+use Rattle.model.specs.File.{unknown, bodyIn, bodies, bodyOf, listed, raise, insOf}
 
 -- k is one of the numbers, as a match's arm tells it
 abbrev pub OneOf : List ℕ → ℕ → Type 0
@@ -148,3 +148,17 @@ body-other nss t k h some = go (ℕ-discrete k 162)
     go : Dec (k ≡ 162) → bodyIn bodies k ≡ 0
     go (yes e) = rw e
     go (no e) = absurd (some (find-none ((162 ∷ []) ∷ nss) k (h, e) bodies t))
+
+-- a code that is in none of the lists is the one that is left
+listed-none : (nss : List (List ℕ)) (k : ℕ) → NoneOf nss k → (rs : List (ℕ × ℕ)) → T (keysAmong nss rs) → listed rs k ≡ false
+listed-none nss k h [] t = refl
+listed-none nss k h (r ∷ rs) t =
+    let g = and-both (among nss (r .0)) (keysAmong nss rs) t in
+    rw (ne-eqb k (r .0) (none-of nss k h (r .0) (g .0))) (listed-none nss k h rs (g .1))
+
+pub last-code : (nss : List (List ℕ)) (n : ℕ) → T (keysAmong ((n ∷ []) ∷ nss) model.codes) → (k : ℕ) → NoneOf nss k → listed model.codes k ≡ true → k ≡ n
+last-code nss n t k h is = go (ℕ-discrete k n)
+  where
+    go : Dec (k ≡ n) → k ≡ n
+    go (yes e) = e
+    go (no u) = absurd (true≢false (sym is ∙ listed-none ((n ∷ []) ∷ nss) k (h, u) model.codes t))

@@ -1,10 +1,11 @@
 -- What the machine gives when it plans a step, `StepReady`: of a file that the checker passed and a sound state of it.
 use Prim.Native.Nat.{ℕ, _+_, _-_, _*_, _<_, _≤_}
+use mathlib.Core.Bool.{true}
 use mathlib.Core.List.{List}
 use mathlib.Core.Path.{_≡_}
 use lib.ListN.{length, getD}
 use Rattle.model.specs.Words.{wordAt}
-use Rattle.model.specs.File.{Ins, basic, local, assign, onMain, onPtr, call, after, procs, headOf, insAt, fileMost, procsMost}
+use Rattle.model.specs.File.{Ins, basic, local, assign, onMain, onPtr, call, after, isInstruction, procs, headOf, insAt, fileMost, procsMost}
 use Rattle.model.specs.Checker.{effectOf}
 use Rattle.model.specs.Heap.{Heap, Pointer}
 use Rattle.model.specs.Control.{Machine, running, recordWords}
@@ -21,7 +22,8 @@ here f m = insAt f (placeOf m)
 pub record StepReady (f table : List ℕ) (m : Machine) : Type 0 where
   -- refusal 1: the file has at most 4,096 bytes
   pub short : length f ≤ fileMost
-  -- the place is a record's, and the records are whole: refusal 3
+  -- the place is an instruction's, and the records are whole: refusal 3
+  pub code : isInstruction f (placeOf m) ≡ true
   pub whole : after f (placeOf m) ≤ length f
   -- the table holds the heads, each of six bytes and its kind: refusals 3 and 4
   pub few : procs f ≤ procsMost

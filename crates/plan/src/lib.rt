@@ -10,7 +10,8 @@ use model::PROCS_MOST;
 // family's function matches its own codes again. The compiler makes one jump table of all these matches, as long as a family that shares an arm
 // has codes that begin differently: of codes that begin alike it would first do what they share, and then ask for the code a second time. So these have
 // an arm each, and the family's function gets the code as a constant. Neighbours share no arm: together they would be a test of a range.
-// 162 is the raise, and the definition takes every number that is no code for one.
+// The last arm is that of 85: the file has passed, and so nothing but a code stands here. As an arm of its own, for what is no code, it would be one
+// instruction more in every step.
 pub fn plan_at(
     file: &[u8],
     table: &[usize; PROCS_MOST],
@@ -63,8 +64,7 @@ pub fn plan_at(
         82 => plan_vectors::word_elements(main, ptr, heap, regs, 82),
         84 => plan_vectors::word_elements(main, ptr, heap, regs, 84),
         83 => plan_vectors::ptr_elements(main, ptr, heap, regs, 83),
-        85 => plan_vectors::ptr_elements(main, ptr, heap, regs, 85),
         162 => Plan::Thrown,
-        _ => Plan::Thrown,
+        _ => plan_vectors::ptr_elements(main, ptr, heap, regs, 85),
     }
 }

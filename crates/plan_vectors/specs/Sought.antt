@@ -1,17 +1,23 @@
 -- What the code asks of a vector is what the definition asks: nil, then the kind, then whether the index lies below the bound, and then its distance
 -- from that against the number of elements.
-use Prim.Native.Nat.{ℕ, _+_, _<_, _≤_}
+use Prim.Native.Nat.{ℕ, _+_, _-_, _<_, _≤_}
 use mathlib.Core.Bool.{true, true≢false}
 use mathlib.Core.List.{List}
 use mathlib.Core.Logic.{_≢_}
-use mathlib.Core.Path.{_≡_, refl, sym, _∙_}
+use mathlib.Core.Path.{_≡_, refl, sym, ap, _∙_}
+use native.Mathlib.Omega.{arith}
 use lib.IntN.{ℤ, pos, negsuc, _-ℤ_}
 use borrow.Author.Tests.{eq-eqb, ne-eqb, lt-ltb, le-ltb}
-use Rattle.model.specs.Words.{signed}
+use Rattle.model.specs.Words.{signed, wordAt}
 use Rattle.model.specs.File.{Side}
-use Rattle.model.specs.Heap.{kindAt}
+use Rattle.model.specs.Heap.{kindAt, ptrsAt}
 use Rattle.model.specs.Vectors.{vectorKind, boundAt, firstElement, elementsAt, found, ofNil, nowhere, elementIn, elementOf}
 use Rattle.arithmetic.specs.Distance.{negative?}
+
+-- the bound of a vector of pointers is its last word
+pub bound-behind : (h : List ℕ) (q : ℕ) {size : ℕ} → size ≡ 3 + ptrsAt h q → wordAt h (q + size - 1) ≡ boundAt h q
+unfolding boundAt
+bound-behind h q {size} e = let i : q + size - 1 ≡ q + (2 + ptrsAt h q) = omega (arith, e) in ap (wordAt h) i
 
 in-under : (first count : ℕ) (z : ℤ) → negative? z ≡ true → elementIn first count z ≡ nowhere
 in-under first count (pos n) e = absurd (true≢false (sym e))

@@ -115,7 +115,8 @@ pub fn word_elements(main: &[u32], ptr: &[u32], heap: &[u32], regs: Regs, kind: 
     }
 }
 
-// 83 and 85: an element of a vector of pointers. The elements begin in word 2, and the lower bound lies behind them.
+// 83 and 85: an element of a vector of pointers. The elements begin in word 2, and the lower bound lies behind them, in the last word. Their number is had
+// from the size, which needs no mask: each read waits for the one before it.
 pub fn ptr_elements(main: &[u32], ptr: &[u32], heap: &[u32], regs: Regs, kind: u8) -> Plan
     requires { ⌜ (regs .place < fileMost) × TopWithin (now main) (regs .mtop) × TopWithin (now ptr) (regs .ptop) × (1 ≤ regs .mtop) × (1 ≤ regs .ptop)
         × ((wordAt (now ptr) (regs .ptop - 1) ≡ 0) ⊎ Lies (now heap) (wordAt (now ptr) (regs .ptop - 1)))
@@ -131,8 +132,9 @@ pub fn ptr_elements(main: &[u32], ptr: &[u32], heap: &[u32], regs: Regs, kind: u
     if heap::kind_at(heap, object) != PTR_VECTOR_KIND {
         return Plan::VectorFault;
     }
-    let elements = heap::ptrs_at(heap, object);
-    let bound = object + (2 + elements);
+    let size = heap::size_at(heap, object);
+    let elements = size - 3;
+    let bound = object + size - 1;
     if arithmetic::under(main[last], heap[bound]) {
         return Plan::VectorFault;
     }

@@ -46,16 +46,15 @@ pub fn run_on(
     if regs.state == 1 {
         return answered(Answer::Finished(0), regs);
     }
-    let first = run_steps::go_on(file, table, main, ptr, ctl, heap, regs, budget);
-    let mut r = first.regs;
-    let mut plan = first.plan;
-    let mut left = first.left;
-    while 0 < left {
-        let after = left - 1;
+    let mut pause = run_steps::go_on(file, table, main, ptr, ctl, heap, regs, budget);
+    while 0 < pause.left {
+        let after = pause.left - 1;
+        let r = pause.regs;
+        let plan = pause.plan;
         let out = apply::step_with(file, table, main, ptr, ctl, heap, r, plan);
         let on = out.on;
         if !on {
-            let done = budget - left;
+            let done = budget - pause.left;
             let stays = out.regs;
             return answered(Answer::Uncaught(out.code, stays.place, done), stays);
         }
@@ -64,10 +63,7 @@ pub fn run_on(
             let done = budget - after;
             return answered(Answer::Finished(done), next);
         }
-        let pause = run_steps::go_on(file, table, main, ptr, ctl, heap, next, after);
-        r = pause.regs;
-        plan = pause.plan;
-        left = pause.left;
+        pause = run_steps::go_on(file, table, main, ptr, ctl, heap, next, after);
     }
-    answered(Answer::Spent(budget), r)
+    answered(Answer::Spent(budget), pause.regs)
 }

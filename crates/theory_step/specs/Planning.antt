@@ -7,13 +7,13 @@ use mathlib.Core.List.{List}
 use native.Mathlib.Omega.{arith}
 use lib.ListN.{length}
 use Rattle.model.specs.Choice.{All, Mem}
-use Rattle.model.specs.File.{local, assign, onMain, onPtr, call, procs, instructions, greatestMain, greatestPtr}
+use Rattle.model.specs.File.{local, assign, onMain, onPtr, call, procs, recordsOf, startsIn, isInstruction, instructions, greatestMain, greatestPtr}
 use Rattle.model.specs.Checker.{effectOf, depthTests, targetTests}
 use Rattle.model.specs.Heap.{Pointer}
 use Rattle.model.specs.Control.{Machine, running, down}
 use Rattle.model.specs.Moves.{mtop, ptop}
 use Rattle.model.specs.Sound.{isIns, frameTests}
-use Rattle.laws.specs.Members.{member-in}
+use Rattle.laws.specs.Members.{member-in, select-in}
 use Rattle.laws_file.specs.Walk.{instruction-whole}
 use Rattle.laws_file.specs.Procedures.{head-whole}
 use Rattle.theory_state.specs.Stack.{stack-frame, stack-numbers}
@@ -40,6 +40,10 @@ module _ {f map table : List ℕ} {m : Machine} (A : Alive f map table m) (n i j
   pub in-file : Mem (placeOf m) (instructions f)
   unfolding isIns
   in-file = member-in (placeOf m) (instructions f) at-place
+
+  is-code : isInstruction f (placeOf m) ≡ true
+  unfolding instructions
+  is-code = select-in (isInstruction f) (startsIn (recordsOf f)) (placeOf m) in-file .1
 
   frame-is : All (frameTests f map (length (m .main)) (length (m .ptr)) (running m) (down (m .ctl) (m .regs .frame - 1)) (looking map m i j))
   frame-is = stack-frame f map (length (m .main)) (length (m .ptr)) (m .ctl) n (R .stack)
@@ -84,6 +88,7 @@ module _ {f map table : List ℕ} {m : Machine} (A : Alive f map table m) (n i j
       let e3 = R .ctl-top in
       record {
         short = A .short;
+        code = is-code;
         whole = instruction-whole f (L .formed .places) (L .formed .records) (placeOf m) in-file;
         few = A .placed .few;
         heads = A .placed .heads;

@@ -108,21 +108,17 @@ slice-write-main-3 c =
 enum-told-8 : tie.Need-enum-told-8
 enum-told-8 c = search needs
 
+mul-ptr-2 : tie.Need-mul-ptr-2
+mul-ptr-2 c = omega (arith, fits-at (c .before .before .before .before .before .pre) (c .enum-told8 .given .1) .0)
+
+slice-write-ptr-2 : tie.Need-slice-write-ptr-2
+slice-write-ptr-2 c = fits-at (c .before .before .before .before .before .pre) (c .enum-told8 .given .1) .0
+
 pop-last-requires-3 : tie.Need-pop-last-requires-3
 pop-last-requires-3 c κs =
     let P = c .before .before .before .before .before .before .pre in
     let F = fits-at P (c .before .enum-told8 .given .1) in
     (P .main-top, omega (arith, F .1, F .2 .main))
-
-mul-ptr-2 : tie.Need-mul-ptr-2
-mul-ptr-2 c =
-    let at-told = c .before .before .before .before in
-    omega (arith, fits-at (at-told .before .before .before .before .before .pre) (at-told .enum-told8 .given .1) .0)
-
-slice-write-ptr-2 : tie.Need-slice-write-ptr-2
-slice-write-ptr-2 c =
-    let at-told = c .before .before .before .before in
-    fits-at (at-told .before .before .before .before .before .pre) (at-told .enum-told8 .given .1) .0
 
 enum-told-9 : tie.Need-enum-told-9
 enum-told-9 c = search needs
@@ -374,9 +370,9 @@ plain-spec =
     mul-main-3
     slice-write-main-3
     enum-told-8
-    pop-last-requires-3
     mul-ptr-2
     slice-write-ptr-2
+    pop-last-requires-3
     enum-told-9
     pop-last-requires-4
     pop-last-requires-5

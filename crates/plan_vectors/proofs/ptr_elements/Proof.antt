@@ -1,4 +1,4 @@
--- `plan_vectors::ptr_elements`: as `word_elements`; the elements are the pointer words, and the bound lies behind them.
+-- `plan_vectors::ptr_elements`: as `word_elements`; the elements are the pointer words, of which the size has three more, and the bound lies behind them.
 use Prim.Native.Nat.{_+_, _-_}
 use mathlib.Core.Logic.{⊎-elim}
 use mathlib.Core.Path.{_≡_, _∙_, sym}
@@ -11,7 +11,7 @@ use Rattle.model.specs.Vectors.{boundAt, elementsAt, found, ofNil, nowhere, ele
 use Rattle.heap.specs.Stores.{Lies, lies}
 use Rattle.plan_meaning.specs.Planned.{basicPlan, planOf, planned}
 use Rattle.plan_meaning.specs.Asked as asked
-use Rattle.plan_vectors.specs.Sought.{nil-sought, other-kind, under-sought, past-sought, found-sought}
+use Rattle.plan_vectors.specs.Sought.{bound-behind, nil-sought, other-kind, under-sought, past-sought, found-sought}
 use borrow.Author.Needs.{needs}
 use Rattle.plan_vectors.proofs.ptr_elements.Statement.{statement}
 use Rattle.plan_vectors.proofs.ptr_elements.Tie as tie
@@ -29,12 +29,21 @@ shape : (c : tie.Else2) →
     sizeAt h o ≡ 3 + ptrsAt h o
 shape c = object (c .before .before) .of-pointers (sym (c .before .kind-at .ensures) ∙ c .if2 .left)
 
+-- so its size tells the number of its elements, and where its bound lies
+counted : (c : tie.After-size-at) →
+    let h = now (c .before .before .before .before .before .before .before .before .before .before .before .args .heap) in
+    let o = c .before .before .before .before .word .result in
+    c .size-at .result - 3 ≡ elementsAt onPtr h o
+unfolding elementsAt
+counted c = omega (arith, shape (c .before), c .size-at .ensures .is)
+
 bound : (c : tie.After-under) →
     let h = now (c .before .before .before .before .before .before .before .before .before .before .before .before .before .before .args .heap) in
     let o = c .before .before .before .before .before .before .before .word .result in
-    wordAt h (o + (2 + c .before .before .before .ptrs-at .result)) ≡ boundAt h o
-unfolding boundAt
-bound c = rw (c .before .before .before .ptrs-at .ensures .is)
+    wordAt h (o + c .before .before .before .size-at .result - 1) ≡ boundAt h o
+bound c =
+    let at-size-at = c .before .before .before in
+    bound-behind _ _ (at-size-at .size-at .ensures .is ∙ shape (at-size-at .before))
 
 -- what the code finds: nil; another kind; an index below the bound; one past the last element; the element
 nil : (c : tie.Then1) →
@@ -50,44 +59,41 @@ other c = other-kind onPtr _ _ _ (c .before .before .before .word .ensures .is) 
 under : (c : tie.Then3) →
     let S = c .before .before .before .before .before .before .before .before .before .before .before .before .before .before .before .args in
     elementOf onPtr (now (S .heap)) (wordAt (now (S .ptr)) (S .regs .ptop - 1)) (wordAt (now (S .main)) (S .regs .mtop - 1)) ≡ nowhere
-unfolding elementsAt
 under c =
     let at-if2 = c .before .before .before .before .before in
     let at-kind-at = at-if2 .before in
     let at-if1 = at-kind-at .before in
     let at-word = at-if1 .before in
     under-sought onPtr _ _ _ (at-word .word .ensures .is) (at-if1 .if1 .left) (at-kind-at .kind-at .ensures) (at-if2 .if2 .left)
-    (c .before .before .before .before .ptrs-at .ensures .is) (bound (c .before)) (sym (c .before .under .ensures) ∙ c .if3 .taken)
+    (counted (c .before .before .before .before)) (bound (c .before)) (sym (c .before .under .ensures) ∙ c .if3 .taken)
 
 past : (c : tie.Then4) →
     let S = c .before .before .before .before .before .before .before .before .before .before .before .before .before .before .before .before .before .before .before .args in
     elementOf onPtr (now (S .heap)) (wordAt (now (S .ptr)) (S .regs .ptop - 1)) (wordAt (now (S .main)) (S .regs .mtop - 1)) ≡ nowhere
-unfolding elementsAt
 past c =
     let back5 = c .before .before .before .before .before in
-    let at-ptrs-at = back5 .before .before .before in
-    let at-if2 = at-ptrs-at .before in
+    let at-size-at = back5 .before .before .before in
+    let at-if2 = at-size-at .before in
     let at-kind-at = at-if2 .before in
     let at-if1 = at-kind-at .before in
     let at-word = at-if1 .before in
     past-sought onPtr _ _ _ (at-word .word .ensures .is) (at-if1 .if1 .left) (at-kind-at .kind-at .ensures) (at-if2 .if2 .left)
-    (at-ptrs-at .ptrs-at .ensures .is) (bound (back5)) (c .before .distance .ensures) (c .if4 .taken)
+    (counted at-size-at) (bound (back5)) (c .before .distance .ensures) (c .if4 .taken)
 
 at : (c : tie.Else4) →
     let S = c .before .before .before .before .before .before .before .before .before .before .before .before .before .before .before .before .before .before .before .args in
     let o = c .before .before .before .before .before .before .before .before .before .before .before .before .word .result in
     elementOf onPtr (now (S .heap)) (wordAt (now (S .ptr)) (S .regs .ptop - 1)) (wordAt (now (S .main)) (S .regs .mtop - 1))
     ≡ found (o + 2 + c .before .distance .result)
-unfolding elementsAt
 at c =
     let back5 = c .before .before .before .before .before in
-    let at-ptrs-at = back5 .before .before .before in
-    let at-if2 = at-ptrs-at .before in
+    let at-size-at = back5 .before .before .before in
+    let at-if2 = at-size-at .before in
     let at-kind-at = at-if2 .before in
     let at-if1 = at-kind-at .before in
     let at-word = at-if1 .before in
     found-sought onPtr _ _ _ (at-word .word .ensures .is) (at-if1 .if1 .left) (at-kind-at .kind-at .ensures) (at-if2 .if2 .left)
-    (at-ptrs-at .ptrs-at .ensures .is) (bound (back5)) (c .before .distance .ensures) (c .if4 .left)
+    (counted at-size-at) (bound (back5)) (c .before .distance .ensures) (c .if4 .left)
 
 sub-top : tie.Need-sub-top
 sub-top c = search needs
@@ -119,14 +125,17 @@ returns-2 c =
     let entry = c .before .before .before .before .before .before .before .before .before .before in
     λ f m. ⊎-elim (λ e. rw e (rw (other c))) (λ e. rw e (rw (other c))) (entry .pre .7)
 
-ptrs-at-requires : tie.Need-ptrs-at-requires
-ptrs-at-requires c κs = omega (arith, object (c .before .before))
+size-at-requires : tie.Need-size-at-requires
+size-at-requires c κs = omega (arith, object (c .before .before))
+
+sub-elements : tie.Need-sub-elements
+sub-elements c = omega (arith, shape (c .before), c .size-at .ensures .is)
 
 add-bound : tie.Need-add-bound
 add-bound c = search needs
 
-add-bound-2 : tie.Need-add-bound-2
-add-bound-2 c = search needs
+sub-bound : tie.Need-sub-bound
+sub-bound c = omega (arith, shape (c .before), c .size-at .ensures .is)
 
 mul-under : tie.Need-mul-under
 mul-under c = search needs
@@ -140,7 +149,7 @@ mul-under-2 c = search needs
 shared-slice-read-under-2 : tie.Need-shared-slice-read-under-2
 shared-slice-read-under-2 c =
     let back5 = c .before .before .before .before .before in
-    omega (arith, object (back5), shape (c .before .before .before), c .before .before .ptrs-at .ensures .is)
+    omega (arith, object (back5), shape (c .before .before .before), c .before .before .size-at .ensures .is)
 
 under-requires : tie.Need-under-requires
 under-requires c κs = search needs
@@ -165,7 +174,7 @@ shared-slice-read-distance-2 c =
     let back6 = c .before .before .before .before .before .before in
     let back7 = back6 .before in
     let back9 = back7 .before .before in
-    omega (arith, object (back9), shape (back7), back6 .ptrs-at .ensures .is)
+    omega (arith, object (back9), shape (back7), back6 .size-at .ensures .is)
 
 distance-requires : tie.Need-distance-requires
 distance-requires c κs = sym (c .before .before .before .under .ensures) ∙ c .before .before .if3 .left
@@ -191,9 +200,9 @@ mul-writes c = search needs
 
 shared-slice-read-writes : tie.Need-shared-slice-read-writes
 shared-slice-read-writes c =
-    let at-ptrs-at = c .before .before .before .before .before .before .before .before .before .before .before in
-    let back14 = at-ptrs-at .before .before .before in
-    omega (arith, object (back14), at-ptrs-at .ptrs-at .ensures .is, c .before .before .before .if4 .left)
+    let at-size-at = c .before .before .before .before .before .before .before .before .before .before .before in
+    let back14 = at-size-at .before .before .before in
+    omega (arith, object (back14), at-size-at .size-at .ensures .is, c .before .before .before .if4 .left)
 
 writes-requires : tie.Need-writes-requires
 writes-requires c κs = search needs
@@ -243,9 +252,10 @@ ptr-elements-spec =
     returns
     kind-at-requires
     returns-2
-    ptrs-at-requires
+    size-at-requires
+    sub-elements
     add-bound
-    add-bound-2
+    sub-bound
     mul-under
     shared-slice-read-under
     mul-under-2

@@ -12,20 +12,21 @@ use Rattle.run.proofs.run_on.Statement.{statement}
 use Rattle.run.proofs.run_on.Tie as tie
 
 abbrev Inv-loop : tie.InvT-loop
-Inv-loop file table main₀ ptr₀ ctl₀ heap₀ budget r₀ plan₀ left₀ main ptr ctl heap r plan left =
-    Paused file table left₀ (record { regs = r₀; main = main₀; ptr = ptr₀; ctl = ctl₀; heap = heap₀ }) left (record { regs = r; main = main; ptr = ptr; ctl = ctl; heap = heap }) plan
+Inv-loop file table main₀ ptr₀ ctl₀ heap₀ budget pause₀ main ptr ctl heap pause =
+    Paused file table (pause₀ .left) (record { regs = pause₀ .regs; main = main₀; ptr = ptr₀; ctl = ctl₀; heap = heap₀ })
+    (pause .left) (record { regs = pause .regs; main = main; ptr = ptr; ctl = ctl; heap = heap }) (pause .plan)
 
 abbrev μ-loop : tie.MeasureT-loop
-μ-loop file table main₀ ptr₀ ctl₀ heap₀ budget r₀ plan₀ left₀ main ptr ctl heap r plan left = left
+μ-loop file table main₀ ptr₀ ctl₀ heap₀ budget pause₀ main ptr ctl heap pause = pause .left
 
 -- the places that the needs share: the entry, a turn of the loop, and behind `step_with`
 abbrev entry : tie.At-loop Inv-loop μ-loop → tie.Start Inv-loop μ-loop
-entry c = c .before .before .before .before .before .before .before .before .before .before .before .before .before .before .before .before .before .before .before .before .before .before
+entry c = c .before .before .before .before .before .before .before .before .before .before .before .before .before .before .before .before .before .before .before .before .before
 
 abbrev turn : tie.After-step-with Inv-loop μ-loop → tie.At-loop Inv-loop μ-loop
-turn c = c .before .before .before .before .before .before
+turn c = c .before .before .before .before .before .before .before .before .before
 
-abbrev step : tie.Else2 Inv-loop μ-loop → tie.After-step-with Inv-loop μ-loop
+abbrev step : tie.Else3 Inv-loop μ-loop → tie.After-step-with Inv-loop μ-loop
 step c = c .before .before .before .before .before .before .before .before .before
 
 -- the machine at each
@@ -33,7 +34,7 @@ abbrev entered : tie.Start Inv-loop μ-loop → Machine
 entered S = let A = S .args in record { regs = A .regs; main = A .main .now; ptr = A .ptr .now; ctl = A .ctl .now; heap = A .heap .now }
 
 abbrev turned : tie.At-loop Inv-loop μ-loop → Machine
-turned c = let L = c .loop in record { regs = L .r; main = L .main; ptr = L .ptr; ctl = L .ctl; heap = L .heap }
+turned c = let L = c .loop in record { regs = L .pause .regs; main = L .main; ptr = L .ptr; ctl = L .ctl; heap = L .heap }
 
 abbrev stepped : tie.After-step-with Inv-loop μ-loop → Machine
 stepped c =
@@ -43,8 +44,8 @@ stepped c =
 -- at each turn the run has paused
 paused-at : (c : tie.At-loop Inv-loop μ-loop) →
     let A = entry c .args in
-    Paused (A .file .now) (A .table .now) (A .budget) (entered (entry c)) (c .loop .left) (turned c) (c .loop .plan)
-paused-at c = paused-from (c .before .before .before .before .before .before .before .before .before .before .go-on .ensures .going) (c .loop .inv)
+    Paused (A .file .now) (A .table .now) (A .budget) (entered (entry c)) (c .loop .pause .left) (turned c) (c .loop .pause .plan)
+paused-at c = paused-from (c .before .before .before .before .before .before .before .before .before .go-on .ensures .going) (c .loop .inv)
 
 -- `step_with` keeps the lengths
 kept-at : (c : tie.After-step-with Inv-loop μ-loop) → SameLengths (stepped c) (turned (turn c))
@@ -54,15 +55,15 @@ alike-at : (c : tie.After-step-with Inv-loop μ-loop) → SameLengths (stepped c
 alike-at c = alike-trans (kept-at c) (paused-at (turn c) .going .alike)
 
 -- behind the test of `on`: a step further than at the turn
-on-at : {n : ℕ} {m : Machine} (c : tie.Else2 Inv-loop μ-loop) →
+on-at : {n : ℕ} {m : Machine} (c : tie.Else3 Inv-loop μ-loop) →
     let at-loop = turn (step c) in
     let A = entry at-loop .args in
-    let L = at-loop .loop in
+    let L = at-loop .loop .pause in
     Paused (A .file .now) (A .table .now) n m (L .left) (turned at-loop) (L .plan) → Going (A .file .now) (A .table .now) n m (L .left - 1) (stepped (step c))
 on-at c P =
     let S = step c .step-with in
-    let t = c .before .before .before .before .before .before .before .before .before .before .before .before .before .before .loop-test .taken in
-    paused-on P t (S .result) (S .ensures) (not-false _ (c .if2 .left)) (kept-at (step c))
+    let t = step c .before .before .before .before .before .before .before .if2 .taken in
+    paused-on P t (S .result) (S .ensures) (not-false _ (c .if3 .left)) (kept-at (step c))
 
 answered-requires : tie.Need-answered-requires Inv-loop μ-loop
 answered-requires c κs = search needs
@@ -75,45 +76,46 @@ go-on-requires c κs = (c .before .before .before .before .before .before .befor
 
 loop-holds : tie.Need-loop-holds Inv-loop μ-loop
 loop-holds c =
-    let P = c .before .before .before .before .before .before .before .before .before .go-on .ensures in
+    let P = c .before .before .before .before .before .before .before .before .go-on .ensures in
     record { going = going-start (P .going .runs); on? = P .on?; stopped = P .stopped }
 
 sub-after : tie.Need-sub-after Inv-loop μ-loop
-sub-after c = omega arith
+sub-after c = omega (arith, c .before .if2 .taken)
 
 step-with-requires : tie.Need-step-with-requires Inv-loop μ-loop
 step-with-requires c κs =
-    let I = c .before .before .before .before .before .loop .inv in
-    let P = I .stopped (c .before .before .before .before .loop-test .taken) in
+    let at-if2 = c .before .before .before .before .before .before in
+    let I = at-if2 .before .before .loop .inv in
+    let P = I .stopped (at-if2 .if2 .taken) in
     (rw (P .is) (alive-settles (I .going .runs .alive) (I .on?)), P .late)
 
 sub-done : tie.Need-sub-done Inv-loop μ-loop
-sub-done c = omega (arith, paused-at (c .before .before .before .before .before .before .before .before .before .before .before .before .before .before .before) .going .less)
+sub-done c = omega (arith, paused-at (c .before .before .before .before .before .before .before .before .before .before .before .before .before .before .before .before .before .before .before) .going .less)
 
 answered-requires-2 : tie.Need-answered-requires-2 Inv-loop μ-loop
 answered-requires-2 c κs = search needs
 
 same-length : tie.Need-same-length Inv-loop μ-loop
-same-length c = alike-at (c .before .before .before .before .before .before .before .before .before .before .before) .main
+same-length c = alike-at (c .before .before .before .before .before .before .before .before .before .before .before .before) .main
 
 same-length-2 : tie.Need-same-length-2 Inv-loop μ-loop
-same-length-2 c = alike-at (c .before .before .before .before .before .before .before .before .before .before .before) .ptr
+same-length-2 c = alike-at (c .before .before .before .before .before .before .before .before .before .before .before .before) .ptr
 
 same-length-3 : tie.Need-same-length-3 Inv-loop μ-loop
-same-length-3 c = alike-at (c .before .before .before .before .before .before .before .before .before .before .before) .ctl
+same-length-3 c = alike-at (c .before .before .before .before .before .before .before .before .before .before .before .before) .ctl
 
 same-length-4 : tie.Need-same-length-4 Inv-loop μ-loop
-same-length-4 c = alike-at (c .before .before .before .before .before .before .before .before .before .before .before) .heap
+same-length-4 c = alike-at (c .before .before .before .before .before .before .before .before .before .before .before .before) .heap
 
 returns-2 : tie.Need-returns-2 Inv-loop μ-loop
 returns-2 c =
-    let at-step-with = c .before .before .before .before .before .before .before .before .before .before .before in
-    let at-loop-test = at-step-with .before .before .before .before .before in
+    let at-step-with = c .before .before .before .before .before .before .before .before .before .before .before .before in
+    let t = at-step-with .before .before .before .before .before .before .before .if2 .taken in
     let S = at-step-with .step-with in
-    rw (c .answered2 .ensures) (paused-uncaught (paused-at (at-loop-test .before)) (at-loop-test .loop-test .taken) (S .result) (S .ensures) (not-true _ (c .before .before .if2 .taken)))
+    rw (c .answered2 .ensures) (paused-uncaught (paused-at (turn at-step-with)) t (S .result) (S .ensures) (not-true _ (c .before .before .before .if3 .taken)))
 
 sub-done-2 : tie.Need-sub-done-2 Inv-loop μ-loop
-sub-done-2 c = omega (arith, paused-at (c .before .before .before .before .before .before .before .before .before .before .before .before .before .before .before .before .before .before) .going .less)
+sub-done-2 c = omega (arith, paused-at (c .before .before .before .before .before .before .before .before .before .before .before .before .before .before .before .before .before .before .before .before .before) .going .less)
 
 answered-requires-3 : tie.Need-answered-requires-3 Inv-loop μ-loop
 answered-requires-3 c κs = search needs
@@ -132,43 +134,43 @@ same-length-8 c = alike-at (c .before .before .before .before .before .before .b
 
 returns-3 : tie.Need-returns-3 Inv-loop μ-loop
 returns-3 c =
-    let at-if2 = c .before .before .before .before in
-    rw (c .answered3 .ensures) (going-finished (on-at at-if2 (paused-at (turn (step at-if2)))) (c .before .if3 .taken))
+    let at-if3 = c .before .before .before .before in
+    rw (c .answered3 .ensures) (going-finished (on-at at-if3 (paused-at (turn (step at-if3)))) (c .before .if4 .taken))
 
 go-on-requires-2 : tie.Need-go-on-requires-2 Inv-loop μ-loop
 go-on-requires-2 c κs =
-    let at-if2 = c .before .before .before .before .before .before .before in
-    (on-at at-if2 (turn (step at-if2) .loop .inv) .runs, c .before .before .before .before .if3 .left)
+    let at-if3 = c .before .before .before .before .before .before .before in
+    (on-at at-if3 (turn (step at-if3) .loop .inv) .runs, c .before .before .before .before .if4 .left)
 
 loop-less : tie.Need-loop-less Inv-loop μ-loop
 loop-less c =
-    let at-go-on2 = c .before .before .before .before .before .before .before .before .before in
-    let at-if2 = at-go-on2 .before .before .before .before .before .before .before .before in
-    omega (arith, at-go-on2 .go-on2 .ensures .going .less, at-if2 .before .before .before .before .before .before .before .before .before .before .before .before .before .before .loop-test .taken)
+    let at-go-on2 = c .before .before .before .before .before .before .before .before in
+    let at-if3 = at-go-on2 .before .before .before .before .before .before .before .before in
+    omega (arith, at-go-on2 .go-on2 .ensures .going .less, step at-if3 .before .before .before .before .before .before .before .if2 .taken)
 
 loop-again : tie.Need-loop-again Inv-loop μ-loop
 loop-again c =
-    let at-go-on2 = c .before .before .before .before .before .before .before .before .before in
-    let at-if2 = at-go-on2 .before .before .before .before .before .before .before .before in
-    paused-from (on-at at-if2 (turn (step at-if2) .loop .inv)) (at-go-on2 .go-on2 .ensures)
+    let at-go-on2 = c .before .before .before .before .before .before .before .before in
+    let at-if3 = at-go-on2 .before .before .before .before .before .before .before .before in
+    paused-from (on-at at-if3 (turn (step at-if3) .loop .inv)) (at-go-on2 .go-on2 .ensures)
 
 answered-requires-4 : tie.Need-answered-requires-4 Inv-loop μ-loop
 answered-requires-4 c κs = search needs
 
 same-length-9 : tie.Need-same-length-9 Inv-loop μ-loop
-same-length-9 c = paused-at (c .before .before) .going .alike .main
+same-length-9 c = paused-at (c .before .before .before) .going .alike .main
 
 same-length-10 : tie.Need-same-length-10 Inv-loop μ-loop
-same-length-10 c = paused-at (c .before .before) .going .alike .ptr
+same-length-10 c = paused-at (c .before .before .before) .going .alike .ptr
 
 same-length-11 : tie.Need-same-length-11 Inv-loop μ-loop
-same-length-11 c = paused-at (c .before .before) .going .alike .ctl
+same-length-11 c = paused-at (c .before .before .before) .going .alike .ctl
 
 same-length-12 : tie.Need-same-length-12 Inv-loop μ-loop
-same-length-12 c = paused-at (c .before .before) .going .alike .heap
+same-length-12 c = paused-at (c .before .before .before) .going .alike .heap
 
 returns-4 : tie.Need-returns-4 Inv-loop μ-loop
-returns-4 c = rw (c .answered4 .ensures) (paused-spent (paused-at (c .before .before)) (omega (arith, c .before .loop-test .left)))
+returns-4 c = rw (c .answered4 .ensures) (paused-spent (paused-at (c .before .before .before)) (omega (arith, c .before .if2 .left)))
 
 pub run-on-spec : {M : Type 1} → statement M
 run-on-spec =
