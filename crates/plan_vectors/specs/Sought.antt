@@ -3,6 +3,8 @@
 use Prim.Native.Nat.{ℕ, _+_, _-_, _<_, _≤_}
 use mathlib.Core.Bool.{true, true≢false}
 use mathlib.Core.List.{List}
+use lib.ListN.{length, take, drop, length-drop}
+use lib.Seq.{take-length, getD-drop}
 use mathlib.Core.Logic.{_≢_}
 use mathlib.Core.Path.{_≡_, refl, sym, ap, _∙_}
 use native.Mathlib.Omega.{arith}
@@ -14,10 +16,23 @@ use Rattle.model.specs.Heap.{kindAt, ptrsAt}
 use Rattle.model.specs.Vectors.{vectorKind, boundAt, firstElement, elementsAt, found, ofNil, nowhere, elementIn, elementOf}
 use Rattle.arithmetic.specs.Distance.{negative?}
 
+-- the words from the object at q on are a part of the heap, as the code counts them
+abbrev pub wordsFrom : List ℕ → ℕ → List ℕ
+wordsFrom h q = take (length h - q) (drop q h)
+
+part : (h : List ℕ) (q : ℕ) → wordsFrom h q ≡ drop q h
+part h q = ap (λ (n : ℕ). take n (drop q h)) (sym (length-drop q h)) ∙ take-length (drop q h)
+
+pub length-from : (h : List ℕ) (q : ℕ) → length (wordsFrom h q) ≡ length h - q
+length-from h q = ap length (part h q) ∙ length-drop q h
+
+pub word-from : (h : List ℕ) (q i : ℕ) → wordAt (wordsFrom h q) i ≡ wordAt h (q + i)
+word-from h q i = ap (λ (l : List ℕ). wordAt l i) (part h q) ∙ getD-drop q h i 0
+
 -- the bound of a vector of pointers is its last word
-pub bound-behind : (h : List ℕ) (q : ℕ) {size : ℕ} → size ≡ 3 + ptrsAt h q → wordAt h (q + size - 1) ≡ boundAt h q
+pub bound-behind : (h : List ℕ) (q : ℕ) {size : ℕ} → size ≡ 3 + ptrsAt h q → wordAt (wordsFrom h q) (size - 1) ≡ boundAt h q
 unfolding boundAt
-bound-behind h q {size} e = let i : q + size - 1 ≡ q + (2 + ptrsAt h q) = omega (arith, e) in ap (wordAt h) i
+bound-behind h q {size} e = let i : size - 1 ≡ 2 + ptrsAt h q = omega (arith, e) in rw i (word-from h q (2 + ptrsAt h q))
 
 in-under : (first count : ℕ) (z : ℤ) → negative? z ≡ true → elementIn first count z ≡ nowhere
 in-under first count (pos n) e = absurd (true≢false (sym e))

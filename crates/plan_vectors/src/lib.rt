@@ -115,8 +115,8 @@ pub fn word_elements(main: &[u32], ptr: &[u32], heap: &[u32], regs: Regs, kind: 
     }
 }
 
-// 83 and 85: an element of a vector of pointers. The elements begin in word 2, and the lower bound lies behind them, in the last word. Their number is had
-// from the size, which needs no mask: each read waits for the one before it.
+// 83 and 85: an element of a vector of pointers. The elements begin in word 2, and the lower bound lies behind them, in the last word. Each read here waits
+// for the one before it. So the number of elements is had from the size, which needs no mask, and words are counted from the object, which needs no sum.
 pub fn ptr_elements(main: &[u32], ptr: &[u32], heap: &[u32], regs: Regs, kind: u8) -> Plan
     requires { ⌜ (regs .place < fileMost) × TopWithin (now main) (regs .mtop) × TopWithin (now ptr) (regs .ptop) × (1 ≤ regs .mtop) × (1 ≤ regs .ptop)
         × ((wordAt (now ptr) (regs .ptop - 1) ≡ 0) ⊎ Lies (now heap) (wordAt (now ptr) (regs .ptop - 1)))
@@ -134,15 +134,16 @@ pub fn ptr_elements(main: &[u32], ptr: &[u32], heap: &[u32], regs: Regs, kind: u
     }
     let size = heap::size_at(heap, object);
     let elements = size - 3;
-    let bound = object + size - 1;
-    if arithmetic::under(main[last], heap[bound]) {
+    let vector = &heap[object..];
+    let bound = size - 1;
+    if arithmetic::under(main[last], vector[bound]) {
         return Plan::VectorFault;
     }
-    let far = arithmetic::distance(main[last], heap[bound]);
+    let far = arithmetic::distance(main[last], vector[bound]);
     if elements <= far {
         return Plan::VectorFault;
     }
-    let at = object + 2 + far;
+    let element = 2 + far;
     match kind {
         83 => writes(
             Into::ReadPointer,
@@ -150,7 +151,7 @@ pub fn ptr_elements(main: &[u32], ptr: &[u32], heap: &[u32], regs: Regs, kind: u
             last,
             regs.ptop,
             top,
-            heap[at],
+            vector[element],
         ),
         _ => {
             let value = regs.ptop - 2;
@@ -159,7 +160,7 @@ pub fn ptr_elements(main: &[u32], ptr: &[u32], heap: &[u32], regs: Regs, kind: u
                 regs.place + 1,
                 last,
                 value,
-                at,
+                object + element,
                 ptr[value],
             )
         }
