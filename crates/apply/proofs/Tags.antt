@@ -16,6 +16,7 @@ use Rattle.plan_meaning.specs.declared.Put.{Put}
 use Rattle.plan_meaning.specs.declared.Plan.{Plan}
 use Rattle.plan_meaning.specs.declared.Plan.the-variants.{Write}
 use Rattle.apply_words.specs.Asks.{Retract, plainWrite}
+use Rattle.apply_objects.specs.Asks.{MakesNew}
 use Rattle.plan_meaning.specs.Suits.{FitsIn, Suits}
 use Rattle.apply.specs.Applies.{Applies, Late, Lately}
 
@@ -57,7 +58,10 @@ pub plainly : {f : List ℕ} {put : Put} {m : Machine} → Applies f put m → O
 unfolding applied
 plainly {f = f} {put = put} {m = m} A k = plain-write f (put .into) put m k (A .suits)
 
--- of the late ones: a return is the first frame's; all but a new object and a return are retracts
+-- of the late ones: a return is the first frame's; what is no new object and no return is a retract
+abbrev makers : List ℕ
+makers = 10 ∷ 17 ∷ 18 ∷ []
+
 abbrev noReturn : List ℕ
 noReturn = 0 ∷ 1 ∷ 2 ∷ 3 ∷ 4 ∷ 5 ∷ 6 ∷ 7 ∷ 8 ∷ 9 ∷ 11 ∷ 13 ∷ 14 ∷ 15 ∷ 16 ∷ 19 ∷ 20 ∷ []
 
@@ -73,6 +77,16 @@ module _ {put : Put} {m : Machine} (L : Lately put m) where
       first (inr (inl (inr (inl e)))) = absurd (apart into.WordVector into.Return (λ t. omega arith) (sym e ∙ u))
       first (inr (inl (inr (inr e)))) = absurd (apart into.PtrVector into.Return (λ t. omega arith) (sym e ∙ u))
       first (inr (inr e)) = e .1
+
+  pub late-new : OneOf makers (tagOf made.the-type (put .into)) → MakesNew (put .into)
+  late-new k = some (L .late)
+    where
+      some : Late (put .into) (m .regs) → MakesNew (put .into)
+      some (inl (inl e)) = absurd (miss makers 7 tt (rw e at k))
+      some (inl (inr (inl e))) = absurd (miss makers 8 tt (rw e at k))
+      some (inl (inr (inr e))) = absurd (miss makers 9 tt (rw e at k))
+      some (inr (inl e)) = e
+      some (inr (inr e)) = absurd (miss makers 12 tt (rw (e .0) at k))
 
   pub late-retract : OneOf noReturn (tagOf made.the-type (put .into)) → Retract (put .into)
   late-retract k = some (L .late)

@@ -136,15 +136,7 @@ fn apply_late(
     let into = put.into;
     let next = onward(regs, put);
     match into {
-        Into::View => {
-            put_new(main, ptr, heap, regs, put);
-            next
-        }
-        Into::WordVector => {
-            put_new(main, ptr, heap, regs, put);
-            next
-        }
-        Into::PtrVector => {
+        Into::View | Into::WordVector | Into::PtrVector => {
             put_new(main, ptr, heap, regs, put);
             next
         }
