@@ -877,6 +877,30 @@ static void make_rows(void)
         }
 }
 
+/* Vectors made one after another till the heap is full, with three words pushed, the pointer dropped and a jump for each; less a run with a budget of 0. */
+static void loop_rows(void)
+{
+    static const uint32_t few[] = { 0, 1, 4, 16, 64, 256 };
+    double made[SIDES], none[SIDES];
+    char name[80];
+    title("vectors made in a loop of six steps", "ns/vector");
+    for (size_t i = 0; i < sizeof few / sizeof *few; i++) {
+        const uint32_t vectors = (16384 - 2) / (few[i] + 3);
+        snprintf(name, sizeof name, "80, %u elements", (unsigned)few[i]);
+        n = 0;
+        BYTES(240, 0, 0, 0, 0, 3, 1, 54, 1, 56, 0, 0, (uint8_t)(few[i] >> 8), (uint8_t)few[i], 54, 7, 80, 64, 0, 0, 0, 1, 3, 0, 18);
+        lend(f, n, 256, 256, 250, 16384);
+        start_all(name);
+        memset(fresh.main, 0, sizeof fresh.main);
+        memcpy(fresh.regs, side[O2].regs, sizeof fresh.regs);
+        measure_fresh(6 * vectors, name, made);
+        measure_fresh(0, name, none);
+        for (int w = 0; w < SIDES; w++)
+            made[w] -= none[w];
+        row(name, vectors, made, false);
+    }
+}
+
 int main(int argc, char **argv)
 {
     if (argc > 1)
@@ -887,5 +911,6 @@ int main(int argc, char **argv)
     audit_rows();
     step_rows();
     make_rows();
+    loop_rows();
     return 0;
 }
