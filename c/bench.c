@@ -787,7 +787,7 @@ static void step_rows(void)
 
 /* ---- vectors made ---- */
 
-/* The state right before 80 or 81, on an empty heap. */
+/* The state that each call begins with, on an empty heap: right before 80 or 81, or after a start. */
 static struct {
     uint32_t main[3];
     uint8_t regs[28];

@@ -1,4 +1,4 @@
--- The last arm of a match, and the else of a let: which variants are left is told by their positions, and each of those is tried.
+-- An arm of several variants, the last arm of a match, and the else of a let: which variants it may be is told by their positions, and each is tried.
 use Prim.Native.Nat.{ℕ}
 use mathlib.Core.Path.{_≡_, refl, ap, sym, _∙_}
 use mathlib.Core.Logic.{inl, inr}
@@ -58,7 +58,7 @@ pub plainly : {f : List ℕ} {put : Put} {m : Machine} → Applies f put m → O
 unfolding applied
 plainly {f = f} {put = put} {m = m} A k = plain-write f (put .into) put m k (A .suits)
 
--- of the late ones: a return is the first frame's; what is no new object and no return is a retract
+-- of the late ones: one at a maker's position makes a new object; a return is the first frame's; what is neither is a retract
 abbrev makers : List ℕ
 makers = 10 ∷ 17 ∷ 18 ∷ []
 

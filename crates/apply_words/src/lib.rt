@@ -178,7 +178,8 @@ fn drop_few(main: &mut [u32], ptr: &mut [u32], regs: Regs, put: Put) -> bool
 // The stacks are cut, and a word, or none, is written into one of them or into the heap; or nothing is done, where many words would be dropped.
 // Each arm pops by itself: a plan made with a known `into` then jumps to its arm, which looks at no stack that its instructions leave alone.
 // All but `Pointer` and the retracts ask nothing: how many words go is known, or that one or two go.
-// `ReadPointer` writes before it pops: the compiler makes one store of what arms end with, and a pointer read next waits less for a store of its own.
+// `ReadPointer` writes before it pops: of the writes that arms end with the compiler makes one store, and the next read of the pointer waits less if it
+// has its own.
 pub fn plain(main: &mut [u32], ptr: &mut [u32], heap: &mut [u32], regs: Regs, put: Put) -> bool
     requires { ⌜ Plain (length (now heap)) (now main) (now ptr) regs put ⌝ }
     ensures state { λ r. ⌜ ((ctl : List ℕ) → record {

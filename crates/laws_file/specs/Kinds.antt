@@ -1,5 +1,5 @@
 -- A number that a match has found to be one of a list, or none of several: what holds at each code of the list holds at it, and a number
--- that is no other instruction's code stands for raise, and has raise's body if it has any; of the codes but one is left.
+-- that is no other instruction's code stands for raise, and has raise's body if it has any; a code in none of the lists is the one that they leave out.
 use Prim.Native.Nat.{ℕ}
 use mathlib.Core.Bool.{Bool, true, false, true≢false}
 use mathlib.Core.List.{List, [], _∷_}

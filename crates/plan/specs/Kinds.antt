@@ -1,4 +1,4 @@
--- The arms of the match on the code: of the codes only 85 is in none of them.
+-- The arms of the match on the code but its last: of the codes only 85 is in none of them.
 use Prim.Native.Nat.{ℕ}
 use mathlib.Core.Bool.{true}
 use mathlib.Core.List.{List, [], _∷_}
@@ -6,7 +6,7 @@ use mathlib.Core.Path.{_≡_}
 use Rattle.model.specs.File.{byteAt, codes, isInstruction}
 use Rattle.laws_file.specs.Kinds.{NoneOf, last-code}
 
--- the last arm's first
+-- from behind: the first arm's comes last
 abbrev planArms : List (List ℕ)
 planArms =
     (162 ∷ []) ∷ (83 ∷ []) ∷ (84 ∷ []) ∷ (82 ∷ []) ∷ (81 ∷ []) ∷ (80 ∷ [])

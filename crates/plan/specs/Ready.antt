@@ -22,7 +22,7 @@ here f m = insAt f (placeOf m)
 pub record StepReady (f table : List ℕ) (m : Machine) : Type 0 where
   -- refusal 1: the file has at most 4,096 bytes
   pub short : length f ≤ fileMost
-  -- the place is an instruction's, and the records are whole: refusal 3
+  -- the place is an instruction's: refusal 12; and the records are whole: refusal 3
   pub code : isInstruction f (placeOf m) ≡ true
   pub whole : after f (placeOf m) ≤ length f
   -- the table holds the heads, each of six bytes and its kind: refusals 3 and 4

@@ -10,8 +10,8 @@ use model::PROCS_MOST;
 // family's function matches its own codes again. The compiler makes one jump table of all these matches, as long as a family that shares an arm
 // has codes that begin differently: of codes that begin alike it would first do what they share, and then ask for the code a second time. So these have
 // an arm each, and the family's function gets the code as a constant. Neighbours share no arm: together they would be a test of a range.
-// The last arm is that of 85: the file has passed, and so nothing but a code stands here. As an arm of its own, for what is no code, it would be one
-// instruction more in every step.
+// The last arm is that of 85: the file has passed and the state is sound, and so a code stands here. With one more arm, for what is no code, every step
+// would have two instructions more.
 pub fn plan_at(
     file: &[u8],
     table: &[usize; PROCS_MOST],

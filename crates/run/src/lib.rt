@@ -22,7 +22,7 @@ fn answered(answer: Answer, regs: Regs) -> Ended
     Ended { answer, regs }
 }
 
-// The table has the heads of the file's procedures.
+// The table has the heads of the file's procedures. What a run pauses with is one variable: in three, its plan was copied at each pause.
 pub fn run_on(
     file: &[u8],
     table: &[usize; PROCS_MOST],

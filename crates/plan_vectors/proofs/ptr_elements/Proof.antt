@@ -42,7 +42,8 @@ counted c = omega (arith, shape (c .before), c .size-at .ensures .is)
 inside : (c : tie.After-size-at) (i : ℕ) → i < c .size-at .result →
     i < length (wordsFrom (now (c .before .before .before .before .before .before .before .before .before .before .before .args .heap)) (c .before .before .before .before .word .result))
 inside c i l =
-    rw (length-from (now (c .before .before .before .before .before .before .before .before .before .before .before .args .heap)) (c .before .before .before .before .word .result)) (omega (arith, l, object (c .before .before .before), c .size-at .ensures .is))
+    let h = now (c .before .before .before .before .before .before .before .before .before .before .before .args .heap) in
+    rw (length-from h (c .before .before .before .before .word .result)) (omega (arith, l, object (c .before .before .before), c .size-at .ensures .is))
 
 bound : (c : tie.After-under) →
     let h = now (c .before .before .before .before .before .before .before .before .before .before .before .before .before .before .before .args .heap) in
@@ -188,7 +189,9 @@ mul-distance-2 : tie.Need-mul-distance-2
 mul-distance-2 c = search needs
 
 shared-slice-read-distance-2 : tie.Need-shared-slice-read-distance-2
-shared-slice-read-distance-2 c = let at-size-at = c .before .before .before .before .before .before .before in inside at-size-at _ (omega (arith, shape (at-size-at .before), at-size-at .size-at .ensures .is))
+shared-slice-read-distance-2 c =
+    let at-size-at = c .before .before .before .before .before .before .before in
+    inside at-size-at _ (omega (arith, shape (at-size-at .before), at-size-at .size-at .ensures .is))
 
 distance-requires : tie.Need-distance-requires
 distance-requires c κs = sym (c .before .before .before .under .ensures) ∙ c .before .before .if3 .left
@@ -247,7 +250,8 @@ unfolding planned planOf basicPlan insOf
 returns-5 c =
     let far12 = c .before .before .before .before .before .before .before .before .before .before .before .before in
     let S = far12 .before .before .before .before .before .before .before .before .before .before .before .before in
-    let w = word-from (now (S .args .heap)) (c .before .before .before .before .before .before .before .before .before .before .before .before .before .before .before .before .before .word .result) (2 + c .before .before .before .before .before .distance .result) in
+    let o = far12 .before .before .before .before .before .word .result in
+    let w = word-from (now (S .args .heap)) o (2 + c .before .before .before .before .before .distance .result) in
     λ f m. rw (c .writes .ensures, c .before .before .before .match .keys1, w) (rw (at (c .before .before .before .before)))
 
 returns-6 : tie.Need-returns-6

@@ -90,7 +90,7 @@ step-with-requires c κs =
     (rw (P .is) (alive-settles (I .going .runs .alive) (I .on?)), P .late)
 
 sub-done : tie.Need-sub-done Inv-loop μ-loop
-sub-done c = omega (arith, paused-at (c .before .before .before .before .before .before .before .before .before .before .before .before .before .before .before .before .before .before .before) .going .less)
+sub-done c = omega (arith, paused-at (turn (c .before .before .before .before .before .before .before .before .before .before)) .going .less)
 
 answered-requires-2 : tie.Need-answered-requires-2 Inv-loop μ-loop
 answered-requires-2 c κs = search needs
@@ -115,7 +115,7 @@ returns-2 c =
     rw (c .answered2 .ensures) (paused-uncaught (paused-at (turn at-step-with)) t (S .result) (S .ensures) (not-true _ (c .before .before .before .if3 .taken)))
 
 sub-done-2 : tie.Need-sub-done-2 Inv-loop μ-loop
-sub-done-2 c = omega (arith, paused-at (c .before .before .before .before .before .before .before .before .before .before .before .before .before .before .before .before .before .before .before .before .before) .going .less)
+sub-done-2 c = omega (arith, paused-at (turn (step (c .before .before .before))) .going .less)
 
 answered-requires-3 : tie.Need-answered-requires-3 Inv-loop μ-loop
 answered-requires-3 c κs = search needs
