@@ -17,22 +17,22 @@ use Rattle.model.specs.Vectors.{vectorKind, boundAt, firstElement, elementsAt, 
 use Rattle.arithmetic.specs.Distance.{negative?}
 
 -- the words from the object at q on are a part of the heap, as the code counts them
-abbrev pub wordsFrom : List ℕ → ℕ → List ℕ
-wordsFrom h q = take (length h - q) (drop q h)
+abbrev pub heapFrom : List ℕ → ℕ → List ℕ
+heapFrom h q = take (length h - q) (drop q h)
 
-part : (h : List ℕ) (q : ℕ) → wordsFrom h q ≡ drop q h
+part : (h : List ℕ) (q : ℕ) → heapFrom h q ≡ drop q h
 part h q = ap (λ (n : ℕ). take n (drop q h)) (sym (length-drop q h)) ∙ take-length (drop q h)
 
-pub length-from : (h : List ℕ) (q : ℕ) → length (wordsFrom h q) ≡ length h - q
-length-from h q = ap length (part h q) ∙ length-drop q h
+pub length-heap-from : (h : List ℕ) (q : ℕ) → length (heapFrom h q) ≡ length h - q
+length-heap-from h q = ap length (part h q) ∙ length-drop q h
 
-pub word-from : (h : List ℕ) (q i : ℕ) → wordAt (wordsFrom h q) i ≡ wordAt h (q + i)
-word-from h q i = ap (λ (l : List ℕ). wordAt l i) (part h q) ∙ getD-drop q h i 0
+pub word-heap-from : (h : List ℕ) (q i : ℕ) → wordAt (heapFrom h q) i ≡ wordAt h (q + i)
+word-heap-from h q i = ap (λ (l : List ℕ). wordAt l i) (part h q) ∙ getD-drop q h i 0
 
 -- the bound of a vector of pointers is its last word
-pub bound-behind : (h : List ℕ) (q : ℕ) {size : ℕ} → size ≡ 3 + ptrsAt h q → wordAt (wordsFrom h q) (size - 1) ≡ boundAt h q
+pub bound-behind : (h : List ℕ) (q : ℕ) {size : ℕ} → size ≡ 3 + ptrsAt h q → wordAt (heapFrom h q) (size - 1) ≡ boundAt h q
 unfolding boundAt
-bound-behind h q {size} e = let i : size - 1 ≡ 2 + ptrsAt h q = omega (arith, e) in rw i (word-from h q (2 + ptrsAt h q))
+bound-behind h q {size} e = let i : size - 1 ≡ 2 + ptrsAt h q = omega (arith, e) in rw i (word-heap-from h q (2 + ptrsAt h q))
 
 in-under : (first count : ℕ) (z : ℤ) → negative? z ≡ true → elementIn first count z ≡ nowhere
 in-under first count (pos n) e = absurd (true≢false (sym e))

@@ -12,7 +12,7 @@ use Rattle.model.specs.Vectors.{boundAt, elementsAt, found, ofNil, nowhere, ele
 use Rattle.heap.specs.Stores.{Lies, lies}
 use Rattle.plan_meaning.specs.Planned.{basicPlan, planOf, planned}
 use Rattle.plan_meaning.specs.Asked as asked
-use Rattle.plan_vectors.specs.Sought.{wordsFrom, length-from, word-from, bound-behind, nil-sought, other-kind, under-sought, past-sought, found-sought}
+use Rattle.plan_vectors.specs.Sought.{heapFrom, length-heap-from, word-heap-from, bound-behind, nil-sought, other-kind, under-sought, past-sought, found-sought}
 use borrow.Author.Needs.{needs}
 use Rattle.plan_vectors.proofs.ptr_elements.Statement.{statement}
 use Rattle.plan_vectors.proofs.ptr_elements.Tie as tie
@@ -40,15 +40,15 @@ counted c = omega (arith, shape (c .before), c .size-at .ensures .is)
 
 -- a word of the vector is one of the part that begins with it
 inside : (c : tie.After-size-at) (i : ℕ) → i < c .size-at .result →
-    i < length (wordsFrom (now (c .before .before .before .before .before .before .before .before .before .before .before .args .heap)) (c .before .before .before .before .word .result))
+    i < length (heapFrom (now (c .before .before .before .before .before .before .before .before .before .before .before .args .heap)) (c .before .before .before .before .word .result))
 inside c i l =
     let h = now (c .before .before .before .before .before .before .before .before .before .before .before .args .heap) in
-    rw (length-from h (c .before .before .before .before .word .result)) (omega (arith, l, object (c .before .before .before), c .size-at .ensures .is))
+    rw (length-heap-from h (c .before .before .before .before .word .result)) (omega (arith, l, object (c .before .before .before), c .size-at .ensures .is))
 
 bound : (c : tie.After-under) →
     let h = now (c .before .before .before .before .before .before .before .before .before .before .before .before .before .before .before .args .heap) in
     let o = c .before .before .before .before .before .before .before .before .word .result in
-    wordAt (wordsFrom h o) (c .before .before .before .before .size-at .result - 1) ≡ boundAt h o
+    wordAt (heapFrom h o) (c .before .before .before .before .size-at .result - 1) ≡ boundAt h o
 bound c =
     let at-size-at = c .before .before .before .before in
     bound-behind _ _ (at-size-at .size-at .ensures .is ∙ shape (at-size-at .before))
@@ -251,7 +251,7 @@ returns-5 c =
     let far12 = c .before .before .before .before .before .before .before .before .before .before .before .before in
     let S = far12 .before .before .before .before .before .before .before .before .before .before .before .before in
     let o = far12 .before .before .before .before .before .word .result in
-    let w = word-from (now (S .args .heap)) o (2 + c .before .before .before .before .before .distance .result) in
+    let w = word-heap-from (now (S .args .heap)) o (2 + c .before .before .before .before .before .distance .result) in
     λ f m. rw (c .writes .ensures, c .before .before .before .match .keys1, w) (rw (at (c .before .before .before .before)))
 
 returns-6 : tie.Need-returns-6
