@@ -9,7 +9,7 @@ use lib.ListN.{length, set}
 use borrow.Author.Tests.{eq-eqb, ne-eqb}
 use Rattle.model.specs.Words.{cut}
 use Rattle.model.specs.File.{after}
-use Rattle.model.specs.Control.{Machine, recordWords}
+use Rattle.model.specs.Control.{Machine, recordWords, records}
 use Rattle.model.specs.Heap.{markOf}
 use Rattle.model.specs.Moves.{mainWord, finished}
 use Rattle.plan_meaning.specs.Settled.{calledBy, returned, opened, closed, applyInto, applied}
@@ -61,8 +61,11 @@ module _ {f : List ℕ} {put : Put} {m : Machine} (A : Applies f put m) where
       )
 
   pub to-close : put .into ≡ into.Close →
-      Topped (m .regs .ctop) (m .ctl) × (1 ≤ m .regs .handler) × (recordWords * m .regs .handler ≤ m .regs .ctop)
-  to-close e = (A .stands .ctl, suits e, A .stands .handler)
+      Topped (m .regs .ctop) (m .ctl) × (1 ≤ m .regs .handler) × (recordWords * m .regs .handler ≡ m .regs .ctop)
+  to-close e =
+      let S = A .stands in
+      let top : m .regs .handler ≡ records m = suits e in
+      (S .ctl, omega (arith, top, S .whole, S .frame, S .frame-some), omega (arith, top, S .whole))
 
   heap-room : {n : ℕ} → markOf (m .heap) + (3 + n) ≤ length (m .heap) → VectorRoom (m .heap) n
   heap-room r = record { free = r; heap-most = A .stands .heap-most }

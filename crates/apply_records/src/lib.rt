@@ -91,15 +91,15 @@ pub fn open(ctl: &mut [u32], regs: Regs, put: Put) -> Regs
     }
 }
 
-// 161: the innermost handler's record goes.
+// 161: the innermost handler's record goes, the topmost one. It is read where the top is: by the handler's number it took longer (docs/PERFORMANCE.md).
 pub fn close(ctl: &mut [u32], regs: Regs, put: Put) -> Regs
-    requires { ⌜ Topped (regs .ctop) (now ctl) × (1 ≤ regs .handler) × (recordWords * regs .handler ≤ regs .ctop) ⌝ }
+    requires { ⌜ Topped (regs .ctop) (now ctl) × (1 ≤ regs .handler) × (recordWords * regs .handler ≡ regs .ctop) ⌝ }
     ensures { λ r. ⌜ ((main ptr heap : List ℕ) → record { regs = r; main = main; ptr = ptr; ctl = now (ctl .exit); heap = heap }
         ≡ closed put (record { regs = regs; main = main; ptr = ptr; ctl = now (ctl .entry); heap = heap })) ⌝ }
 {
     let top = regs.ctop;
-    let outer = control_stack::outer_of(ctl, regs.handler);
     let under = top - RECORD;
+    let outer = control_stack::outer_at(ctl, under);
     control_stack::clear_record(ctl, under);
     Regs {
         place: put.place,

@@ -119,12 +119,12 @@ pub fn caller_of(ctl: &[u32], n: usize) -> usize
     word(ctl, n - 1, CALLER)
 }
 
-// The same of handler number `n`.
-pub fn outer_of(ctl: &[u32], n: usize) -> usize
-    requires { ⌜ Numbered (now ctl) n ⌝ }
-    ensures { λ r. ⌜ r ≡ handlerOf (now (ctl .entry)) n .outer ⌝ }
+// One word of the handler's record that starts at `at`, where the others are not needed.
+pub fn outer_at(ctl: &[u32], at: usize) -> usize
+    requires { ⌜ at + recordWords ≤ length (now ctl) ⌝ }
+    ensures { λ r. ⌜ ((k : ℕ) → at ≡ recordWords * k → r ≡ asHandler (recAt (now (ctl .entry)) k) .outer) ⌝ }
 {
-    word(ctl, n - 1, OUTER)
+    ctl[at + OUTER] as usize
 }
 
 // A frame's record on top of those under `top`.

@@ -77,10 +77,10 @@ pub record Apt (f : List ℕ) (m : Machine) (x : Ins) : Type 0 where
   pub ptr-in : (s : ℕ) → ptrWord m 1 ≢ 0 → inPtrs (m .heap) (ptrWord m 1) s ≡ true → ptrWord m 1 + s < length (m .heap)
   pub element-within : (d : Side) (a : ℕ) → elementOf d (m .heap) (ptrWord m 1) (mainWord m 1) ≡ found a → a < length (m .heap)
   pub root-in : 2 ≤ length (m .heap)
-  -- the instruction is not cut short; the control records are whole; at a 161 a handler is open
+  -- the instruction is not cut short; the control records are whole; at a 161 the topmost is a handler's
   pub in-file : after f (m .regs .place) ≤ length f
   pub whole : m .regs .ctop ≡ recordWords * records m
-  pub open-one : x ≡ exit → 1 ≤ m .regs .handler
+  pub handler-top : x ≡ exit → m .regs .handler ≡ records m
 
 -- the tops, the stacks and the heap are the same, the rest is the machine's
 same : {q fr h mt mt′ pt pt′ c s : ℕ} {main main′ ptr ptr′ ctl heap : List ℕ} → mt ≡ mt′ → pt ≡ pt′ → main ≡ main′ → ptr ≡ ptr′ →
@@ -381,7 +381,7 @@ module _ (f : List ℕ) (m : Machine) (q : ℕ) where
   agrees exit d e A =
       let w = A .whole in
       let c : recordWords * (records m - 1) ≡ m .regs .ctop - recordWords = omega arith in
-      comes (rw c refl) (A .open-one refl)
+      comes (rw c refl) (A .handler-top refl)
   agrees raise d e A = comes refl (A .pop-main)
 
 module _ (f : List ℕ) (m : Machine) (A : Apt f m (insAt f (m .regs .place))) where

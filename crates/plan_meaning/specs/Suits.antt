@@ -5,7 +5,7 @@ use mathlib.Core.List.{List}
 use lib.ListN.{length}
 use Rattle.model.specs.File.{after}
 use Rattle.model.specs.Heap.{markOf}
-use Rattle.model.specs.Control.{Machine, recordWords}
+use Rattle.model.specs.Control.{Machine, recordWords, records}
 use Rattle.model.specs.Moves.{mtop, ptop, mainWord}
 use Rattle.model.specs.declared.Regs.{Regs}
 use Rattle.plan_meaning.specs.declared.Into.{Into}
@@ -90,7 +90,7 @@ Suits f View put m = Forms put m
 Suits f Frame put m = CallSuits f put m
 Suits f Return put m = Unit {0}
 Suits f Handler put m = m .regs .ctop + recordWords ≤ length (m .ctl)
-Suits f Close put m = 1 ≤ m .regs .handler
+Suits f Close put m = m .regs .handler ≡ records m
 Suits f ReadPointer put m = FitsIn ReadPointer put m
 Suits f Store put m = FitsIn Store put m
 Suits f WordVector put m = VectorFits 3 0 (mainWord m 2) put m

@@ -11,7 +11,7 @@ use Rattle.model.specs.File.{exit}
 use Rattle.model.specs.Checker.{none}
 use Rattle.model.specs.Rules.{Opens}
 use Rattle.model.specs.Heap.{Pointer}
-use Rattle.model.specs.Control.{Machine, asHandler, recAt, down}
+use Rattle.model.specs.Control.{Machine, records, asHandler, recAt, down}
 use Rattle.model.specs.Moves.{mainWord, ptrWord}
 use Rattle.model.specs.Step.{step}
 use Rattle.model.specs.Sound.{innerAt}
@@ -46,17 +46,17 @@ module _ {f map table : List ℕ} {m : Machine} (A : Alive f map table m) (n i j
   L : CodeLaws f map
   L = alive-laws A
 
-  -- at a 161 a handler is open
-  open-one : here f m ≡ exit → 1 ≤ m .regs .handler
-  open-one e = go n (R .stack)
+  -- at a 161 a handler is open, and its record is the topmost
+  handler-top : here f m ≡ exit → m .regs .handler ≡ records m
+  handler-top e = go n refl (R .stack)
     where
       u : innerAt map (placeOf m) ≢ none
       u = at-exit f map L (placeOf m) (at-place A n i j R) e .0
 
-      go : (k : ℕ) → Stack f map lm lp (down (m .ctl) k) (looking map m i j) → 1 ≤ m .regs .handler
-      go (suc k) (first z o F T) = absurd (u z)
-      go (suc k) (frame z o F b T S) = absurd (u z)
-      go (suc k) (handler o T S) = omega arith
+      go : (k : ℕ) → n ≡ k → Stack f map lm lp (down (m .ctl) k) (looking map m i j) → m .regs .handler ≡ records m
+      go (suc k) d (first z o F T) = absurd (u z)
+      go (suc k) d (frame z o F b T S) = absurd (u z)
+      go (suc k) d (handler o T S) = omega (arith, R .ctl-top, d, T .0, down-length (m .ctl) k)
 
   stands : Stands f m
   stands =
@@ -158,7 +158,7 @@ module _ {f map table : List ℕ} {m : Machine} (A : Alive f map table m) (n i j
         root-in = Y .heap-least;
         in-file = Y .whole;
         whole = omega arith;
-        open-one = open-one;
+        handler-top = handler-top;
       }
 
   pub running-settles : Settles f table m (planAt f m)
