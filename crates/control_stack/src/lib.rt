@@ -3,7 +3,7 @@ ghost use mathlib.Core.Path.{_≡_};
 ghost use Prim.Native.Nat.{ℕ, _+_, _*_, _/_, _<_, _≤_};
 ghost use lib.ListN.{length};
 ghost use Rattle.model.specs.Words.{wordAt, cut};
-ghost use Rattle.model.specs.Control.{frameRec, handlerRec, asHandler, recAt, putRec, frameOf, handlerOf, recordWords};
+ghost use Rattle.model.specs.Control.{frameRec, handlerRec, asHandler, recAt, putRec, frameOf, recordWords};
 ghost use Rattle.control_stack.specs.Layout.{theFrame, theHandler, FrameIs, FrameWords, HandlerWords, Numbered, Onto};
 use model::RECORD;
 
@@ -119,7 +119,7 @@ pub fn caller_of(ctl: &[u32], n: usize) -> usize
     word(ctl, n - 1, CALLER)
 }
 
-// One word of the handler's record that starts at `at`, where the others are not needed.
+// The next outer handler, from the handler's record that starts at `at`.
 pub fn outer_at(ctl: &[u32], at: usize) -> usize
     requires { ⌜ at + recordWords ≤ length (now ctl) ⌝ }
     ensures { λ r. ⌜ ((k : ℕ) → at ≡ recordWords * k → r ≡ asHandler (recAt (now (ctl .entry)) k) .outer) ⌝ }

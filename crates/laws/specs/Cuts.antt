@@ -10,11 +10,10 @@ use lib.Dec.{eqb}
 use lib.ListN.{length, set, take, drop, replicate}
 use lib.Seq.{getD-set-same, getD-set-other, set-out, getD-drop, slice}
 use borrow.Author.Tests.{eqb-true, eq-eqb}
-use Rattle.model.specs.Choice.{if-both, all}
+use Rattle.model.specs.Choice.{if-both}
 use Rattle.model.specs.Words.{wordAt, cut}
 use native.Mathlib.Decide.{ℕ-discrete, decLt}
 use Rattle.model.specs.Heap.{isPointer}
-use Rattle.model.specs.Control.{down}
 use Rattle.model.specs.Sound.{zeros, pointers}
 use native.Mathlib.Nat.{eq-or-lt-of-le}
 

@@ -6,7 +6,6 @@ use mathlib.Core.Path.{_≡_, refl, ap, _∙_}
 use native.Mathlib.Omega.{arith}
 use lib.ListN.{length}
 use lib.Seq.{length-sets}
-use Rattle.model.specs.Choice.{same}
 use Rattle.model.specs.Words.{wordAt, cut}
 use Rattle.laws.specs.Stores.{sets-other, sets-at}
 use Rattle.model.specs.Control.{Rec, recordWords, recAt, down, putRec}

@@ -8,7 +8,6 @@ use lib.ListN.{length, set, length-set, take, drop}
 use lib.Seq.{sets, getD-set-same, getD-set-other, slice, take-suc, drop-append-le, length-take-le, length-slice}
 use Rattle.model.specs.Words.{wordAt}
 use native.Mathlib.Numerals.{add-one}
-use Rattle.model.specs.File.{after, more}
 
 -- words stored from a place on: the words outside stay
 pub sets-other : (vs l : List ℕ) (a i : ℕ) → (i < a) ⊎ (a + length vs ≤ i) → wordAt (sets l a vs) i ≡ wordAt l i

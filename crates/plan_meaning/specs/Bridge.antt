@@ -77,7 +77,7 @@ pub record Apt (f : List ℕ) (m : Machine) (x : Ins) : Type 0 where
   pub ptr-in : (s : ℕ) → ptrWord m 1 ≢ 0 → inPtrs (m .heap) (ptrWord m 1) s ≡ true → ptrWord m 1 + s < length (m .heap)
   pub element-within : (d : Side) (a : ℕ) → elementOf d (m .heap) (ptrWord m 1) (mainWord m 1) ≡ found a → a < length (m .heap)
   pub root-in : 2 ≤ length (m .heap)
-  -- the instruction is not cut short; the control records are whole; at a 161 the topmost is a handler's
+  -- the instruction is not cut short; the control records are whole; at a 161 the topmost is the innermost handler's
   pub in-file : after f (m .regs .place) ≤ length f
   pub whole : m .regs .ctop ≡ recordWords * records m
   pub handler-top : x ≡ exit → m .regs .handler ≡ records m

@@ -1,6 +1,6 @@
 -- The plan of an alive state that is not finished comes to the model's step and can be settled: `Settles`, which `step_with` asks for. What
 -- the bridge asks of a machine (`Apt`) follows from what planning had (`Ready`); a raise finds its handler's record on the control stack.
-use Prim.Native.Nat.{ℕ, suc, _-_, _≤_}
+use Prim.Native.Nat.{ℕ, suc, _-_}
 use mathlib.Core.Path.{_≡_, refl, subst, _∙_}
 use mathlib.Core.List.{List}
 use mathlib.Core.Logic.{_⊎_, inl, inr, _≢_}

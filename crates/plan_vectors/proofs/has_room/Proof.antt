@@ -1,5 +1,4 @@
 -- `plan_vectors::has_room`: the sum of the words that it reads.
-use native.Mathlib.Omega.{arith}
 use borrow.Author.Needs.{needs}
 use Rattle.plan_vectors.proofs.has_room.Statement.{statement}
 use Rattle.plan_vectors.proofs.has_room.Tie as tie

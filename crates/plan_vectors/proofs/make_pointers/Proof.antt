@@ -1,5 +1,4 @@
 -- `plan_vectors::make_pointers`: as `make_words`, with the value on the pointer stack.
-use native.Mathlib.Omega.{arith}
 use mathlib.Core.Path.{_∙_, sym}
 use borrow.Author.Tests.{lt-ltb, le-ltb, not-true, not-false}
 use Rattle.model.specs.File.{insOf}

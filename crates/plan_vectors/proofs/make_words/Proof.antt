@@ -1,5 +1,4 @@
 -- `plan_vectors::make_words`: the definition's tests are the code's, the length's sign before the room.
-use native.Mathlib.Omega.{arith}
 use mathlib.Core.Path.{_∙_, sym}
 use native.Mathlib.Nat.{sub-zero}
 use borrow.Author.Tests.{lt-ltb, le-ltb, not-true, not-false}
