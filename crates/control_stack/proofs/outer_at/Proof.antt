@@ -1,7 +1,7 @@
 -- The next outer handler is one word of the record.
 use Prim.Native.Nat.{ℕ, _+_}
 use mathlib.Core.Path.{ap}
-use native.Mathlib.Omega.{arith}
+use mir.Facts.{fits-widen}
 use borrow.Author.Needs.{needs}
 use Rattle.model.specs.Words.{wordAt}
 use Rattle.model.specs.Control.{recAt}
@@ -18,7 +18,7 @@ shared-slice-read-result : tie.Need-shared-slice-read-result
 shared-slice-read-result c = search needs
 
 cast-result : tie.Need-cast-result
-cast-result c = omega (arith, c .shared-slice-known .given (c .before .args .at + 4))
+cast-result c = fits-widen tt (c .shared-slice-known .given _)
 
 returns : tie.Need-returns
 unfolding recAt
