@@ -1,19 +1,22 @@
--- Tests 1 to 11 and the register list's length, which start and run share: what the code finds of them decides what the model's
+-- Tests 1 to 9, 13, 10 and 11, which start and run share but for what they ask of 13: what the code finds of them decides what the model's
 -- `tested` comes to, whatever follows.
 use Prim.Native.Nat.{ℕ, _<_, _≤_}
-use mathlib.Core.Bool.{Bool, true, false}
+use mathlib.Core.Bool.{Bool, true, false, true≢false}
 use mathlib.Core.List.{List, [], _∷_}
 use mathlib.Core.Path.{_≡_, refl, ap, sym, _∙_}
 use native.Mathlib.Omega.{arith}
 use lib.ListN.{length, replicate, length-replicate}
-use borrow.Author.Tests.{eq-eqb, ne-eqb}
-use Rattle.model.specs.Choice.{if_then_else_, Test, atMost, all, All, all-true}
-use Rattle.model.specs.File.{headOf, procsMost}
+use lib.Dec.{eqb}
+use borrow.Author.Tests.{eq-eqb, eqb-true}
+use Rattle.model.specs.Choice.{if_then_else_, Test, same, atMost, all, All, all-true}
+use Rattle.model.specs.File.{headOf, fileMost, procsMost}
 use Rattle.model.specs.Heap.{clean, heapOf, objectsOf}
-use Rattle.model.specs.Control.{registerBytes, recordWords}
-use Rattle.model.specs.Calls.{pass, refuse, verdictOf, Checked, checked, answered, checkOf, Lent, withMap, After, answers, lengthTests, afterMap}
+use Rattle.model.specs.Sums.{sumsOf}
+use Rattle.model.specs.Control.{registerBytes, recordWords, sumsFrom}
+use Rattle.model.specs.Calls.{pass, refuse, verdictOf, Checked, checked, answered, checkOf, Lent, withMap, After, answers, demand, audited, sumTests, lengthTests}
 use Rattle.model.specs.Calls.{afterCheck, tested, mainMost, ptrMost, ctlMost, heapMost}
 use Rattle.model.specs.Calls as model
+use Rattle.laws.specs.Tests.{fails-all, decided}
 use Rattle.theory_checker.specs.Exact.{passed-as}
 use Rattle.laws_file.specs.Procedures.{head-zero, head-whole}
 use Rattle.check_scan.specs.Heading.{Placed}
@@ -27,7 +30,44 @@ use Rattle.audit_heap.specs.Table.{Unmarked, unmarked-fresh, Marks, Audited}
 use Rattle.audit_heap.specs.Answers.{audited-clean, audited-fault}
 use Rattle.audit_heap.specs.declared.HeapAudit.{HeapAudit}
 use Rattle.audit_heap.specs.declared.HeapAudit.the-variants.{Clean, Fault}
+use Rattle.model.specs.declared.Sums.{Sums}
 use Rattle.model.specs.declared.Answer.the-variants.{Passed, Refused}
+
+-- refusal 13 for run and for start, as the model's belongTests and registerTests have it
+unfoldable pub belongList : Bool → List ℕ → List ℕ → List Test
+belongList true f b = same (length b) registerBytes ∷ sumTests (sumsFrom b) (sumsOf f)
+belongList false f b = same (length b) registerBytes ∷ []
+
+abbrev pub asked : Bool → Lent → List Test
+asked run l = belongList run (l .file) (l .bytes)
+
+pub sums-differ : {s t s′ t′ : Sums} → s ≡ s′ → t ≡ t′ → (s .first ≡ t .first → ⊥) → false ≡ all (sumTests s′ t′)
+sums-differ {s′ = s′} {t′ = t′} e g h = fails-all 0 (sumTests s′ t′) (rw (e, g) at h)
+
+pub sums-decide : {s t s′ t′ : Sums} → s ≡ s′ → t ≡ t′ → s .first ≡ t .first → eqb (s .second) (t .second) ≡ all (sumTests s′ t′)
+sums-decide {s = s} {t = t} e g h = rw (← e, ← g) (decided 1 (sumTests s t) _ refl (λ w. (h, (eqb-true _ _ w, tt))))
+
+pub belong-length : (run : Bool) (f b : List ℕ) → All (belongList run f b) → length b ≡ registerBytes
+unfolding belongList
+belong-length true f b T = T .0
+belong-length false f b T = T .0
+
+-- the length alone, or with the sums
+pub length-first : (run t : Bool) (f b : List ℕ) → length b ≡ registerBytes → run ≡ true → t ≡ all (sumTests (sumsFrom b) (sumsOf f)) →
+    t ≡ all (belongList run f b)
+unfolding belongList
+length-first true t f b h u e = e ∙ rw (eq-eqb (length b) registerBytes h)
+length-first false t f b h u e = absurd (true≢false (sym u))
+
+pub length-alone : (run : Bool) (f b : List ℕ) → length b ≡ registerBytes → run ≡ false → true ≡ all (belongList run f b)
+unfolding belongList
+length-alone true f b h u = absurd (true≢false u)
+length-alone false f b h u = rw (eq-eqb (length b) registerBytes h)
+
+pub length-wrong : (run : Bool) (f b : List ℕ) → (length b ≡ registerBytes → ⊥) → false ≡ all (belongList run f b)
+unfolding belongList
+length-wrong true f b h = fails-all 0 (belongList true f b) h
+length-wrong false f b h = fails-all 0 (belongList false f b) h
 
 -- refusal 10 on numbers, as the model's lengthTests has it
 abbrev pub lengthList : Head → ℕ → ℕ → ℕ → ℕ → List Test
@@ -60,41 +100,41 @@ pub record AdmitShows (l : Lent) (map table : List ℕ) (k : ℕ) : Type 0 where
   pub heap-clean : heapOf (l .heap) ≡ clean (objectsOf (l .heap))
   pub registers : length (l .bytes) ≡ registerBytes
 
-pub record Admitted (l : Lent) (map table : List ℕ) (v : Verdict) : Type 0 where
-  pub is : (rest : Lent → After) → tested l rest ≡ admitted v rest (withMap map l)
+pub record Admitted (run : Bool) (l : Lent) (map table : List ℕ) (v : Verdict) : Type 0 where
+  pub is : (rest : Lent → After) → tested (asked run l) l rest ≡ admitted v rest (withMap map l)
   pub shown : (k : ℕ) → v ≡ Pass k → AdmitShows l map table k
 
 -- the same, with the table of marks that is left behind
-pub record AdmittedMarks (l : Lent) (map table : List ℕ) (marks : List Bool) (v : Verdict) : Type 0 where
-  pub found : Admitted l map table v
+pub record AdmittedMarks (run : Bool) (l : Lent) (map table : List ℕ) (marks : List Bool) (v : Verdict) : Type 0 where
+  pub found : Admitted run l map table v
   pub marks-are : (k : ℕ) → v ≡ Pass k → Marks (objectsOf (l .heap)) marks
 
--- the first head of a passed file stands at place 0, and is whole
-pub first-whole : (f map new : List ℕ) → verdictOf f map ≡ pass new → (headOf f 0 ≡ 0) × (6 < length f)
+-- the first head of a passed file stands at place 0, and is whole; the file is not too long
+pub first-whole : (f map new : List ℕ) → verdictOf f map ≡ pass new → (headOf f 0 ≡ 0) × (6 < length f) × (length f ≤ fileMost)
 first-whole f map new e =
     let P = passed-as f map new e .formed in
     let z = head-zero f (P .places) (P .records) in
     let w = head-whole f (P .places) (P .records) 0 in
-    (z, omega arith)
+    (z, omega arith, P .few)
 
 -- the check refused the file
-not-passed : (l : Lent) (map : List ℕ) (w : model.Verdict) (v : Verdict) → checked (answerOf v) map ≡ answered w →
-    ((k : ℕ) → v ≡ Pass k → ⊥) → (rest : Lent → After) → afterCheck l rest w ≡ admitted v rest (withMap map l)
-not-passed l map w (Pass k) e n rest = absurd (n k refl)
-not-passed l map (pass new) (Refuse k p) e n rest =
+not-passed : (ts : List Test) (l : Lent) (map : List ℕ) (w : model.Verdict) (v : Verdict) → checked (answerOf v) map ≡ answered w →
+    ((k : ℕ) → v ≡ Pass k → ⊥) → (rest : Lent → After) → afterCheck ts l rest w ≡ admitted v rest (withMap map l)
+not-passed ts l map w (Pass k) e n rest = absurd (n k refl)
+not-passed ts l map (pass new) (Refuse k p) e n rest =
     let a : Refused k p ≡ Passed = ap (λ (c : Checked). c .answer) e in
     let y : _≡_ {A = ℕ} 0 1 = cc in absurd (omega arith)
-not-passed l map (refuse j q new) (Refuse k p) e n rest =
+not-passed ts l map (refuse j q new) (Refuse k p) e n rest =
     let a : Refused k p ≡ Refused j q = ap (λ (c : Checked). c .answer) e in
     let b : map ≡ new = ap (λ (c : Checked). c .map) e in
     rw (a, b)
 
-pub admit-refused : {l : Lent} {map table : List ℕ} {marks : List Bool} {v : Verdict} → Checks (l .file) (l .map) map table v →
-    ((k : ℕ) → v ≡ Pass k → ⊥) → AdmittedMarks l map table marks v
+pub admit-refused : {run : Bool} {l : Lent} {map table : List ℕ} {marks : List Bool} {v : Verdict} → Checks (l .file) (l .map) map table v →
+    ((k : ℕ) → v ≡ Pass k → ⊥) → AdmittedMarks run l map table marks v
 unfolding checkOf
-admit-refused {l = l} {map = map} {v = v} C n =
+admit-refused {run = run} {l = l} {map = map} {v = v} C n =
     record {
-      found = record { is = not-passed l map (verdictOf (l .file) (l .map)) v (C .is) n; shown = λ k e. absurd (n k e) };
+      found = record { is = not-passed (asked run l) l map (verdictOf (l .file) (l .map)) v (C .is) n; shown = λ k e. absurd (n k e) };
       marks-are = λ k e. absurd (n k e);
     }
 
@@ -109,32 +149,42 @@ pub admit-passes : {f map₀ map table : List ℕ} {v : Verdict} {k : ℕ} → C
 unfolding checkOf
 admit-passes {f = f} {map₀ = map₀} {map = map} C z = passes-with map (verdictOf f map₀) (sym (ap (λ (x : Verdict). checked (answerOf x) map) z) ∙ C .is)
 
--- what is known of a passed file before its heap is looked at
-pub record Measured (l : Lent) (map table : List ℕ) (k : ℕ) (right? : Bool) : Type 0 where
+-- what a refusal behind the check comes to
+refused : {run : Bool} {l : Lent} {map table : List ℕ} {marks : List Bool} (n p : ℕ) →
+    ((rest : Lent → After) → tested (asked run l) l rest ≡ answers (Refused n p) (withMap map l)) → AdmittedMarks run l map table marks (Refuse n p)
+refused n p e = record { found = record { is = e; shown = λ j z. refuse-pass n p j z }; marks-are = λ j z. refuse-pass n p j z }
+
+pub admit-foreign : {run : Bool} {l : Lent} {map table : List ℕ} {marks : List Bool} {v : Verdict} {k : ℕ} {its? : Bool} →
+    Checks (l .file) (l .map) map table v → v ≡ Pass k → its? ≡ all (asked run l) → its? ≡ false → AdmittedMarks run l map table marks (Refuse 13 0)
+admit-foreign C z t w = refused 13 0 (λ rest. rw (admit-passes C z, sym t ∙ w))
+
+-- what is known of a passed file that the state belongs to, before its heap is looked at
+pub record Measured (run : Bool) (l : Lent) (map table : List ℕ) (k : ℕ) (right? : Bool) : Type 0 where
   pub passes : verdictOf (l .file) (l .map) ≡ pass map
   pub placed : Placed (l .file) table k
+  pub its : all (asked run l) ≡ true
   pub tests : right? ≡ all (lengthTests (withMap map l))
 
-pub measured : {l : Lent} {map table : List ℕ} {v : Verdict} {k : ℕ} {head : Head} {right? : Bool} → Checks (l .file) (l .map) map table v → v ≡ Pass k →
-    HeadIs (l .file) 0 head → right? ≡ all (lengthList head (length (l .main)) (length (l .ptr)) (length (l .ctl)) (length (l .heap))) →
-    Measured l map table k right?
+pub measured : {run : Bool} {l : Lent} {map table : List ℕ} {v : Verdict} {k : ℕ} {its? : Bool} {head : Head} {right? : Bool} →
+    Checks (l .file) (l .map) map table v → v ≡ Pass k → its? ≡ all (asked run l) → its? ≡ true → HeadIs (l .file) 0 head →
+    right? ≡ all (lengthList head (length (l .main)) (length (l .ptr)) (length (l .ctl)) (length (l .heap))) →
+    Measured run l map table k right?
 unfolding lengthTests procHead
-measured {l = l} {map = map} {k = k} C z H r =
+measured {l = l} {map = map} {k = k} C z t w H r =
     let p = admit-passes C z in
     let e : _ ≡ procHead (l .file) 0 = H .is ∙ head-of (l .file) 0 0 (sym (first-whole (l .file) (l .map) map p .0)) in
     record {
       passes = p;
       placed = C .placed k z;
+      its = sym t ∙ w;
       tests = r ∙ ap (λ (w : Head). all (lengthList w (length (l .main)) (length (l .ptr)) (length (l .ctl)) (length (l .heap)))) e;
     }
 
-module _ {l : Lent} {map table : List ℕ} {k : ℕ} {right? : Bool} (M : Measured l map table k right?) where
-  refused : {marks : List Bool} (n p : ℕ) → ((rest : Lent → After) → tested l rest ≡ answers (Refused n p) (withMap map l)) → AdmittedMarks l map table marks (Refuse n p)
-  refused n p e =
-      record { found = record { is = e; shown = λ j z. refuse-pass n p j z }; marks-are = λ j z. refuse-pass n p j z }
-
-  go-on : (rest : Lent → After) → tested l rest ≡ afterMap (withMap map l) (rest (withMap map l))
-  go-on rest = rw (M .passes)
+module _ {run : Bool} {l : Lent} {map table : List ℕ} {k : ℕ} {right? : Bool} (M : Measured run l map table k right?) where
+  go-on : (rest : Lent → After) →
+      tested (asked run l) l rest
+      ≡ demand (lengthTests (withMap map l)) 10 (withMap map l) (audited (heapOf (l .heap)) (withMap map l) (rest (withMap map l)))
+  go-on rest = rw (M .passes, M .its)
 
   right : right? ≡ true → all (lengthTests (withMap map l)) ≡ true
   right w = sym (M .tests) ∙ w
@@ -145,46 +195,40 @@ module _ {l : Lent} {map table : List ℕ} {k : ℕ} {right? : Bool} (M : Measur
       let T = all-true (lengthTests (withMap map l)) (right w) in
       (T .1 .1 .1 .1 .1 .1 .0, T .1 .1 .1 .1 .1 .1 .1 .0)
 
-  pub admit-lengths : {marks : List Bool} → right? ≡ false → AdmittedMarks l map table marks (Refuse 10 0)
+  pub admit-lengths : {marks : List Bool} → right? ≡ false → AdmittedMarks run l map table marks (Refuse 10 0)
   admit-lengths w = refused 10 0 (λ rest. go-on rest ∙ rw (sym (M .tests) ∙ w))
 
   module _ (w : right? ≡ true) {h : HeapAudit} {marks : List Bool} (h-is : Audited (l .heap) h marks) where
-    pub admit-heap : {q : ℕ} → h ≡ Fault q → AdmittedMarks l map table marks (Refuse 11 q)
+    pub admit-heap : {q : ℕ} → h ≡ Fault q → AdmittedMarks run l map table marks (Refuse 11 q)
     admit-heap {q = q} e = refused 11 q (λ rest. go-on rest ∙ rw (right w, audited-fault q h-is e))
 
-    module _ (e : h ≡ Clean) where
-      clean-is : heapOf (l .heap) ≡ clean (objectsOf (l .heap))
-      clean-is = audited-clean h-is e
-
-      pub admit-bytes : (length (l .bytes) ≡ registerBytes → ⊥) → AdmittedMarks l map table marks (Refuse 12 0)
-      admit-bytes n = refused 12 0 (λ rest. go-on rest ∙ rw (right w, clean-is, ne-eqb (length (l .bytes)) registerBytes n))
-
-      pub admit-all : length (l .bytes) ≡ registerBytes → AdmittedMarks l map table marks (Pass k)
-      admit-all n =
-          record {
-            found = record {
-              is = λ rest. go-on rest ∙ rw (right w, clean-is, eq-eqb (length (l .bytes)) registerBytes n);
-              shown = λ j y.
-                  let x : k ≡ j = cc in
-                  record {
-                    passes = M .passes;
-                    placed = rw x at (M .placed);
-                    lengths = all-true (lengthTests (withMap map l)) (right w);
-                    heap-clean = clean-is;
-                    registers = n;
-                  };
-            };
-            marks-are = λ j y. h-is .marks e;
-          }
+    pub admit-all : h ≡ Clean → AdmittedMarks run l map table marks (Pass k)
+    admit-all e =
+        let clean-is = audited-clean h-is e in
+        record {
+          found = record {
+            is = λ rest. go-on rest ∙ rw (right w, clean-is);
+            shown = λ j y.
+                let x : k ≡ j = cc in
+                record {
+                  passes = M .passes;
+                  placed = rw x at (M .placed);
+                  lengths = all-true (lengthTests (withMap map l)) (right w);
+                  heap-clean = clean-is;
+                  registers = belong-length run (l .file) (l .bytes) (all-true (asked run l) (M .its));
+                };
+          };
+          marks-are = λ j y. h-is .marks e;
+        }
 
 pub test-self : (t : Bool) → t ≡ (if t then true else false)
 test-self true = refl
 test-self false = refl
 
 -- what start and run come to, once admitted or not
-module _ (l : Lent) (map table : List ℕ) (v : Verdict) (A : Admitted l map table v) (rest : Lent → After) where
-  pub tested-refused : (n p : ℕ) → v ≡ Refuse n p → answers (Refused n p) (withMap map l) ≡ tested l rest
+module _ (run : Bool) (l : Lent) (map table : List ℕ) (v : Verdict) (A : Admitted run l map table v) (rest : Lent → After) where
+  pub tested-refused : (n p : ℕ) → v ≡ Refuse n p → answers (Refused n p) (withMap map l) ≡ tested (asked run l) l rest
   tested-refused n p e = sym (A .is rest ∙ ap (λ (x : Verdict). admitted x rest (withMap map l)) e)
 
-  pub tested-on : (k : ℕ) → v ≡ Pass k → rest (withMap map l) ≡ tested l rest
+  pub tested-on : (k : ℕ) → v ≡ Pass k → rest (withMap map l) ≡ tested (asked run l) l rest
   tested-on k e = sym (A .is rest ∙ ap (λ (x : Verdict). admitted x rest (withMap map l)) e)

@@ -1,4 +1,4 @@
--- All that run tests, 1 to 12: behind what start tests too, the state is sound or refused as 12. What the code finds decides what the
+-- All that run tests, 1 to 13: behind what start tests too, with the sums, the state is sound or refused as 12. What the code finds decides what the
 -- model's `testedForRun` comes to, whatever follows.
 use Prim.Native.Nat.{ℕ, _≤_}
 use mathlib.Core.Bool.{Bool, true, false}
@@ -15,7 +15,7 @@ use Rattle.check_flow.specs.declared.Verdict.{Verdict}
 use Rattle.check_flow.specs.declared.Verdict.the-variants.{Pass, Refuse}
 use Rattle.audit_heap.specs.Table.{Marks}
 use Rattle.audit_places.specs.Places.{AuditReady, passed-ready}
-use Rattle.call_tests.specs.Admit.{AdmitShows, AdmittedMarks, tested-refused, tested-on}
+use Rattle.call_tests.specs.Admit.{belongList, AdmitShows, AdmittedMarks, tested-refused, tested-on}
 use Rattle.call_tests.specs.declared.Tested.{Tested}
 use Rattle.call_tests.specs.declared.Tested.the-variants.{Sound, Unfit}
 use Rattle.model.specs.declared.Regs.{Regs}
@@ -42,10 +42,11 @@ unfit-sound n p k r e = let y : _≡_ {A = ℕ} 0 1 = cc in absurd (omega arith)
 abbrev then : (Lent → After) → Lent → After
 then rest l = demand (soundTests l) 12 l (rest l)
 
-module _ {l : Lent} {map table : List ℕ} {marks : List Bool} {v : Verdict} (A : AdmittedMarks l map table marks v) where
+module _ {l : Lent} {map table : List ℕ} {marks : List Bool} {v : Verdict} (A : AdmittedMarks true l map table marks v) where
   pub test-refused : {n p : ℕ} → v ≡ Refuse n p → TestedAs l map table (Unfit n p)
+  unfolding belongList
   test-refused {n = n} {p = p} e =
-      record { is = λ rest. sym (tested-refused l map table v (A .found) (then rest) n p e); through = λ k r z. unfit-sound n p k r z }
+      record { is = λ rest. sym (tested-refused true l map table v (A .found) (then rest) n p e); through = λ k r z. unfit-sound n p k r z }
 
   module _ {k : ℕ} (e : v ≡ Pass k) where
     S : AdmitShows l map table k
@@ -65,16 +66,18 @@ module _ {l : Lent} {map table : List ℕ} {marks : List Bool} {v : Verdict} (A 
       sound-is = t-is (l .heap) (A .marks-are k e) ∙ rw r-is
 
       pub test-unsound : t ≡ false → TestedAs l map table (Unfit 12 0)
+      unfolding belongList
       test-unsound w =
           record {
-            is = λ rest. sym (tested-on l map table v (A .found) (then rest) k e) ∙ rw (sym sound-is ∙ w);
+            is = λ rest. sym (tested-on true l map table v (A .found) (then rest) k e) ∙ rw (sym sound-is ∙ w);
             through = λ j s z. unfit-sound 12 0 j s z;
           }
 
       pub test-sound : t ≡ true → TestedAs l map table (Sound k r)
+      unfolding belongList
       test-sound w =
           record {
-            is = λ rest. sym (tested-on l map table v (A .found) (then rest) k e) ∙ rw (sym sound-is ∙ w);
+            is = λ rest. sym (tested-on true l map table v (A .found) (then rest) k e) ∙ rw (sym sound-is ∙ w);
             through = λ j s z. go j s z;
           }
         where

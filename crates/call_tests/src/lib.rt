@@ -1,8 +1,14 @@
-// What start and run test: refusals 1 to 11 and 12 for the length of the register list; then, for run, the state.
+// What start and run test: refusals 1 to 9, 13, 10 and 11; then, for run, the state.
 ghost use mathlib.Core.Path.{_≡_};
+ghost use mathlib.Core.Bool.{Bool, true, false};
+ghost use Prim.Native.Nat.{_≤_};
+ghost use lib.ListN.{length, replicate};
 ghost use Rattle.model.specs.Choice.{all};
-ghost use lib.ListN.{replicate};
-ghost use Rattle.call_tests.specs.Admit.{lengthList, Tables, Admitted, AdmittedMarks};
+ghost use Rattle.model.specs.Control.{registerBytes, sumsFrom};
+ghost use Rattle.model.specs.File.{fileMost, procsMost};
+ghost use Rattle.model.specs.Sums.{sumsOf};
+ghost use Rattle.model.specs.Calls.{sumTests};
+ghost use Rattle.call_tests.specs.Admit.{belongList, lengthList, Tables, Admitted, AdmittedMarks};
 ghost use Rattle.call_tests.specs.Tested.{TestedAs};
 use audit_heap::HeapAudit;
 use check_flow::Verdict;
@@ -15,13 +21,39 @@ use model::PTR_MOST;
 use model::RECORD;
 use model::REGISTER_BYTES;
 use model::Regs;
-ghost use Rattle.model.specs.File.{procsMost};
 
 // A heap of so many words at most is short.
 const FEW: usize = 2048;
 
 // Marks for any heap.
 const MANY: usize = HEAP_MOST;
+
+// Both sums in the registers are the file's.
+fn sums_right(file: &[u8], bytes: &[u8]) -> bool
+    requires { ⌜ (length (now file) ≤ fileMost) × (length (now bytes) ≡ registerBytes) ⌝ }
+    ensures { λ r. ⌜ r ≡ all (sumTests (sumsFrom (now (bytes .entry))) (sumsOf (now (file .entry)))) ⌝ }
+{
+    let its = registers::sums_from(bytes);
+    let own = file_sums::sums_of(file);
+    if its.first != own.first {
+        return false;
+    }
+    its.second == own.second
+}
+
+// Refusal 13: the register list's length; for a run the sums, too.
+fn belongs(file: &[u8], bytes: &[u8], run: bool) -> bool
+    requires { ⌜ length (now file) ≤ fileMost ⌝ }
+    ensures { λ r. ⌜ r ≡ all (belongList run (now (file .entry)) (now (bytes .entry))) ⌝ }
+{
+    if bytes.len() != REGISTER_BYTES {
+        return false;
+    }
+    if run {
+        return sums_right(file, bytes);
+    }
+    true
+}
 
 // Refusal 10: the lent lengths, with the head of procedure 0.
 fn lengths_right(head: Head, main: usize, ptr: usize, ctl: usize, heap: usize) -> bool
@@ -57,8 +89,8 @@ fn lengths_right(head: Head, main: usize, ptr: usize, ctl: usize, heap: usize) -
     head.y <= ptr
 }
 
-// Refusals 1 to 11, and 12 for the length of the register list. Where there is none, the table has the heads of so many procedures, and the
-// heap's objects are marked.
+// Refusals 1 to 9, 13 as start or as run asks for it, 10 and 11. Where there is none, the table has the heads of so many procedures, and
+// the heap's objects are marked.
 fn admit_with(
     file: &[u8],
     map: &mut [u16],
@@ -69,9 +101,10 @@ fn admit_with(
     ctl: &[u32],
     heap: &[u32],
     bytes: &[u8],
+    run: bool,
 ) -> Verdict
     requires { ⌜ Tables (now table) (now marks) (now heap) ⌝ }
-    ensures { λ r. ⌜ AdmittedMarks (record {
+    ensures { λ r. ⌜ AdmittedMarks run (record {
       file = now (file .entry);
       map = now (map .entry);
       main = now (main .entry);
@@ -85,25 +118,22 @@ fn admit_with(
     let Verdict::Pass(k) = v else {
         return v;
     };
+    if !belongs(file, bytes, run) {
+        return Verdict::Refuse(13, 0);
+    }
     let head = code_file::head_at(file, 0);
     if lengths_right(head, main.len(), ptr.len(), ctl.len(), heap.len()) {
         let audit = audit_heap::audit_heap(heap, marks);
         match audit {
             HeapAudit::Fault(q) => Verdict::Refuse(11, q),
-            HeapAudit::Clean => {
-                if bytes.len() == REGISTER_BYTES {
-                    Verdict::Pass(k)
-                } else {
-                    Verdict::Refuse(12, 0)
-                }
-            }
+            HeapAudit::Clean => Verdict::Pass(k),
         }
     } else {
         Verdict::Refuse(10, 0)
     }
 }
 
-// The same with marks of its own. A short heap is given a short table: to clear the long one takes longer than to test a short heap.
+// The same for start, with marks of its own. A short heap is given a short table: to clear the long one takes longer than to test a short heap.
 pub fn admit(
     file: &[u8],
     map: &mut [u16],
@@ -115,7 +145,7 @@ pub fn admit(
     bytes: &[u8],
 ) -> Verdict
     requires { ⌜ now table ≡ replicate procsMost 0 ⌝ }
-    ensures { λ r. ⌜ Admitted (record {
+    ensures { λ r. ⌜ Admitted false (record {
       file = now (file .entry);
       map = now (map .entry);
       main = now (main .entry);
@@ -127,10 +157,32 @@ pub fn admit(
 {
     if heap.len() <= FEW {
         let mut few = [false; FEW];
-        return admit_with(file, map, table, &mut few, main, ptr, ctl, heap, bytes);
+        return admit_with(
+            file,
+            map,
+            table,
+            &mut few,
+            main,
+            ptr,
+            ctl,
+            heap,
+            bytes,
+            false,
+        );
     }
     let mut marks = [false; MANY];
-    admit_with(file, map, table, &mut marks, main, ptr, ctl, heap, bytes)
+    admit_with(
+        file,
+        map,
+        table,
+        &mut marks,
+        main,
+        ptr,
+        ctl,
+        heap,
+        bytes,
+        false,
+    )
 }
 
 // What the tests of a run find: a sound state of a file with so many procedures, and its registers; or a refusal, its number and its place.
@@ -139,7 +191,7 @@ pub enum Tested {
     Unfit(u32, usize),
 }
 
-// All that run tests, 1 to 12.
+// All that run tests.
 fn test_with(
     file: &[u8],
     map: &mut [u16],
@@ -162,7 +214,7 @@ fn test_with(
       bytes = now (bytes .entry);
     }) (now (map .exit)) (now (table .exit)) r ⌝ }
 {
-    let v = admit_with(file, map, table, marks, main, ptr, ctl, heap, bytes);
+    let v = admit_with(file, map, table, marks, main, ptr, ctl, heap, bytes, true);
     match v {
         Verdict::Refuse(n, p) => Tested::Unfit(n, p),
         Verdict::Pass(k) => {

@@ -3,7 +3,7 @@ use Prim.Native.Nat.{ℕ}
 use mathlib.Core.List.{List}
 use mathlib.Core.Path.{_≡_, sym, _∙_}
 use Rattle.model.specs.Heap.{objectsOf}
-use Rattle.model.specs.Control.{Machine, setRegs, regBytes}
+use Rattle.model.specs.Control.{Machine, setRegs, sumsFrom, regBytes}
 use Rattle.model.specs.Step.{ran, runOn}
 use Rattle.model.specs.Claim.{Bytes}
 use Rattle.model.specs.Calls.{Lent, withMap, leaving, answers, machineOf, ranFrom, runOf}
@@ -38,7 +38,7 @@ module _ (l : Lent) (map table : List ℕ) (t : Tested) (T : TestedAs l map tabl
 
     -- m is the state that the run leaves
     pub run-ran : (answer : Answer) (m : Machine) (bytes : List ℕ) → ran answer m ≡ runOn (l .file) budget 0 (setRegs r (machineOf l)) →
-        bytes ≡ regBytes (m .regs) →
+        bytes ≡ regBytes (sumsFrom (l .bytes)) (m .regs) →
         answers answer
         (record { file = l .file; map = map; main = m .main; ptr = m .ptr; ctl = m .ctl; heap = m .heap; bytes = bytes }) ≡ runOf budget l
     unfolding runOf
@@ -47,5 +47,5 @@ module _ (l : Lent) (map table : List ℕ) (t : Tested) (T : TestedAs l map tabl
         rw eb (at g′ ∙ for-run-on l map table t T (ranFrom budget) k r e)
       where
         at : runOn (l .file) budget 0 (machineOf (withMap map l)) ≡ ran answer m →
-            answers answer (leaving (withMap map l) m) ≡ ranFrom budget (withMap map l)
+            answers answer (leaving (sumsFrom (l .bytes)) (withMap map l) m) ≡ ranFrom budget (withMap map l)
         at q = rw q

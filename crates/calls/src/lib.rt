@@ -34,7 +34,7 @@ fn first() -> Regs
     }
 }
 
-// Tests 1 to 12, then the state at the first instruction of procedure 0.
+// Start's tests, then the state at the first instruction of procedure 0, with the file's sums.
 pub fn start(
     file: &[u8],
     map: &mut [u16],
@@ -74,12 +74,14 @@ pub fn start(
             clear(ptr);
             clear(ctl);
             registers::put_regs(bytes, first());
+            let sums = file_sums::sums_of(file);
+            registers::put_sums(bytes, sums);
             Answer::Ready
         }
     }
 }
 
-// Tests 1 to 12, then the run.
+// Run's tests, then the run. The sums stay in the registers' bytes: no step has to do with them.
 pub fn run(
     file: &[u8],
     map: &mut [u16],

@@ -15,4 +15,4 @@ totals s (b ∷ l) = (s + b) ∷ totals (s + b) l
 
 -- Manual 2.16: the sum of the file's bytes, and the sum of that sum after each byte
 unfoldable pub sumsOf : List ℕ → Sums
-sumsOf f = record { bytes = total f; sums = total (totals 0 f) }
+sumsOf f = record { first = total f; second = total (totals 0 f) }

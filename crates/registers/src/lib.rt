@@ -1,11 +1,13 @@
-// Registers as bytes: seven words, most significant byte first (Manual 2.14).
+// Registers as bytes: nine words, most significant byte first (Manual 2.14). Those that the steps work on and the sums are read and put
+// apart: no step has to do with the sums.
 ghost use mathlib.Core.Path.{_≡_};
 ghost use Prim.Native.Nat.{_+_, _*_, _/_, _<_};
 ghost use lib.ListN.{length};
-ghost use Rattle.model.specs.Control.{registers, registerBytes, wordFrom, regsFrom, regBytes};
+ghost use Rattle.model.specs.Control.{registers, registerBytes, wordFrom, regsFrom, sumsFrom, regBytes};
 ghost use Rattle.numbers.specs.Small.{Small};
 ghost use Rattle.registers.specs.Registers.{RegsWords, Stored};
 use model::Regs;
+use model::Sums;
 
 // Register `i`.
 fn word_from(bytes: &[u8], i: usize) -> usize
@@ -33,6 +35,16 @@ pub fn regs_from(bytes: &[u8]) -> Regs
     }
 }
 
+pub fn sums_from(bytes: &[u8]) -> Sums
+    requires { ⌜ length (now bytes) ≡ registerBytes ⌝ }
+    ensures { λ r. ⌜ r ≡ sumsFrom (now (bytes .entry)) ⌝ }
+{
+    Sums {
+        first: word_from(bytes, 7),
+        second: word_from(bytes, 8),
+    }
+}
+
 // Puts register `i`, most significant byte first.
 fn put_word(bytes: &mut [u8], i: usize, w: usize)
     requires { ⌜ (length (now bytes) ≡ registerBytes) × (i < registers) ⌝ }
@@ -45,9 +57,10 @@ fn put_word(bytes: &mut [u8], i: usize, w: usize)
     bytes[at + 3] = (w % 256) as u8;
 }
 
+// The sums stay.
 pub fn put_regs(bytes: &mut [u8], regs: Regs)
     requires { ⌜ length (now bytes) ≡ registerBytes ⌝ }
-    ensures { λ _. ⌜ now (bytes .exit) ≡ regBytes regs ⌝ }
+    ensures { λ _. ⌜ now (bytes .exit) ≡ regBytes (sumsFrom (now (bytes .entry))) regs ⌝ }
 {
     put_word(bytes, 0, regs.place);
     put_word(bytes, 1, regs.frame);
@@ -56,4 +69,13 @@ pub fn put_regs(bytes: &mut [u8], regs: Regs)
     put_word(bytes, 4, regs.ptop);
     put_word(bytes, 5, regs.ctop);
     put_word(bytes, 6, regs.state);
+}
+
+// All else stays.
+pub fn put_sums(bytes: &mut [u8], sums: Sums)
+    requires { ⌜ length (now bytes) ≡ registerBytes ⌝ }
+    ensures { λ _. ⌜ now (bytes .exit) ≡ regBytes sums (regsFrom (now (bytes .entry))) ⌝ }
+{
+    put_word(bytes, 7, sums.first);
+    put_word(bytes, 8, sums.second);
 }

@@ -1,24 +1,26 @@
 -- Demand 3 on calls, over what is proved of heaps elsewhere: after a start that answered ready, every list of check, start and run calls
 -- keeps `HeldLists`, from which each call's claim follows. By one induction on the calls.
 use Prim.Native.Nat.{ℕ}
-use mathlib.Core.Path.{_≡_, refl, sym, _∙_, subst}
-use mathlib.Core.Bool.{Bool, true, false, true≢false}
+use mathlib.Core.Path.{_≡_, refl, ap, sym, _∙_, subst}
+use mathlib.Core.Bool.{true, true≢false}
 use mathlib.Core.List.{List, [], _∷_}
 use mathlib.Core.Logic.{inl, inr}
 use native.Mathlib.Omega.{arith}
 use lib.ListN.{length}
-use borrow.Author.Tests.{eq-eqb}
-use Rattle.model.specs.Choice.{if_then_else_, all, All, all-true, true-all}
+use Rattle.model.specs.Choice.{Test, All, true-all}
 use Rattle.model.specs.Words.{wordAt, cut}
-use Rattle.model.specs.Heap.{Heap, Pointer, Audit, fault, clean, heapOf, objectsOf}
-use Rattle.model.specs.Control.{Machine, setRegs, registerBytes}
+use Rattle.model.specs.Heap.{Heap, Pointer, objectsOf}
+use Rattle.model.specs.Sums.{sumsOf}
+use Rattle.model.specs.Control.{Machine, setRegs, registerBytes, sumsFrom}
 use Rattle.model.specs.Step.{next, uncaught, step}
 use Rattle.model.specs.Sound.{sound?}
-use Rattle.model.specs.Calls.{toldOf, Verdict, pass, refuse, verdictOf, checkOf, Lent, machineOf, leaving, withMap, lengthTests, registerTests}
-use Rattle.model.specs.Calls.{soundTests, After, answers, demand, audited, afterMap, afterCheck, tested, started, startOf, ranFrom, runOf}
+use Rattle.model.specs.Calls.{toldOf, pass, verdictOf, checkOf, Lent, machineOf, leaving, withMap, lengthTests, registerTests, belongTests}
+use Rattle.model.specs.Calls.{soundTests, After, answers, demand, tested, started, startOf, ranFrom, runOf}
 use Rattle.model.specs.Claim.{Call, check, start, run, callOf, NotRefused, Depths, Pointers, Before, Claim, Bytes, CallsHold}
+use Rattle.model.specs.declared.Sums.{Sums}
 use Rattle.model.specs.declared.Answer.the-variants as answer
-use Rattle.theory_checker.specs.Exact.{passed-again}
+use Rattle.file_sums.specs.Fits.{sums-fit}
+use Rattle.theory_checker.specs.Exact.{passed-as, passed-again}
 use Rattle.theory_checker.specs.Leaves.{uncaught-stays}
 use Rattle.heap.specs.Pointers.{true-pointer}
 use Rattle.laws.specs.Cuts.{length-cut}
@@ -28,7 +30,8 @@ use Rattle.theory_state.specs.Sound.{Sound, TestedPointer, sound-with, t
 use Rattle.theory_state.specs.Keep.{start-sound}
 use Rattle.theory_state.specs.Rules.{HeapLaws, KeptSound, kept-here, kept-on, step-keeps}
 use Rattle.theory_state.specs.Runs.{after-keeps, run-keeps}
-use Rattle.theory_state.specs.Registers.{registers-length, registers-back, sound-small}
+use Rattle.theory_state.specs.Registers.{registers-length, sums-back, registers-back, sound-small}
+use Rattle.theory_state.specs.Testing.{test-cases, start-asks, run-asks}
 
 -- a state between the steps of a run on the lists l
 abbrev pub Between : Lent → Machine → Type 0
@@ -48,6 +51,7 @@ pub record HeldLists (l : Lent) : Type 0 where
   pub passes : verdictOf (l .file) (l .map) ≡ pass (l .map)
   pub sizes : All (lengthTests l)
   pub registers : length (l .bytes) ≡ registerBytes
+  pub sums : sumsFrom (l .bytes) ≡ sumsOf (l .file)
   pub state : Between l (machineOf l)
 
 pointers-of : (l : Lent) (m : Machine) → Between l m → Pointers m
@@ -85,30 +89,34 @@ module _ (H : HeapLaws) where
     pub between-stays : (m m′ : Machine) (code : ℕ) → Between l m → step (l .file) m ≡ uncaught code m′ → Between l m′
     between-stays m m′ code S e = subst (Between l) (sym (uncaught-stays (l .file) m m′ code e)) S
 
-    -- what a state leaves is held: its registers come back from their bytes
-    left-held : (m : Machine) → Between l m → HeldLists (leaving l m)
+    -- what a state leaves with the file's sums is held: registers and sums come back from their bytes
+    left-held : (s : Sums) → s ≡ sumsOf (l .file) → (m : Machine) → Between l m → HeldLists (leaving s l m)
     unfolding lengthTests
-    left-held m S =
+    left-held s z m S =
         let e1 = S .same-main in
         let e2 = S .same-ptr in
         let e3 = S .same-ctl in
         let small =
         sound-small (l .file) (l .map) (Pointer (S .objects)) m L (omega arith) (omega arith) (omega arith) (omega arith) (omega arith)
         (S .sound) in
-        let r = registers-back (m .regs) small in
-        let w : m ≡ machineOf (leaving l m) = λ i. setRegs (sym r i) m in
+        let r = registers-back s (m .regs) small in
+        let w : m ≡ machineOf (leaving s l m) = λ i. setRegs (sym r i) m in
+        let fit = sums-fit (l .file) B (passed-as (l .file) (l .map) (l .map) P .formed .few) in
+        let first = ap (λ (x : Sums). x .first) z in
+        let second = ap (λ (x : Sums). x .second) z in
         record {
           bytes = B;
           passes = P;
           sizes = rw (S .same-main, S .same-ptr, S .same-ctl, S .same-heap) T;
-          registers = registers-length (m .regs);
+          registers = registers-length s (m .regs);
+          sums = sums-back s (m .regs) (omega arith) (omega arith) ∙ z;
           state = subst (λ (x : Machine). KeptSound (l .file) (l .map) x x) w (kept-here m (S .objects) (S .heap) (S .sound));
         }
 
-    start-held : (os : List ℕ) → Heap (l .heap) os → HeldLists (leaving l (started l))
+    start-held : (os : List ℕ) → Heap (l .heap) os → HeldLists (leaving (sumsOf (l .file)) l (started l))
     unfolding lengthTests started
     start-held os K =
-        left-held (started l)
+        left-held (sumsOf (l .file)) refl (started l)
         (record {
           objects = os;
           heap = K;
@@ -125,14 +133,14 @@ module _ (H : HeapLaws) where
           same-heap = refl;
         })
 
-  -- the tests of start and run pass
-  tests-pass : (l : Lent) → HeldLists l → (rest : Lent → After) → tested l rest ≡ rest l
-  tests-pass l I rest =
+  -- the tests of start and run pass, ts being those for 13
+  tests-pass : (ts : List Test) (l : Lent) → HeldLists l → All ts → (rest : Lent → After) → tested ts l rest ≡ rest l
+  tests-pass ts l I T rest =
       rw (
         I .passes,
+        true-all ts T,
         true-all (lengthTests l) (I .sizes),
         H .clean-audit (l .heap) (I .state .objects) (I .state .heap),
-        eq-eqb (length (l .bytes)) registerBytes (I .registers),
       )
 
   audited-sound : (l : Lent) → HeldLists l → sound? (l .file) (l .map) (machineOf l) ≡ true
@@ -146,19 +154,23 @@ module _ (H : HeapLaws) where
   -- a run's tests pass, and the run follows, by the map that they left
   run-is : (n : ℕ) (l : Lent) → HeldLists l → runOf n l ≡ ranFrom n l
   unfolding runOf
-  run-is n l I = tests-pass l I (λ l′. demand (soundTests l′) 12 l′ (ranFrom n l′)) ∙ rw (audited-sound l I)
+  run-is n l I = tests-pass (belongTests l) l I (run-asks l (I .registers, I .sums)) (λ l′. demand (soundTests l′) 12 l′ (ranFrom n l′)) ∙ rw (audited-sound l I)
+
+  -- what follows a start's tests
+  abbrev ready : Lent → After
+  ready l = answers answer.Ready (leaving (sumsOf (l .file)) l (started l))
 
   call-held : (c : Call) (l : Lent) → HeldLists l → NotRefused (callOf c l .answer) × HeldLists (callOf c l .lists)
   unfolding callOf checkOf startOf
   call-held check l I = rw (I .passes) (passed-told, I)
   call-held start l I =
-      rw (tests-pass l I (λ l′. answers answer.Ready (leaving l′ (started l′))))
+      rw (tests-pass (registerTests l) l I (start-asks l (I .registers)) ready)
       (ready-told, start-held l (I .bytes) (I .passes) (I .sizes) (I .state .objects) (I .state .heap))
   call-held (run n) l I =
       let B = between-step l (I .bytes) (I .passes) (I .sizes) in
       let S = between-stays l (I .bytes) (I .passes) (I .sizes) in
       let R = run-keeps (l .file) (Between l) B S n 0 (machineOf l) (I .state) in
-      rw (run-is n l I) (R .1, left-held l (I .bytes) (I .passes) (I .sizes) _ (R .0))
+      rw (run-is n l I) (R .1, left-held l (I .bytes) (I .passes) (I .sizes) (sumsFrom (l .bytes)) (I .sums) _ (R .0))
 
   before : (c : Call) (l : Lent) → HeldLists l → Before c l
   before check l I = tt
@@ -184,41 +196,17 @@ module _ (H : HeapLaws) where
       )
 
   -- a start that answers ready passed each test
-  module _ (l : Lent) (B : Bytes (l .file)) where
-    abbrev ready : Lent → After
-    ready l′ = answers answer.Ready (leaving l′ (started l′))
-
-    abbrev Readied : After → Type 0
-    Readied a = a .answer ≡ answer.Ready → HeldLists (a .lists)
-
-    by-registers : HeldLists (leaving l (started l)) → Readied (demand (registerTests l) 12 l (ready l))
-    by-registers h = go (all (registerTests l))
-      where
-        go : (t : Bool) → Readied (if t then ready l else answers (answer.Refused 12 0) l)
-        go true e = h
-        go false e = absurd (true≢false (cc))
-
-    by-heap : verdictOf (l .file) (l .map) ≡ pass (l .map) → All (lengthTests l) → (a : Audit) → heapOf (l .heap) ≡ a →
-        Readied (audited a l (demand (registerTests l) 12 l (ready l)))
-    by-heap P T (fault q) d e = absurd (true≢false (cc))
-    by-heap P T (clean os) d e = by-registers (start-held l B P T os (H .audit-clean (l .heap) os d)) e
-
-    by-lengths : verdictOf (l .file) (l .map) ≡ pass (l .map) → Readied (afterMap l (ready l))
-    by-lengths P = go (all (lengthTests l)) refl
-      where
-        go : (t : Bool) → all (lengthTests l) ≡ t →
-            Readied (if t then audited (heapOf (l .heap)) l (demand (registerTests l) 12 l (ready l)) else answers (answer.Refused 10 0) l)
-        go true u e = by-heap P (all-true (lengthTests l) u) (heapOf (l .heap)) refl e
-        go false u e = absurd (true≢false (cc))
-
   ready-held : (l : Lent) → Bytes (l .file) → startOf l .answer ≡ answer.Ready → HeldLists (startOf l .lists)
   unfolding startOf
-  ready-held l B = go (verdictOf (l .file) (l .map)) refl
-    where
-      go : (v : Verdict) → verdictOf (l .file) (l .map) ≡ v →
-          afterCheck l (ready l B) v .answer ≡ answer.Ready → HeldLists (afterCheck l (ready l B) v .lists)
-      go (pass map) u e = by-lengths (withMap map l) B (passed-again (l .file) (l .map) map u) e
-      go (refuse n p map) u e = absurd (true≢false (cc))
+  ready-held l B =
+      test-cases {P = λ a. a .answer ≡ answer.Ready → HeldLists (a .lists)}
+      (record {
+        by-check = λ n p map v e. absurd (true≢false (cc));
+        by-registers = λ map v n e. absurd (true≢false (cc));
+        by-lengths = λ map v T e. absurd (true≢false (cc));
+        by-heap = λ map q v T L h e. absurd (true≢false (cc));
+        by-none = λ map os v T L h e. start-held (withMap map l) B (passed-again (l .file) (l .map) map v) L os (H .audit-clean (l .heap) os h);
+      })
 
   pub calls : CallsHold
   calls l B e =

@@ -5,6 +5,8 @@ pub mod Keep
 pub mod Rules
 pub mod Runs
 pub mod Registers
+pub mod Testing
 pub mod Claims
 pub mod FaultPlace
+pub mod OtherFile
 pub mod Demand

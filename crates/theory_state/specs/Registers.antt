@@ -1,4 +1,5 @@
--- Registers travel as bytes and come back the same: a word below 2^32 is the sum of its four bytes. A sound state's registers are small.
+-- Registers and sums travel as bytes and come back the same: a word below 2^32 is the sum of its four bytes. A sound state's registers are
+-- small.
 use Prim.Native.Nat.{ℕ, _+_, _*_, _/_, _%_, _<_, _≤_}
 use mathlib.Core.Path.{_≡_, refl}
 use mathlib.Core.List.{List}
@@ -7,8 +8,9 @@ use native.Mathlib.Nat.{div-div-eq-div-mul, div-add-mod'}
 use lib.ListN.{length}
 use mathlib.Core.Logic.{inl, inr}
 use Rattle.model.specs.File.{greatestMain, greatestPtr}
-use Rattle.model.specs.Control.{Machine, registerBytes, wordFrom, regsFrom, regBytes}
+use Rattle.model.specs.Control.{Machine, registerBytes, wordFrom, regsFrom, sumsFrom, regBytes}
 use Rattle.model.specs.declared.Regs.{Regs}
+use Rattle.model.specs.declared.Sums.{Sums}
 use Rattle.registers.specs.Registers.{RegsWords}
 use Rattle.theory_state.specs.Stack.{stack-numbers}
 use Rattle.theory_state.specs.Laws.{CodeLaws, small, results-most}
@@ -33,13 +35,20 @@ four-bytes w h =
     (rw a at (div-add-mod' (w / 256) 256))
     (rw b at (div-add-mod' (w / 65536) 256)))
 
-pub registers-length : (r : Regs) → length (regBytes r) ≡ registerBytes
+pub registers-length : (s : Sums) (r : Regs) → length (regBytes s r) ≡ registerBytes
 unfolding regBytes
-registers-length r = refl
+registers-length s r = refl
 
-pub registers-back : (r : Regs) → RegsWords r → regsFrom (regBytes r) ≡ r
+pub sums-back : (s : Sums) (r : Regs) → s .first < words → s .second < words → sumsFrom (regBytes s r) ≡ s
+unfolding sumsFrom regBytes wordFrom
+sums-back s r h g =
+    let e = four-bytes (s .first) h in
+    let f = four-bytes (s .second) g in
+    λ i. record { first = e i; second = f i }
+
+pub registers-back : (t : Sums) (r : Regs) → RegsWords r → regsFrom (regBytes t r) ≡ r
 unfolding regsFrom regBytes wordFrom
-registers-back r s =
+registers-back t r s =
     let e0 = four-bytes (r .place) (s .place) in
     let e1 = four-bytes (r .frame) (s .frame) in
     let e2 = four-bytes (r .handler) (s .handler) in

@@ -1,7 +1,8 @@
 -- `call_tests::admit_with` meets its contract: each refusal is the model's, and where there is none the tests' facts hold.
 use native.Mathlib.Omega.{arith}
+use borrow.Author.Tests.{not-true, not-false}
 use Rattle.model.specs.Calls.{Lent}
-use Rattle.call_tests.specs.Admit.{first-whole, Measured, measured, heap-measured, admit-refused, admit-passes, admit-lengths, admit-heap, admit-bytes, admit-all}
+use Rattle.call_tests.specs.Admit.{first-whole, Measured, measured, heap-measured, admit-refused, admit-passes, admit-foreign, admit-lengths, admit-heap, admit-all}
 use borrow.Author.Needs.{needs}
 use Rattle.call_tests.proofs.admit_with.Statement.{statement}
 use Rattle.call_tests.proofs.admit_with.Tie as tie
@@ -21,8 +22,21 @@ same-length c = search needs
 returns : tie.Need-returns
 returns c = admit-refused (c .before .before .before .before .check-with .ensures) (λ k e. omega (arith, rw e at (c .before .match .keys2)))
 
+belongs-requires : tie.Need-belongs-requires
+belongs-requires c κs = first-whole _ _ _ (admit-passes (c .before .before .before .before .before .check-with .ensures) (c .before .v .given .1)) .2
+
+same-length-2 : tie.Need-same-length-2
+same-length-2 c = search needs
+
+returns-2 : tie.Need-returns-2
+returns-2 c =
+    let at-v = c .before .before .before in
+    admit-foreign (at-v .before .before .before .before .check-with .ensures) (at-v .v .given .1) (c .before .belongs .ensures) (not-true _ (c .if1 .taken))
+
 head-at-requires : tie.Need-head-at-requires
-head-at-requires c κs = first-whole _ _ _ (admit-passes (c .before .before .before .before .before .check-with .ensures) (c .before .v .given .1)) .1
+head-at-requires c κs =
+    let at-v = c .before .before .before in
+    first-whole _ _ _ (admit-passes (at-v .before .before .before .before .check-with .ensures) (at-v .v .given .1)) .1
 
 lengths-right-requires : tie.Need-lengths-right-requires
 lengths-right-requires c κs = search needs
@@ -34,20 +48,23 @@ lent S =
 
 -- what is known behind the test of the lengths
 measured-at : (c : tie.After-lengths-right) →
-    let at-v = c .before .before .before in
+    let at-v = c .before .before .before .before .before in
     let at-check = at-v .before .before .before .before in
     let entry = at-check .before .before .before .before .before .before .before .before .before .before .before in
     let C = at-check .check-with in
-    Measured (lent entry) (C .last .1 .0) (C .last .1 .1 .0) (at-v .v .given .0 .0) (c .lengths-right .result)
+    Measured (entry .args .run) (lent entry) (C .last .1 .0) (C .last .1 .1 .0) (at-v .v .given .0 .0) (c .lengths-right .result)
 measured-at c =
-    let at-v = c .before .before .before in
-    measured (at-v .before .before .before .before .check-with .ensures) (at-v .v .given .1) (c .before .head-at .ensures) (c .lengths-right .ensures)
+    let at-if1 = c .before .before in
+    let at-v = at-if1 .before .before .before in
+    measured (at-v .before .before .before .before .check-with .ensures) (at-v .v .given .1) (at-if1 .before .belongs .ensures) (not-false _ (at-if1 .if1 .left))
+    (c .before .head-at .ensures) (c .lengths-right .ensures)
 
 audit-heap-requires : tie.Need-audit-heap-requires
 audit-heap-requires c κs =
     let at-right = c .before .before in
-    let T = at-right .before .before .before .before .before .before .before .before .before .before .before .before .before .before .before .before .before .before .pre in
-    let h = heap-measured (measured-at at-right) (c .before .if1 .taken) in
+    let entry = at-right .before .before .before .before .before .before .before .before .before .before .before .before .before .before .before .before .before .before .before .before in
+    let T = entry .pre in
+    let h = heap-measured (measured-at at-right) (c .before .if2 .taken) in
     (h .0, h .1, T .room (h .1), T .fresh)
 
 enum-known-audit : tie.Need-enum-known-audit
@@ -56,47 +73,35 @@ enum-known-audit c = search needs
 enum-told-2 : tie.Need-enum-told-2
 enum-told-2 c = search needs
 
-same-length-2 : tie.Need-same-length-2
-same-length-2 c = search needs
-
 same-length-3 : tie.Need-same-length-3
 same-length-3 c = search needs
-
-returns-2 : tie.Need-returns-2
-returns-2 c =
-    let at-audit = c .before .before .before .before .before in
-    let at-if1 = at-audit .before .before in
-    admit-heap (measured-at (at-if1 .before)) (at-if1 .if1 .taken) (at-audit .audit-heap .ensures) (c .before .audit .given .1)
 
 same-length-4 : tie.Need-same-length-4
 same-length-4 c = search needs
 
-same-length-5 : tie.Need-same-length-5
-same-length-5 c = search needs
-
 returns-3 : tie.Need-returns-3
 returns-3 c =
     let at-audit = c .before .before .before .before .before in
-    let at-if1 = at-audit .before .before in
-    admit-all (measured-at (at-if1 .before)) (at-if1 .if1 .taken) (at-audit .audit-heap .ensures) (c .before .enum-told2 .given .1) (c .if2 .taken)
+    let at-if2 = at-audit .before .before in
+    admit-heap (measured-at (at-if2 .before)) (at-if2 .if2 .taken) (at-audit .audit-heap .ensures) (c .before .audit .given .1)
+
+same-length-5 : tie.Need-same-length-5
+same-length-5 c = search needs
 
 same-length-6 : tie.Need-same-length-6
 same-length-6 c = search needs
 
+returns-4 : tie.Need-returns-4
+returns-4 c =
+    let at-audit = c .before .before .before .before in
+    let at-if2 = at-audit .before .before in
+    admit-all (measured-at (at-if2 .before)) (at-if2 .if2 .taken) (at-audit .audit-heap .ensures) (c .enum-told2 .given .1)
+
 same-length-7 : tie.Need-same-length-7
 same-length-7 c = search needs
 
-returns-4 : tie.Need-returns-4
-returns-4 c =
-    let at-audit = c .before .before .before .before .before in
-    let at-if1 = at-audit .before .before in
-    admit-bytes (measured-at (at-if1 .before)) (at-if1 .if1 .taken) (at-audit .audit-heap .ensures) (c .before .enum-told2 .given .1) (c .if2 .left)
-
-same-length-8 : tie.Need-same-length-8
-same-length-8 c = search needs
-
 returns-5 : tie.Need-returns-5
-returns-5 c = admit-lengths (measured-at (c .before)) (c .if1 .left)
+returns-5 c = admit-lengths (measured-at (c .before)) (c .if2 .left)
 
 pub admit-with-spec : {M : Type 1} → statement M
 admit-with-spec =
@@ -107,19 +112,19 @@ admit-with-spec =
     enum-told
     same-length
     returns
+    belongs-requires
+    same-length-2
+    returns-2
     head-at-requires
     lengths-right-requires
     audit-heap-requires
     enum-known-audit
     enum-told-2
-    same-length-2
     same-length-3
-    returns-2
     same-length-4
-    same-length-5
     returns-3
+    same-length-5
     same-length-6
-    same-length-7
     returns-4
-    same-length-8
+    same-length-7
     returns-5)

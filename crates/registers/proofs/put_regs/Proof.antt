@@ -1,6 +1,7 @@
--- Seven words stored one behind the other are all of the 28 bytes.
+-- Seven words stored one behind the other, and the two behind them, which stay, are all of the bytes.
 use borrow.Author.Needs.{needs}
-use Rattle.registers.specs.Registers.{registers-stored}
+use native.Mathlib.Omega.{arith}
+use Rattle.registers.specs.Registers.{regs-put}
 use Rattle.registers.proofs.put_regs.Statement.{statement}
 use Rattle.registers.proofs.put_regs.Tie as tie
 
@@ -37,7 +38,8 @@ returns c =
     let c₃ = c₄ .before .before .before .before in
     let c₂ = c₃ .before .before .before .before in
     let c₁ = c₂ .before .before .before .before in
-    registers-stored _ _ _ _ _ _ _ _ _ (c₁ .before .before .before .pre) (c₁ .put-word .ensures) (c₂ .put-word2 .ensures)
+    let known = c₁ .before .before in
+    regs-put _ (λ i. omega (arith, known .slice-known .given i)) (known .before .pre) _ _ _ _ _ _ _ _ (c₁ .put-word .ensures) (c₂ .put-word2 .ensures)
     (c₃ .put-word3 .ensures) (c₄ .put-word4 .ensures) (c₅ .put-word5 .ensures) (c₆ .put-word6 .ensures) (c₇ .put-word7 .ensures)
 
 pub put-regs-spec : {M : Type 1} → statement M
