@@ -15,7 +15,7 @@ use Rattle.model.specs.Control.{Machine, setRegs, registerBytes, sumsFrom}
 use Rattle.model.specs.Step.{next, uncaught, step}
 use Rattle.model.specs.Sound.{sound?}
 use Rattle.model.specs.Calls.{toldOf, pass, verdictOf, checkOf, Lent, machineOf, leaving, withMap, lengthTests, registerTests, belongTests}
-use Rattle.model.specs.Calls.{soundTests, After, answers, demand, tested, started, startOf, ranFrom, runOf}
+use Rattle.model.specs.Calls.{soundTests, After, demand, tested, started, startOf, ranFrom, runOf}
 use Rattle.model.specs.Claim.{Call, check, start, run, callOf, NotRefused, Depths, Pointers, Before, Claim, Bytes, CallsHold}
 use Rattle.model.specs.declared.Sums.{Sums}
 use Rattle.model.specs.declared.Answer.the-variants as answer
@@ -31,7 +31,7 @@ use Rattle.theory_state.specs.Keep.{start-sound}
 use Rattle.theory_state.specs.Rules.{HeapLaws, KeptSound, kept-here, kept-on, step-keeps}
 use Rattle.theory_state.specs.Runs.{after-keeps, run-keeps}
 use Rattle.theory_state.specs.Registers.{registers-length, sums-back, registers-back, sound-small}
-use Rattle.theory_state.specs.Testing.{test-cases, start-asks, run-asks}
+use Rattle.theory_state.specs.Testing.{test-cases, start-asks, run-asks, readied}
 
 -- a state between the steps of a run on the lists l
 abbrev pub Between : Lent → Machine → Type 0
@@ -156,15 +156,11 @@ module _ (H : HeapLaws) where
   unfolding runOf
   run-is n l I = tests-pass (belongTests l) l I (run-asks l (I .registers, I .sums)) (λ l′. demand (soundTests l′) 12 l′ (ranFrom n l′)) ∙ rw (audited-sound l I)
 
-  -- what follows a start's tests
-  abbrev ready : Lent → After
-  ready l = answers answer.Ready (leaving (sumsOf (l .file)) l (started l))
-
   call-held : (c : Call) (l : Lent) → HeldLists l → NotRefused (callOf c l .answer) × HeldLists (callOf c l .lists)
   unfolding callOf checkOf startOf
   call-held check l I = rw (I .passes) (passed-told, I)
   call-held start l I =
-      rw (tests-pass (registerTests l) l I (start-asks l (I .registers)) ready)
+      rw (tests-pass (registerTests l) l I (start-asks l (I .registers)) readied)
       (ready-told, start-held l (I .bytes) (I .passes) (I .sizes) (I .state .objects) (I .state .heap))
   call-held (run n) l I =
       let B = between-step l (I .bytes) (I .passes) (I .sizes) in

@@ -45,7 +45,7 @@ unfolding startOf runOf
 refused-eleven l q =
     let S = registerTests l in
     let R = belongTests l in (
-      (tested-eleven S (asks-start l) (start-asks l) l q _ (ready-never 11 _), eleven-tested S (asks-start l) (start-asks l) l q _),
+      (tested-eleven S (asks-start l) (start-asks l) l q _ (ready-never 11), eleven-tested S (asks-start l) (start-asks l) l q _),
       λ n. (tested-eleven R (asks-run l) (run-asks l) l q _ (run-never 11 n (λ e. omega arith)), eleven-tested R (asks-run l) (run-asks l) l q _),
     )
 

@@ -54,7 +54,7 @@ unfolding startOf runOf
 refused-thirteen l =
     let S = registerTests l in
     let R = belongTests l in (
-      λ p. (tested-thirteen S (asks-start l) (start-asks l) l _ p (ready-never 13 _), thirteen-tested S (asks-start l) (start-asks l) l _ p),
+      λ p. (tested-thirteen S (asks-start l) (start-asks l) l _ p (ready-never 13), thirteen-tested S (asks-start l) (start-asks l) l _ p),
       λ n p. (
         tested-thirteen R (asks-run l) (run-asks l) l _ p (run-never 13 n (λ e. omega arith)),
         thirteen-tested R (asks-run l) (run-asks l) l _ p,

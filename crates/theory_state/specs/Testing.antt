@@ -7,9 +7,10 @@ use mathlib.Core.Path.{_≡_, refl, ap, sym, _∙_, subst}
 use native.Mathlib.Omega.{arith}
 use Rattle.model.specs.Choice.{if_then_else_, Test, all, All, all-true, true-all}
 use Rattle.model.specs.Heap.{Audit, fault, clean, heapOf}
+use Rattle.model.specs.Sums.{sumsOf}
 use Rattle.model.specs.Step.{runOn}
 use Rattle.model.specs.Calls.{Verdict, pass, refuse, verdictOf, Lent, machineOf, withMap, lengthTests, registerTests, belongTests, soundTests}
-use Rattle.model.specs.Calls.{After, answers, demand, audited, afterCheck, tested, ranFrom}
+use Rattle.model.specs.Calls.{After, answers, demand, audited, afterCheck, tested, leaving, started, ranFrom}
 use Rattle.model.specs.Claim.{Stopped, StartIts, RunIts}
 use Rattle.model.specs.declared.Sums.{Sums}
 use Rattle.model.specs.declared.Answer.the-variants.{Ready, Refused}
@@ -65,7 +66,7 @@ pub asks-start : (l : Lent) → All (registerTests l) → StartIts l
 asks-start l T = T .0
 
 pub run-asks : (l : Lent) → RunIts l → All (belongTests l)
-run-asks l I = (I .0, ap (λ (s : Sums). s .first) (I .1), ap (λ (s : Sums). s .second) (I .1), tt)
+run-asks l I = (I .0, (ap (λ (s : Sums). s .first) (I .1), (ap (λ (s : Sums). s .second) (I .1), tt)))
 
 pub asks-run : (l : Lent) → All (belongTests l) → RunIts l
 asks-run l T = let e = T .1 .0 in let g = T .1 .1 .0 in (T .0, λ i. record { first = e i; second = g i })
@@ -81,8 +82,12 @@ refused-place n m p q e = cc
 abbrev pub Never : ℕ → (Lent → After) → Type 0
 Never k rest = (l : Lent) (p : ℕ) → rest l .answer ≡ Refused k p → ⊥
 
-pub ready-never : (k : ℕ) (rest : Lent → Lent) → Never k (λ l. answers Ready (rest l))
-ready-never k rest l p e = let z : _≡_ {A = ℕ} 0 1 = cc in omega arith
+-- what follows a start's tests
+abbrev pub readied : Lent → After
+readied l = answers Ready (leaving (sumsOf (l .file)) l (started l))
+
+pub ready-never : (k : ℕ) → Never k readied
+ready-never k l p e = let z : _≡_ {A = ℕ} 0 1 = cc in omega arith
 
 -- a run never refuses
 ran-never : (k n : ℕ) → Never k (ranFrom n)
