@@ -192,7 +192,7 @@ fn on(text: &[u8], map: &mut [u16], main: &mut [u32], heap: &mut [u32], regs: &m
     begin(text, &file, map, main, &mut ptr, &mut ctl, heap, regs, 4);
 }
 
-// Lists just as long as A needs: a map of 39, a main stack of 2. Refusals 2, 10 and 12: a list that is one shorter.
+// Lists just as long as A needs: a map of 39, a main stack of 2. Refusals 2 and 10: a list that is one shorter.
 fn lengths_of_lists() {
     let mut map = [0u16; 39];
     let mut main = [0u32; 2];
@@ -209,8 +209,84 @@ fn lengths_of_lists() {
     on(b"2", &mut map_38, &mut main, &mut heap, &mut regs);
     let mut main_1 = [0u32; 1];
     on(b"10", &mut map, &mut main_1, &mut heap, &mut regs);
-    let mut regs_27 = [0u8; 27];
-    on(b"12 start", &mut map, &mut main, &mut heap, &mut regs_27);
+}
+
+// Refusal 13 in start: register lists of other lengths; beside a list that is too short, it comes first.
+fn lengths_of_registers() {
+    let mut map = [0u16; 39];
+    let mut main = [0u32; 2];
+    let mut heap = [2u32, 0];
+    let mut regs_28 = [0u8; 28];
+    on(b"13 28 bytes", &mut map, &mut main, &mut heap, &mut regs_28);
+    let mut regs_35 = [0u8; 35];
+    on(b"13 35 bytes", &mut map, &mut main, &mut heap, &mut regs_35);
+    let mut regs_37 = [0u8; 37];
+    on(b"13 37 bytes", &mut map, &mut main, &mut heap, &mut regs_37);
+    let mut none = [0u8; 0];
+    on(b"13 no bytes", &mut map, &mut main, &mut heap, &mut none);
+    let mut main_1 = [0u32; 1];
+    on(b"13 before 10", &mut map, &mut main_1, &mut heap, &mut none);
+    let mut low = [1u32, 0];
+    on(b"13 before 11", &mut map, &mut main, &mut low, &mut none);
+}
+
+fn put_byte(l: &mut [u8], i: usize, b: u8) {
+    if i < l.len() {
+        l[i] = b;
+    }
+}
+
+// So many steps of one file, then a run of another on the state that is left, byte `at` of its registers being `byte`.
+fn other_file(text: &[u8], file: &[u8], steps: u32, other: &[u8], at: usize, byte: u8) {
+    let mut map = [0u16; 42];
+    let mut main = [0u32; 3];
+    let mut ptr = [0u32; 1];
+    let mut ctl = [0u32; 5];
+    let mut heap = [2u32, 0];
+    let mut regs = [0u8; REGISTER_BYTES];
+    begin(
+        b"one file",
+        file,
+        &mut map,
+        &mut main,
+        &mut ptr,
+        &mut ctl,
+        &mut heap,
+        &mut regs,
+        steps,
+    );
+    put_byte(&mut regs, at, byte);
+    go(
+        text,
+        other,
+        &mut map,
+        &mut main,
+        &mut ptr,
+        &mut ctl,
+        &mut heap,
+        &mut regs,
+        1000,
+    );
+}
+
+// Refusal 13 in run: A's sums, 574 and 4077, are bytes 0 0 2 62 and 0 0 15 237 of the registers, from byte 28 on. Two bytes of A exchanged
+// change the second sum; two files have equal sums (Manual 2.16).
+fn sums_of_files() {
+    let a = [240u8, 0, 0, 1, 0, 2, 0, 54, 5, 54, 3, 142, 73];
+    let swapped = [240u8, 0, 0, 1, 0, 2, 0, 54, 3, 54, 5, 142, 73];
+    other_file(b"its own", &a, 2, &a, 31, 62);
+    other_file(b"13 first sum", &a, 2, &a, 31, 63);
+    other_file(b"13 second sum", &a, 0, &a, 35, 236);
+    other_file(b"13 high byte", &a, 1, &a, 32, 1);
+    other_file(b"finished", &a, 4, &a, 35, 237);
+    other_file(b"13 finished", &a, 4, &a, 35, 238);
+    other_file(b"13 two bytes exchanged", &a, 2, &swapped, 35, 237);
+    other_file(b"the second sum of the other", &a, 2, &swapped, 35, 233);
+    let one = [240u8, 0, 0, 3, 0, 3, 0, 54, 1, 54, 2, 54, 1, 73];
+    let two = [240u8, 0, 0, 3, 0, 3, 0, 54, 2, 54, 0, 54, 2, 73];
+    other_file(b"equal sums", &one, 2, &two, 35, 223);
+    let nine = [240u8, 0, 0, 0, 0, 1, 0, 54, 1, 3, 0, 5];
+    other_file(b"9 before 13", &a, 2, &nine, 31, 62);
 }
 
 fn on_heap(text: &[u8], heap: &mut [u32]) {
@@ -390,6 +466,8 @@ fn main() {
     lines(&text[..n]);
     lengths();
     lengths_of_lists();
+    lengths_of_registers();
+    sums_of_files();
     marks_of_heaps();
     walks_of_heaps();
     words_of_heaps();
