@@ -10,7 +10,7 @@
 #include <stdlib.h>
 #include <string.h>
 
-enum { N = 65535 };
+enum { N = 65535, REG_BYTES = 36 };
 
 static unsigned long checks, failures;
 
@@ -38,7 +38,7 @@ typedef struct {
 } rig;
 
 enum { MAIN, PTR, CTL, HEAP, REGS };
-enum { PLACE, FRAME, HANDLER, MTOP, PTOP, CTOP, STATE };
+enum { PLACE, FRAME, HANDLER, MTOP, PTOP, CTOP, STATE, SUM, SUM_OF_SUMS, REG_WORDS };
 
 static void *take(size_t bytes)
 {
@@ -80,7 +80,7 @@ static rig rig_new(const uint8_t *file, size_t file_len, size_t map_len,
 /* The bench program's lists. */
 static rig bench_rig(const uint8_t *file, size_t file_len)
 {
-    return rig_new(file, file_len, 3 * 4096, 256, 256, 250, 1024, 28);
+    return rig_new(file, file_len, 3 * 4096, 256, 256, 250, 1024, REG_BYTES);
 }
 
 static void rig_free(rig *g)
@@ -146,6 +146,34 @@ static void set_reg(rig *g, size_t i, uint32_t v)
         g->regs[4 * i + k] = (uint8_t)(v >> (24 - 8 * k));
 }
 
+/*
+ * The file's sums (order 3), another way: byte i is in the sums after bytes i
+ * to length - 1, so it is length - i times in the sum of sums.
+ */
+static void sums_by_weight(const rig *g, uint64_t *sum, uint64_t *sum_of_sums)
+{
+    *sum = *sum_of_sums = 0;
+    for (size_t i = 0; i < g->file_len; i++) {
+        *sum += g->file[i];
+        *sum_of_sums += (uint64_t)g->file[i] * (g->file_len - i);
+    }
+}
+
+static void put_sums(rig *g)
+{
+    uint64_t sum, sum_of_sums;
+    sums_by_weight(g, &sum, &sum_of_sums);
+    set_reg(g, SUM, (uint32_t)sum);
+    set_reg(g, SUM_OF_SUMS, (uint32_t)sum_of_sums);
+}
+
+static bool has_sums(const rig *g)
+{
+    uint64_t sum, sum_of_sums;
+    sums_by_weight(g, &sum, &sum_of_sums);
+    return reg_of(g, SUM) == sum && reg_of(g, SUM_OF_SUMS) == sum_of_sums;
+}
+
 static uint32_t word_of(const rig *g, int list, size_t i)
 {
     return list == REGS ? reg_of(g, i) : g->list[list][i];
@@ -197,10 +225,11 @@ static int32_t signed_of(uint32_t w)
     return w < 0x80000000u ? (int32_t)w : -(int32_t)(0xffffffffu - w) - 1;
 }
 
-/* What run leaves is sound, and a run of no step leaves it alone. */
+/* What run leaves is sound, with the file's sums, and a run of no step leaves it alone. */
 static void expect_sound(int line, const rig *g)
 {
     rig again = rig_copy(g);
+    expect(has_sums(g), line, "run keeps the sums");
     uint32_t kind = reg_of(g, STATE) == 1 ? REF_FINISHED : REF_SPENT;
     expect(is(do_run(&again, 0), kind, 0, 0, 0), line, "run leaves a sound state");
     expect(same_rig(&again, g), line, "no step changes nothing");
@@ -247,11 +276,12 @@ static void expect_bench(int line, const char *want, const uint8_t *file, size_t
 
 /* ---- refusals 1 to 9 by all three calls, and what they write ---- */
 
-static void expect_refusal(int line, uint32_t number, uint32_t place,
-                           const uint8_t *file, size_t file_len)
+/* The registers hold junk: in run 13 is behind each of these. */
+static void refusal_with(int line, uint32_t number, uint32_t place,
+                         const uint8_t *file, size_t file_len, size_t map_len, size_t regs_len)
 {
     for (int call = 0; call < 3; call++) {
-        rig g = rig_new(file, file_len, 3 * file_len + 4, 9, 9, 9, 9, 28);
+        rig g = rig_new(file, file_len, map_len, 9, 9, 9, 9, regs_len);
         rig before = rig_copy(&g);
         ref_reply r = call == 0 ? do_check(&g) : call == 1 ? do_start(&g) : do_run(&g, 7);
         bool ok = is_refused(r, number, place);
@@ -266,6 +296,12 @@ static void expect_refusal(int line, uint32_t number, uint32_t place,
         rig_free(&g);
         rig_free(&before);
     }
+}
+
+static void expect_refusal(int line, uint32_t number, uint32_t place,
+                           const uint8_t *file, size_t file_len)
+{
+    refusal_with(line, number, place, file, file_len, 3 * file_len + 4, REG_BYTES);
 }
 
 #define REFUSAL(number, place, ...) \
@@ -358,7 +394,7 @@ static void test_samples(void)
 
     /* A map of 39 and a main stack of 2 suffice. */
     {
-        rig g = rig_new(BYTES(A_FILE), 39, 2, 1, 5, 2, 28);
+        rig g = rig_new(BYTES(A_FILE), 39, 2, 1, 5, 2, REG_BYTES);
         EXPECT(is(do_check(&g), REF_PASSED, 0, 0, 0));
         EXPECT(is(do_start(&g), REF_READY, 0, 0, 0));
         EXPECT(is(do_run(&g, 4), REF_FINISHED, 0, 0, 4));
@@ -383,14 +419,15 @@ static void test_samples(void)
 
 static void test_start(void)
 {
-    rig g = rig_new(BYTES(A_FILE), 45, 6, 4, 12, 8, 28);
+    rig g = rig_new(BYTES(A_FILE), 45, 6, 4, 12, 8, REG_BYTES);
     /* an object of one pointer word to itself, and the root */
     uint32_t heap[8] = { 5, 2, 0x01000001, 3, 2, 0, 0, 0 };
     memcpy(g.list[HEAP], heap, sizeof heap);
     EXPECT(is(do_start(&g), REF_READY, 0, 0, 0));
-    const uint8_t regs[28] = { 0, 0, 0, 7, 0, 0, 0, 1, 0, 0, 0, 0, 0, 0,
-                               0, 0, 0, 0, 0, 0, 0, 0, 0, 5, 0, 0, 0, 0 };
-    EXPECT(memcmp(g.regs, regs, 28) == 0);
+    /* behind the seven registers the sums 574 = 2 * 256 + 62, 4,077 = 15 * 256 + 237 */
+    const uint8_t regs[REG_BYTES] = { 0, 0, 0, 7, 0, 0, 0, 1, 0, 0, 0, 0, 0, 0, 0, 0, 0, 0,
+                                      0, 0, 0, 0, 0, 5, 0, 0, 0, 0, 0, 0, 2, 62, 0, 0, 15, 237 };
+    EXPECT(memcmp(g.regs, regs, REG_BYTES) == 0);
     for (int l = MAIN; l <= CTL; l++)
         for (size_t i = 0; i < g.len[l]; i++)
             EXPECT(g.list[l][i] == 0);
@@ -405,12 +442,12 @@ static void test_start(void)
     EXPECT(g.list[MAIN][0] == 2 && g.list[MAIN][1] == 0);
     EXPECT(is(do_run(&g, 0), REF_SPENT, 0, 0, 0));
     EXPECT(is(do_run(&g, 9), REF_FINISHED, 0, 0, 1));
-    const uint8_t done[28] = { 0, 0, 0, 0, 0, 0, 0, 0, 0, 0, 0, 0, 0, 0,
-                               0, 1, 0, 0, 0, 0, 0, 0, 0, 0, 0, 0, 0, 1 };
-    EXPECT(memcmp(g.regs, done, 28) == 0);
+    const uint8_t done[REG_BYTES] = { 0, 0, 0, 0, 0, 0, 0, 0, 0, 0, 0, 0, 0, 0, 0, 1, 0, 0,
+                                      0, 0, 0, 0, 0, 0, 0, 0, 0, 1, 0, 0, 2, 62, 0, 0, 15, 237 };
+    EXPECT(memcmp(g.regs, done, REG_BYTES) == 0);
     EXPECT(is(do_run(&g, 0), REF_FINISHED, 0, 0, 0));
     EXPECT(is(do_run(&g, 4294967295u), REF_FINISHED, 0, 0, 0));
-    EXPECT(memcmp(g.regs, done, 28) == 0);
+    EXPECT(memcmp(g.regs, done, REG_BYTES) == 0);
     rig_free(&g);
 
     /* A place above 255: 100 times fjump 0 from 7, so 307 = 1 * 256 + 51. */
@@ -482,7 +519,7 @@ static void test_file(void)
 
     /* 2 */
     for (size_t map_len = 0; map_len <= 39; map_len++) {
-        rig g = rig_new(BYTES(A_FILE), map_len, 2, 1, 5, 2, 28);
+        rig g = rig_new(BYTES(A_FILE), map_len, 2, 1, 5, 2, REG_BYTES);
         rig before = rig_copy(&g);
         if (map_len < 39) {
             EXPECT(is_refused(do_check(&g), 2, 0));
@@ -1316,7 +1353,7 @@ static void test_exceptions(void)
     for (size_t h = 2; h <= 12; h++) {
         /* 7 54 1; 9 57; 10 form 1 1; 15 54 2; 17 57; 18 form 1 1; 23 73 */
         g = rig_new(BYTES(240, 0, 0, 0, 2, 1, 2, 54, 1, 57, 36, 0, 1, 0, 1,
-                          54, 2, 57, 36, 0, 1, 0, 1, 73), 80, 1, 2, 5, h, 28);
+                          54, 2, 57, 36, 0, 1, 0, 1, 73), 80, 1, 2, 5, h, REG_BYTES);
         EXPECT(is(do_start(&g), REF_READY, 0, 0, 0));
         ref_reply r = do_run(&g, 100);
         if (h < 6) {
@@ -1339,7 +1376,7 @@ static void test_exceptions(void)
 
     /* 5: x. Procedure 0 calls itself, each frame one word up: 7 54 1; 9 72 0 */
     g = rig_new(BYTES(240, 0, 0, 0, 0, 1, 0, 54, 1, 72, 0, 0, 64, 0, 1, 0, 0, 73),
-                54, 3, 1, 1280, 2, 28);
+                54, 3, 1, 1280, 2, REG_BYTES);
     EXPECT(is(do_start(&g), REF_READY, 0, 0, 0));
     EXPECT(is(do_run(&g, 100), REF_UNCAUGHT, 5, 9, 5));
     LIST_IS(g, MAIN, 1, 1, 1);
@@ -1347,21 +1384,21 @@ static void test_exceptions(void)
     rig_free(&g);
     /* 5: y. 7 57; 8 72 0; 11 64 0 1; 16 73 */
     g = rig_new(BYTES(240, 0, 0, 0, 0, 0, 1, 57, 72, 0, 0, 64, 0, 0, 0, 1, 73),
-                51, 1, 2, 1280, 2, 28);
+                51, 1, 2, 1280, 2, REG_BYTES);
     EXPECT(is(do_start(&g), REF_READY, 0, 0, 0));
     EXPECT(is(do_run(&g, 100), REF_UNCAUGHT, 5, 8, 3));
     LIST_IS(g, CTL, 0, 0, 0, 0, 0, 0, 1, 0, 11, 1);
     rig_free(&g);
     /* 5: control words, for lists of 5 to 20: as many calls as whole records */
     for (size_t c = 5; c <= 20; c++) {
-        g = rig_new(BYTES(HEAD0, 72, 0, 0, 73), 33, 1, 1, c, 2, 28);
+        g = rig_new(BYTES(HEAD0, 72, 0, 0, 73), 33, 1, 1, c, 2, REG_BYTES);
         EXPECT(is(do_start(&g), REF_READY, 0, 0, 0));
         EXPECT(is(do_run(&g, 100), REF_UNCAUGHT, 5, 7, (uint32_t)(c / 5) - 1));
         rig_free(&g);
     }
     /* 5: a handler's record. B in control lists of 5 to 10 */
     for (size_t c = 5; c <= 10; c++) {
-        g = rig_new(BYTES(B_FILE), 54, 2, 1, c, 2, 28);
+        g = rig_new(BYTES(B_FILE), 54, 2, 1, c, 2, REG_BYTES);
         EXPECT(is(do_start(&g), REF_READY, 0, 0, 0));
         ref_reply r = do_run(&g, 100);
         if (c < 10)
@@ -1374,7 +1411,7 @@ static void test_exceptions(void)
        15 161; 16 73; 17 73. 18 head; 25 73 */
     for (size_t m = 199; m <= 201; m++) {
         g = rig_new(BYTES(240, 0, 0, 1, 0, 1, 0, 160, 0, 17, 72, 0, 1, 54, 7, 161, 73, 73,
-                          240, 0, 0, 0, 0, 200, 0, 73), 78, m, 1, 15, 2, 28);
+                          240, 0, 0, 0, 0, 200, 0, 73), 78, m, 1, 15, 2, REG_BYTES);
         EXPECT(is(do_start(&g), REF_READY, 0, 0, 0));
         ref_reply r = do_run(&g, 100);
         if (m < 200) {
@@ -1390,7 +1427,7 @@ static void test_exceptions(void)
        7 54 1; 9 54 2; 11 72 1; 14 73. 15 head a 1, x 2: 1 + 2 = 3; 22 73 */
     for (size_t m = 2; m <= 3; m++) {
         g = rig_new(BYTES(240, 0, 0, 2, 0, 2, 0, 54, 1, 54, 2, 72, 0, 1, 73,
-                          240, 1, 0, 1, 0, 2, 0, 73), 69, m, 1, 15, 2, 28);
+                          240, 1, 0, 1, 0, 2, 0, 73), 69, m, 1, 15, 2, REG_BYTES);
         EXPECT(is(do_start(&g), REF_READY, 0, 0, 0));
         if (m == 2)
             EXPECT(is(do_run(&g, 100), REF_UNCAUGHT, 5, 11, 2));
@@ -1448,7 +1485,7 @@ static void test_exceptions(void)
     /* 4, caught: 7 160 -> 24; 10 form; 15 64 0 1; 20 54 7; 22 161; 23 73; 24 73 */
     for (size_t h = 2; h <= 4; h++) {
         g = rig_new(BYTES(240, 0, 0, 1, 0, 1, 1, 160, 0, 24, 36, 0, 0, 0, 0, 64, 0, 0, 0, 1,
-                          54, 7, 161, 73, 73), 75, 1, 1, 10, h, 28);
+                          54, 7, 161, 73, 73), 75, 1, 1, 10, h, REG_BYTES);
         EXPECT(is(do_start(&g), REF_READY, 0, 0, 0));
         ref_reply r = do_run(&g, 100);
         if (h < 4) {
@@ -1496,13 +1533,14 @@ static void test_handlers(void)
     /* 7 160 -> 20; 10 54 1; 12 160 -> 18; 15 54 9; 17 162 to 18 with 1, 9;
        18 140; 19 162 of 10 to 20; 20 73 */
     BENCH("finished steps=8 main=10", NESTED_FILE);
-    /* both closed: 7 160 -> 20; 10 160 -> 18; 13 161; 14 161; 15 54 7; 17 73; 18 161; 19 73; 20 73 */
+    /* both closed: 7 160 -> 20; 10 160 -> 18; 13 161; 14 161; 15 54 7; 17 73;
+       18 161; 19 73; 20 73 */
     BENCH("finished steps=6 main=7",
           240, 0, 0, 1, 0, 1, 0, 160, 0, 20, 160, 0, 18, 161, 161, 54, 7, 73, 161, 73, 73);
     /* the second record doesn't fit in 10 or 14 words: 5 goes to the outer one */
     for (size_t c = 10; c <= 15; c++) {
         g = rig_new(BYTES(240, 0, 0, 1, 0, 1, 0, 160, 0, 20, 160, 0, 18, 161, 161, 54, 7, 73,
-                          161, 73, 73), 63, 1, 1, c, 2, 28);
+                          161, 73, 73), 63, 1, 1, c, 2, REG_BYTES);
         EXPECT(is(do_start(&g), REF_READY, 0, 0, 0));
         EXPECT(is(do_run(&g, 100), REF_FINISHED, 0, 0, c < 15 ? 3 : 6));
         EXPECT(g.list[MAIN][0] == (c < 15 ? 5 : 7));
@@ -1611,13 +1649,13 @@ static void test_handlers(void)
 
 static rig deep_rig(void)
 {
-    rig g = rig_new(BYTES(DEEP_FILE), 3 * 107, 8, 6, 37, 12, 28);
+    rig g = rig_new(BYTES(DEEP_FILE), 3 * 107, 8, 6, 37, 12, REG_BYTES);
     EXPECT(is(do_start(&g), REF_READY, 0, 0, 0));
     return g;
 }
 
-/* The registers after each step. */
-static const uint32_t deep_trace[31][7] = {
+/* The seven registers after each step. */
+static const uint32_t deep_trace[31][SUM] = {
     { 7, 1, 0, 0, 0, 5, 0 },   { 9, 1, 0, 1, 0, 5, 0 },   { 11, 1, 0, 2, 0, 5, 0 },
     { 12, 1, 0, 2, 1, 5, 0 },  { 17, 1, 0, 1, 1, 5, 0 },  { 20, 1, 2, 1, 1, 10, 0 },
     { 23, 1, 2, 1, 2, 10, 0 }, { 24, 1, 2, 1, 1, 10, 0 }, { 26, 1, 2, 2, 1, 10, 0 },
@@ -1660,7 +1698,7 @@ static ref_reply sound_reply(const rig *g)
 /* Puts many other values in every word of a list, and tests run's answer. */
 static void damage(int line, const rig *sound, int list, judge expected)
 {
-    size_t len = list == REGS ? 7 : sound->len[list];
+    size_t len = list == REGS ? REG_WORDS : sound->len[list];
     for (size_t i = 0; i < len; i++) {
         uint32_t old = word_of(sound, list, i);
         for (uint32_t t = 0; t < 120 + 32 + 8; t++) {
@@ -1684,11 +1722,11 @@ static void damage(int line, const rig *sound, int list, judge expected)
     }
 }
 
-/* Control words and words above the tops have one sound value. */
+/* 13 for a sum, 12 for any other word with one sound value. */
 static ref_reply judge_fixed(const rig *sound, int list, size_t i, uint32_t v)
 {
-    (void)sound; (void)list; (void)i; (void)v;
-    return reply(REF_REFUSED, 12, 0, 0);
+    (void)sound; (void)v;
+    return reply(REF_REFUSED, list == REGS && i >= SUM ? 13 : 12, 0, 0);
 }
 
 /* Any word below the main top is sound. */
@@ -1701,10 +1739,9 @@ static ref_reply judge_main(const rig *sound, int list, size_t i, uint32_t v)
 /* The place may be another one of equal state. */
 static ref_reply judge_deep_regs(const rig *sound, int list, size_t i, uint32_t v)
 {
-    (void)list;
     if (i == PLACE && equal_places(v, reg_of(sound, PLACE)))
         return sound_reply(sound);
-    return reply(REF_REFUSED, 12, 0, 0);
+    return judge_fixed(sound, list, i, v);
 }
 
 /* After step 20 objects lie at 2 and 6. */
@@ -1792,8 +1829,9 @@ static void test_deep(void)
         rig once = deep_rig();
         EXPECT(is(do_run(&once, k), k == 30 ? REF_FINISHED : REF_SPENT, 0, 0, k));
         EXPECT(same_rig(&g, &once));
-        for (size_t i = 0; i < 7; i++)
+        for (size_t i = 0; i < SUM; i++)
             EXPECT(reg_of(&g, i) == deep_trace[k][i]);
+        EXPECT(has_sums(&g));
         /* all registers and control words changed, at every step */
         damage(__LINE__, &g, REGS, judge_deep_regs);
         damage(__LINE__, &g, CTL, judge_fixed);
@@ -1855,7 +1893,7 @@ static void cut_runs(int line, uint32_t kind, uint32_t total, const uint8_t *fil
 {
     for (uint32_t n = 0; n <= total; n++)
         for (uint32_t m = 0; n + m <= total + 2; m++) {
-            rig one = rig_new(file, file_len, 3 * file_len, 20, 20, 60, 40, 28);
+            rig one = rig_new(file, file_len, 3 * file_len, 20, 20, 60, 40, REG_BYTES);
             rig two = rig_copy(&one);
             expect(is(do_start(&one), REF_READY, 0, 0, 0), line, "ready");
             expect(is(do_start(&two), REF_READY, 0, 0, 0), line, "ready");
@@ -1874,6 +1912,7 @@ static void cut_runs(int line, uint32_t kind, uint32_t total, const uint8_t *fil
             expect(whole.steps == (n + m < total ? n + m : total), line, "the steps");
             expect(first.steps + second.steps == whole.steps, line, "the steps add up");
             expect(same_rig(&one, &two), line, "the same memory");
+            expect(has_sums(&one), line, "the sums stay");
             rig_free(&one);
             rig_free(&two);
         }
@@ -1898,7 +1937,8 @@ static void test_cuts(void)
 
 static void lengths(int line, size_t m, size_t p, size_t c, size_t h, bool fine)
 {
-    rig g = rig_new(BYTES(HEAD0, 73), 24, m, p, c, h, 28);
+    rig g = rig_new(BYTES(HEAD0, 73), 24, m, p, c, h, REG_BYTES);
+    put_sums(&g); /* else run answers 13 */
     rig before = rig_copy(&g);
     ref_reply r = do_start(&g);
     if (fine) {
@@ -1932,49 +1972,52 @@ static void test_lengths(void)
     lengths(__LINE__, 1, 1, 5, 16385, false);
 
     /* below procedure 0's x, y; another procedure's don't count */
-    rig g = rig_new(BYTES(A_FILE), 39, 1, 1, 5, 2, 28);
+    rig g = rig_new(BYTES(A_FILE), 39, 1, 1, 5, 2, REG_BYTES);
     EXPECT(is_refused(do_start(&g), 10, 0));
+    put_sums(&g);
     EXPECT(is_refused(do_run(&g, 1), 10, 0));
     rig_free(&g);
-    g = rig_new(BYTES(240, 0, 0, 0, 0, 0, 3, 73), 24, 1, 2, 5, 2, 28);
+    g = rig_new(BYTES(240, 0, 0, 0, 0, 0, 3, 73), 24, 1, 2, 5, 2, REG_BYTES);
     EXPECT(is_refused(do_start(&g), 10, 0));
     rig_free(&g);
-    g = rig_new(BYTES(240, 0, 0, 0, 0, 0, 3, 73), 24, 1, 3, 5, 2, 28);
+    g = rig_new(BYTES(240, 0, 0, 0, 0, 0, 3, 73), 24, 1, 3, 5, 2, REG_BYTES);
     EXPECT(is(do_start(&g), REF_READY, 0, 0, 0));
     rig_free(&g);
-    g = rig_new(BYTES(HEAD0, 73, 240, 0, 0, 0, 0, 99, 99, 73), 48, 1, 1, 5, 2, 28);
+    g = rig_new(BYTES(HEAD0, 73, 240, 0, 0, 0, 0, 99, 99, 73), 48, 1, 1, 5, 2, REG_BYTES);
     EXPECT(is(do_start(&g), REF_READY, 0, 0, 0));
     rig_free(&g);
     /* in a finished state too */
-    g = rig_new(BYTES(A_FILE), 39, 2, 1, 5, 2, 28);
+    g = rig_new(BYTES(A_FILE), 39, 2, 1, 5, 2, REG_BYTES);
     EXPECT(is(do_start(&g), REF_READY, 0, 0, 0));
     EXPECT(is(do_run(&g, 9), REF_FINISHED, 0, 0, 4));
     g.len[MAIN] = 1;
     EXPECT(is_refused(do_run(&g, 9), 10, 0));
     rig_free(&g);
 
-    /* 10 before 11 before 12 */
-    g = rig_new(BYTES(A_FILE), 39, 1, 1, 5, 2, 27);
+    /* 10 before 11 before 12; start has no 12 */
+    g = rig_new(BYTES(A_FILE), 39, 1, 1, 5, 2, REG_BYTES);
+    put_sums(&g);
     g.list[HEAP][0] = 1;
     EXPECT(is_refused(do_start(&g), 10, 0));
     EXPECT(is_refused(do_run(&g, 9), 10, 0));
     rig_free(&g);
-    g = rig_new(BYTES(A_FILE), 39, 2, 1, 5, 2, 27);
+    g = rig_new(BYTES(A_FILE), 39, 2, 1, 5, 2, REG_BYTES);
+    put_sums(&g);
     g.list[HEAP][0] = 1;
     EXPECT(is_refused(do_start(&g), 11, 0));
     EXPECT(is_refused(do_run(&g, 9), 11, 0));
     g.list[HEAP][0] = 2;
-    EXPECT(is_refused(do_start(&g), 12, 0));
     EXPECT(is_refused(do_run(&g, 9), 12, 0));
+    EXPECT(is(do_start(&g), REF_READY, 0, 0, 0));
     rig_free(&g);
     /* a register list of another length, start and run */
-    for (size_t len = 0; len <= 60; len++) {
+    for (size_t len = 0; len <= 80; len++) {
         g = rig_new(BYTES(A_FILE), 39, 2, 1, 5, 2, len);
         rig before = rig_copy(&g);
-        if (len != 28) {
-            EXPECT(is_refused(do_start(&g), 12, 0));
+        if (len != REG_BYTES) {
+            EXPECT(is_refused(do_start(&g), 13, 0));
             EXPECT(same_state(&g, &before));
-            EXPECT(is_refused(do_run(&g, 1), 12, 0));
+            EXPECT(is_refused(do_run(&g, 1), 13, 0));
             EXPECT(same_state(&g, &before));
         } else {
             EXPECT(is(do_start(&g), REF_READY, 0, 0, 0));
@@ -1993,6 +2036,11 @@ static void test_lengths(void)
     EXPECT(is_refused(do_run(&g, 3), 2, 0));
     rig_free(&g);
     g = rig_new(BYTES(A_FILE), 39, 0, 0, 0, 0, 0);
+    EXPECT(is_refused(do_start(&g), 13, 0));
+    EXPECT(is_refused(do_run(&g, 3), 13, 0));
+    rig_free(&g);
+    g = rig_new(BYTES(A_FILE), 39, 0, 0, 0, 0, REG_BYTES);
+    put_sums(&g);
     EXPECT(is_refused(do_start(&g), 10, 0));
     EXPECT(is_refused(do_run(&g, 3), 10, 0));
     rig_free(&g);
@@ -2001,7 +2049,7 @@ static void test_lengths(void)
 /* 11 at a place, or fine (-1), by start and by run. */
 static void heap_case(int line, int place, const uint32_t *heap, size_t len)
 {
-    rig g = rig_new(BYTES(HEAD0, 73), 24, 1, 1, 5, len, 28);
+    rig g = rig_new(BYTES(HEAD0, 73), 24, 1, 1, 5, len, REG_BYTES);
     /* a started state, with this heap put in its place */
     expect(is(do_start(&g), REF_READY, 0, 0, 0), line, "ready");
     memcpy(g.list[HEAP], heap, len * 4);
@@ -2180,7 +2228,7 @@ static ref_reply judge_one_pointer(const rig *sound, int list, size_t i, uint32_
 static void test_sound(void)
 {
     /* row 12: pointer stack 3, object at 2 only; 7 form 0 0; 12 73 */
-    rig g = rig_new(BYTES(240, 0, 0, 0, 1, 0, 1, 36, 0, 0, 0, 0, 73), 39, 1, 2, 5, 8, 28);
+    rig g = rig_new(BYTES(240, 0, 0, 0, 1, 0, 1, 36, 0, 0, 0, 0, 73), 39, 1, 2, 5, 8, REG_BYTES);
     EXPECT(is(do_start(&g), REF_READY, 0, 0, 0));
     EXPECT(is(do_run(&g, 1), REF_SPENT, 0, 0, 1));
     LIST_IS(g, PTR, 2);
@@ -2201,7 +2249,7 @@ static void test_sound(void)
     rig_free(&g);
 
     /* A, finished: one main result */
-    g = rig_new(BYTES(A_FILE), 39, 4, 1, 7, 3, 28);
+    g = rig_new(BYTES(A_FILE), 39, 4, 1, 7, 3, REG_BYTES);
     EXPECT(is(do_start(&g), REF_READY, 0, 0, 0));
     EXPECT(is(do_run(&g, 4), REF_FINISHED, 0, 0, 4));
     damage(__LINE__, &g, REGS, judge_fixed);
@@ -2211,7 +2259,7 @@ static void test_sound(void)
 
     /* recursion of procedure 0: frames 1 to 3; 7 72 0; 10 73. Both places have
        state (0, 0, none), so each may stand for the other in the registers. */
-    g = rig_new(BYTES(HEAD0, 72, 0, 0, 73), 33, 1, 1, 15, 2, 28);
+    g = rig_new(BYTES(HEAD0, 72, 0, 0, 73), 33, 1, 1, 15, 2, REG_BYTES);
     EXPECT(is(do_start(&g), REF_READY, 0, 0, 0));
     EXPECT(is(do_run(&g, 2), REF_SPENT, 0, 0, 2));
     LIST_IS(g, CTL, 0, 0, 0, 0, 0, 0, 0, 0, 10, 1, 0, 0, 0, 10, 2);
@@ -2222,7 +2270,7 @@ static void test_sound(void)
 
     /* two calls of one procedure with equal states: either return place is
        sound. 7 72 1; 10 72 1; 13 73. 14 head; 21 73 */
-    g = rig_new(BYTES(HEAD0, 72, 0, 1, 72, 0, 1, 73, HEAD0, 73), 66, 1, 1, 10, 2, 28);
+    g = rig_new(BYTES(HEAD0, 72, 0, 1, 72, 0, 1, 73, HEAD0, 73), 66, 1, 1, 10, 2, REG_BYTES);
     EXPECT(is(do_start(&g), REF_READY, 0, 0, 0));
     EXPECT(is(do_run(&g, 1), REF_SPENT, 0, 0, 1));
     LIST_IS(g, CTL, 0, 0, 0, 0, 0, 0, 0, 1, 10, 1);
@@ -2241,7 +2289,8 @@ static void test_sound(void)
 
     /* a call of another procedure is no return place: 7 72 1; 10 72 2; 13 73.
        14 head; 21 73. 22 head; 29 73 */
-    g = rig_new(BYTES(HEAD0, 72, 0, 1, 72, 0, 2, 73, HEAD0, 73, HEAD0, 73), 90, 1, 1, 10, 2, 28);
+    g = rig_new(BYTES(HEAD0, 72, 0, 1, 72, 0, 2, 73, HEAD0, 73, HEAD0, 73),
+                90, 1, 1, 10, 2, REG_BYTES);
     EXPECT(is(do_start(&g), REF_READY, 0, 0, 0));
     EXPECT(is(do_run(&g, 1), REF_SPENT, 0, 0, 1));
     g.list[CTL][8] = 13;
@@ -2284,7 +2333,7 @@ static rig before_code(int line, bool caught, words m, words p, words heap,
     n += size;
     for (int i = 0; i < (caught ? 2 : 1); i++, n += 3)
         memcpy(f + n, (const uint8_t[]){ 3, 0, 3 }, 3);
-    rig g = rig_new(f, n, 3 * n, m.n + 1, p.n + 1, 10, heap.n, 28);
+    rig g = rig_new(f, n, 3 * n, m.n + 1, p.n + 1, 10, heap.n, REG_BYTES);
     uint32_t steps = (uint32_t)(m.n + p.n) + caught;
     expect(is(do_start(&g), REF_READY, 0, 0, 0), line, "ready");
     expect(is(do_run(&g, steps), REF_SPENT, 0, 0, steps), line, "the pushes");
@@ -2815,7 +2864,7 @@ static ref_reply judge_vector_heap(const rig *sound, int list, size_t i, uint32_
 static void test_vector_damage(void)
 {
     const uint32_t heap[] = { 10, 6, WV, 4, 70, 71, PV + 1, 4, 2, 72, 0, 0 };
-    rig g = rig_new(BYTES(HEAD0, 73), 24, 1, 1, 5, 12, 28);
+    rig g = rig_new(BYTES(HEAD0, 73), 24, 1, 1, 5, 12, REG_BYTES);
     EXPECT(is(do_start(&g), REF_READY, 0, 0, 0));
     memcpy(g.list[HEAP], heap, sizeof heap);
     EXPECT(is(do_run(&g, 0), REF_SPENT, 0, 0, 0));
