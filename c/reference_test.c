@@ -1939,7 +1939,7 @@ static void test_cuts(void)
     cut_runs(__LINE__, REF_UNCAUGHT, 11, BYTES(HEAD0, 72, 0, 0, 73));
 }
 
-/* ---- refusals 10 to 12 ---- */
+/* ---- refusals 10 to 12, and 13 for the registers' length ---- */
 
 static void lengths(int line, size_t m, size_t p, size_t c, size_t h, bool fine)
 {
