@@ -1538,8 +1538,16 @@ static void meet_reason(int call, sums s)
     meet_state(EXCHANGED, first && hold(regs, (sums){ s.second, s.first }));
 }
 
-/* 13 leaves the map that check makes of the file, which passes, and all else as it was. */
-static void look_at_lists(ref_reply r)
+/* No refusal writes elsewhere than in the map. */
+static void look_at_lists(void)
+{
+    for (int i = 0; i < LISTS; i++)
+        if (i != L_MAP && memcmp(before_call.held[i], lists[i].ref, lists[i].len * width[i]) != 0)
+            state_fault("a refusal writes more than the map");
+}
+
+/* 13 comes with place 0 and leaves the map that check makes of the file, which passes. */
+static void look_at_map(ref_reply r)
 {
     size_t bytes = before_call.len[L_MAP] * width[L_MAP];
     uint16_t *map = take(bytes);
@@ -1548,9 +1556,6 @@ static void look_at_lists(ref_reply r)
     if (checked.kind != REF_PASSED || memcmp(map, lists[L_MAP].ref, bytes) != 0)
         state_fault("13 for a file that does not pass, or with another map");
     free(map);
-    for (int i = 0; i < LISTS; i++)
-        if (i != L_MAP && memcmp(before_call.held[i], lists[i].ref, lists[i].len * width[i]) != 0)
-            state_fault("13 writes more than the map");
     if (r.place != 0 || r.steps != 0)
         state_fault("13 with a place or steps");
 }
@@ -1572,7 +1577,7 @@ static void meet_registers(int call, ref_reply r)
         state_fault("12 is told by start");
     if (told) {
         meet_reason(call, s);
-        look_at_lists(r);
+        look_at_map(r);
     } else if (!refused) {
         if (!hold(lists[L_REGS].ref, s))
             state_fault("the sums are not the file's after the call");
@@ -1647,6 +1652,8 @@ static void count_answer(int call, uint32_t budget, ref_reply ref)
     answers[call][ref.kind > 5 ? 5 : ref.kind]++;
     if (ref.kind == REF_REFUSED)
         refusals[call][ref.number > 13 ? 0 : ref.number]++;
+    if (ref.kind == REF_REFUSED)
+        look_at_lists();
     if (ref.kind == REF_REFUSED && ref.number == 11)
         meet_heap(ref.place);
     if (ref.kind == REF_UNCAUGHT)
