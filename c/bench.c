@@ -1,8 +1,8 @@
 /*
  * Library against reference (built at -O2 and at -O3) in one run: the check
- * by the byte, the audits by the call, the steps, vectors made. The three take
- * turns; the best of several turns counts. Ratios above 1: the library is
- * slower.
+ * by the byte, the file's sums by the byte, the audits by the call, the steps,
+ * vectors made. The three take turns; the best of several turns counts. Ratios
+ * above 1: the library is slower.
  *   bench [TURNS]
  */
 #define _POSIX_C_SOURCE 199309L
@@ -36,7 +36,8 @@ typedef struct {
     uint16_t map[3 * 4096];
     uint32_t main[4096], ptr[4096], ctl[1280], heap[16384];
     size_t main_len, ptr_len, ctl_len, heap_len;
-    uint8_t regs[28];
+    uint8_t regs[YALGOVIM_REGISTERS];
+    size_t regs_len;
 } memory;
 
 static memory side[SIDES];
@@ -54,7 +55,7 @@ static uint32_t call(int who, int what, uint32_t budget)
     memory *m = &side[who];
 #define FILE_AND_MAP m->file, m->file_len, m->map, 3 * m->file_len
 #define REST m->main, m->main_len, m->ptr, m->ptr_len, m->ctl, m->ctl_len, m->heap, m->heap_len, \
-             m->regs, sizeof m->regs
+             m->regs, m->regs_len
     switch (what * SIDES + who) {
     case CHECK * SIDES + LIBRARY: return yalgovim_check(FILE_AND_MAP).kind;
     case CHECK * SIDES + O2: return ref2_check(FILE_AND_MAP).kind;
@@ -115,6 +116,7 @@ static void lend(const uint8_t *file, size_t n, size_t main_len, size_t ptr_len,
         m->ptr_len = ptr_len;
         m->ctl_len = ctl_len;
         m->heap_len = heap_len;
+        m->regs_len = sizeof m->regs;
         m->heap[0] = 2;
     }
 }
@@ -482,6 +484,7 @@ static void typical(size_t total)
 }
 
 static const size_t typicals[] = { 300, 4096 };
+static const uint8_t sample_a[] = { 240, 0, 0, 1, 0, 2, 0, 54, 5, 54, 3, 142, 73 };
 
 static void vector_check_rows(void)
 {
@@ -505,13 +508,12 @@ static void check_rows(void)
         { "plain", straight }, { "jumps", jumps }, { "handlers in turn", handlers },
         { "handlers nested", nested }, { "calls, 64 heads", procedures }
     };
-    static const uint8_t a[] = { 240, 0, 0, 1, 0, 2, 0, 54, 5, 54, 3, 142, 73 };
     double best[SIDES];
     char name[80];
     title("check", "ns/byte");
-    lend(a, sizeof a, 256, 256, 250, 1024);
+    lend(sample_a, sizeof sample_a, 256, 256, 250, 1024);
     measure(CHECK, 0, YALGOVIM_PASSED, "sample A", best);
-    row("sample A, 13 bytes", sizeof a, best, false);
+    row("sample A, 13 bytes", sizeof sample_a, best, false);
     for (size_t s = 0; s < sizeof sorts / sizeof *sorts; s++)
         for (size_t total = 512; total <= 4096; total *= 2) {
             sorts[s].make(total);
@@ -615,31 +617,30 @@ static void vector_heap_rows(void)
     }
 }
 
-static void audit_rows(void)
+/* Both sums of the file are taken, and the state's audits made, whatever the budget is. */
+static void idle_rows(void)
 {
     double best[SIDES];
     char name[80];
-    title("audits: run with budget 0", "us/call");
     lend(idle, sizeof idle, 256, 256, 250, 1024);
     start_all("idle");
     measure(RUN, 0, YALGOVIM_SPENT, "idle", best);
     row("idle run, stacks 256, 256, 250, heap 1024", 1000, best, false);
-    typical(300);
-    lend(f, n, 256, 256, 250, 1024);
-    start_all("idle, typical");
-    measure(RUN, 0, YALGOVIM_SPENT, "idle, typical", best);
-    row("idle run, the same, typical file of 300", 1000, best, false);
-    heap_rows("empty", false, 0, false);
-    heap_rows("full, objects of 2 words", true, 0, false);
-    heap_rows("full, 14 pointers each", true, 14, false);
-    heap_rows("full, 14 each, a third nil", true, 14, true);
-    for (size_t m = 512; m <= 4096; m *= 2) {
-        snprintf(name, sizeof name, "both stacks of %zu, shallow", m);
-        lend(idle, sizeof idle, m, m, 20, 64);
+    for (size_t i = 0; i < 2; i++) {
+        typical(typicals[i]);
+        snprintf(name, sizeof name, "idle run, the same, typical file of %zu", n);
+        lend(f, n, 256, 256, 250, 1024);
         start_all(name);
         measure(RUN, 0, YALGOVIM_SPENT, name, best);
-        row(name, 1000, best, m > 512);
+        row(name, 1000, best, false);
     }
+}
+
+/* Control stacks of growing length, filled with frames, or with frames and handlers. */
+static void record_rows(void)
+{
+    double best[SIDES];
+    char name[80];
     /* calls itself for ever; 16 words of each stack a frame: 5 ends it */
     n = 0;
     BYTES(240, 0, 0, 0, 0, 0, 0, 72, 0, 1, 73);
@@ -668,7 +669,11 @@ static void audit_rows(void)
         measure(RUN, 0, YALGOVIM_SPENT, name, best);
         row(name, 1000, best, c > 160);
     }
-    vector_heap_rows();
+}
+
+static void start_rows(void)
+{
+    double best[SIDES];
     title("start", "us/call");
     lend(idle, sizeof idle, 256, 256, 250, 1024);
     measure(START, 0, YALGOVIM_READY, "start, bench", best);
@@ -676,6 +681,74 @@ static void audit_rows(void)
     lend(idle, sizeof idle, 4096, 4096, 1280, 16384);
     measure(START, 0, YALGOVIM_READY, "start, greatest", best);
     row("stacks 4096, 4096, 1280, heap 16384", 1000, best, false);
+    typical(4096);
+    lend(f, n, 256, 256, 250, 1024);
+    measure(START, 0, YALGOVIM_READY, "start, typical", best);
+    row("256, 256, 250, 1024, typical file of 4096", 1000, best, false);
+}
+
+static void audit_rows(void)
+{
+    double best[SIDES];
+    char name[80];
+    title("audits: run with budget 0", "us/call");
+    idle_rows();
+    heap_rows("empty", false, 0, false);
+    heap_rows("full, objects of 2 words", true, 0, false);
+    heap_rows("full, 14 pointers each", true, 14, false);
+    heap_rows("full, 14 each, a third nil", true, 14, true);
+    for (size_t m = 512; m <= 4096; m *= 2) {
+        snprintf(name, sizeof name, "both stacks of %zu, shallow", m);
+        lend(idle, sizeof idle, m, m, 20, 64);
+        start_all(name);
+        measure(RUN, 0, YALGOVIM_SPENT, name, best);
+        row(name, 1000, best, m > 512);
+    }
+    record_rows();
+    vector_heap_rows();
+    start_rows();
+}
+
+/* ---- the file's sums ---- */
+
+/* Records as long as they come: little is to be checked, which the sums are measured beside. */
+static void long_records(size_t total)
+{
+    n = 0;
+    BYTES(240, 0, 0, 0, 0, 1, 0);
+    while (n + 40 < total)
+        BYTES(56, 1, 2, 3, 4, 64, 0, 1, 0, 0);
+    finish(total);
+}
+
+/* A run refused as 13 for its second sum, less one refused for a list of 35 bytes: the sums. */
+static void sum_row(const char *name)
+{
+    double summed[SIDES], unsummed[SIDES];
+    start_all(name);
+    for (int w = 0; w < SIDES; w++)
+        side[w].regs[sizeof side[w].regs - 1] ^= 1;
+    measure(RUN, 0, YALGOVIM_REFUSED, name, summed);
+    for (int w = 0; w < SIDES; w++)
+        side[w].regs_len = sizeof side[w].regs - 1;
+    measure(RUN, 0, YALGOVIM_REFUSED, name, unsummed);
+    for (int w = 0; w < SIDES; w++)
+        summed[w] -= unsummed[w];
+    row(name, (double)side[LIBRARY].file_len, summed, false);
+}
+
+static void sum_rows(void)
+{
+    char name[80];
+    title("sums: refused 13 by sum, less by length", "ns/byte");
+    lend(sample_a, sizeof sample_a, 256, 256, 250, 1024);
+    sum_row("sample A, 13 bytes");
+    for (size_t total = 256; total <= 4096; total *= 4) {
+        long_records(total);
+        snprintf(name, sizeof name, "long records, %zu bytes", n);
+        lend(f, n, 256, 256, 250, 1024);
+        sum_row(name);
+    }
 }
 
 /* ---- steps ---- */
@@ -790,7 +863,7 @@ static void step_rows(void)
 /* The state that each call begins with, on an empty heap: right before 80 or 81, or after a start. */
 static struct {
     uint32_t main[3];
-    uint8_t regs[28];
+    uint8_t regs[YALGOVIM_REGISTERS];
 } fresh;
 
 static void renew(memory *m)
@@ -909,6 +982,7 @@ int main(int argc, char **argv)
         turns = 1;
     check_rows();
     audit_rows();
+    sum_rows();
     step_rows();
     make_rows();
     loop_rows();

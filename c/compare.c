@@ -871,6 +871,10 @@ static const char *const list_name[LISTS] = {
 static const size_t width[LISTS] = { 1, 2, 4, 4, 4, 4, 1 };
 enum { GUARD = 64 };
 
+/* The register list: nine words, of which two are the file's sums. */
+enum { REG_BYTES = 36, SUM = 7, SUM_OF_SUMS = 8 };
+_Static_assert((int)REG_BYTES == (int)YALGOVIM_REGISTERS, "the header has another length");
+
 typedef struct {
     size_t len;
     uint8_t *ref;  /* exactly its length, so that a sanitizer sees its ends */
@@ -933,6 +937,36 @@ static void set_reg(size_t i, uint32_t w)
         lists[L_REGS].ref[4 * i + k] = lists[L_REGS].lib[4 * i + k] = (uint8_t)(w >> (24 - 8 * k));
 }
 
+static bool has_registers(void)
+{
+    return lists[L_REGS].len == REG_BYTES;
+}
+
+typedef struct {
+    uint32_t first, second;
+} sums;
+
+/* Byte i is in the sum after it and in all behind that one: it weighs n - i in the second. */
+static sums sums_of(const uint8_t *f, size_t n)
+{
+    uint64_t sum = 0, weighed = 0;
+    for (size_t i = 0; i < n; i++) {
+        sum += f[i];
+        weighed += (uint64_t)(n - i) * f[i];
+    }
+    return (sums){ (uint32_t)sum, (uint32_t)weighed };
+}
+
+/* The state becomes one of the lent file, as far as the sums tell. */
+static void sign(void)
+{
+    sums s = sums_of(lists[L_FILE].ref, lists[L_FILE].len);
+    if (!has_registers())
+        return;
+    set_reg(SUM, s.first);
+    set_reg(SUM_OF_SUMS, s.second);
+}
+
 static void fill_junk(int which)
 {
     for (size_t i = 0; i < lists[which].len * width[which]; i++)
@@ -990,7 +1024,7 @@ enum { CHECK, START, RUN };
 static const char *const call_name[] = { "check", "start", "run" };
 
 static uint64_t seed, case_no, calls, steps_total;
-static uint64_t answers[3][6], refusals[3][13], raised[8], stepped[256], made[8], damages[16];
+static uint64_t answers[3][6], refusals[3][14], raised[8], stepped[256], made[8], damages[16];
 static uint64_t edges[5]; /* see table() */
 static const char *file_sort;
 
@@ -1442,51 +1476,207 @@ static void meet_run(ref_reply r, uint32_t budget)
     }
 }
 
+/* ---- refusal 13, worked out once more; and what else is wrong then ---- */
+
+static const size_t odd_lengths[] = { 0, 27, 28, 29, 35, 37, 40 };
+enum { ODD_LENGTHS = sizeof odd_lengths / sizeof *odd_lengths };
+
+static uint64_t by_length[3][ODD_LENGTHS + 1]; /* 13 by call and length; the last: any other */
+static uint64_t beside[3][13]; /* by call: 13 and this one at a time, whichever is told */
+
+enum {
+    FIRST_ALONE, SECOND_ALONE, BOTH_SUMS, EXCHANGED, WHEN_FINISHED, WITH_BUDGET_0,
+    FIRST_LONG, SECOND_LONG, EQUAL_SUMS,
+    STATE_COUNTERS
+};
+
+static counter state_met[STATE_COUNTERS] = {
+    [FIRST_ALONE] = { "the first alone", 0 },
+    [SECOND_ALONE] = { "the second alone", 0 },
+    [BOTH_SUMS] = { "both", 0 },
+    [EXCHANGED] = { "both, exchanged", 0 },
+    [WHEN_FINISHED] = { "finished", 0 },
+    [WITH_BUDGET_0] = { "budget 0", 0 },
+    [FIRST_LONG] = { "first sum above 65,535", 0 },
+    [SECOND_LONG] = { "second sum above 16,777,215", 0 },
+    [EQUAL_SUMS] = { "unequal files with equal sums", 0 }
+};
+
+static void meet_state(int what, bool met)
+{
+    state_met[what].count += met;
+}
+
+static void state_fault(const char *what)
+{
+    printf("\n%s: seed %" PRIu64 " case %" PRIu64 "\n", what, seed, case_no);
+    exit(1);
+}
+
+/* The registers of a list of 36 bytes hold these sums. */
+static bool hold(const uint8_t *regs, sums s)
+{
+    return bytes_word(regs + 4 * SUM) == s.first && bytes_word(regs + 4 * SUM_OF_SUMS) == s.second;
+}
+
+/* Counts why the registers of the call made last are not the file's. */
+static void meet_reason(int call, sums s)
+{
+    const uint8_t *regs = before_call.held[L_REGS];
+    if (before_call.len[L_REGS] != REG_BYTES) {
+        int k = 0;
+        while (k < ODD_LENGTHS && odd_lengths[k] != before_call.len[L_REGS])
+            k++;
+        by_length[call][k]++;
+        return;
+    }
+    bool first = bytes_word(regs + 4 * SUM) != s.first;
+    bool second = bytes_word(regs + 4 * SUM_OF_SUMS) != s.second;
+    meet_state(FIRST_ALONE, first && !second);
+    meet_state(SECOND_ALONE, second && !first);
+    meet_state(BOTH_SUMS, first && second);
+    meet_state(EXCHANGED, first && hold(regs, (sums){ s.second, s.first }));
+}
+
+/* No refusal writes elsewhere than in the map. */
+static void look_at_lists(void)
+{
+    for (int i = 0; i < LISTS; i++)
+        if (i != L_MAP && memcmp(before_call.held[i], lists[i].ref, lists[i].len * width[i]) != 0)
+            state_fault("a refusal writes more than the map");
+}
+
+/* 13 comes with place 0 and leaves the map that check makes of the file, which passes. */
+static void look_at_map(ref_reply r)
+{
+    size_t bytes = before_call.len[L_MAP] * width[L_MAP];
+    uint16_t *map = take(bytes);
+    memcpy(map, before_call.held[L_MAP], bytes);
+    ref_reply checked = ref_check(lists[L_FILE].ref, lists[L_FILE].len, map, lists[L_MAP].len);
+    if (checked.kind != REF_PASSED || memcmp(map, lists[L_MAP].ref, bytes) != 0)
+        state_fault("13 for a file that does not pass, or with another map");
+    free(map);
+    if (r.place != 0 || r.steps != 0)
+        state_fault("13 with a place or steps");
+}
+
+/* Of start and run: 13 exactly if 1 to 9 are not told and the registers are not the file's. */
+static void meet_registers(int call, ref_reply r)
+{
+    sums s = sums_of(before_call.held[L_FILE], before_call.len[L_FILE]);
+    bool refused = r.kind == REF_REFUSED, told = refused && r.number == 13;
+    bool due = before_call.len[L_REGS] != REG_BYTES
+        || (call == RUN && !hold(before_call.held[L_REGS], s));
+    if (refused && r.number <= 9) {
+        beside[call][r.number] += due;
+        return;
+    }
+    if (told != due)
+        state_fault(due ? "13 is due" : "13 is told without a reason");
+    if (call == START && refused && r.number == 12)
+        state_fault("12 is told by start");
+    if (told) {
+        meet_reason(call, s);
+        look_at_map(r);
+    } else if (!refused) {
+        if (!hold(lists[L_REGS].ref, s))
+            state_fault("the sums are not the file's after the call");
+        meet_state(FIRST_LONG, s.first > 65535);
+        meet_state(SECOND_LONG, s.second > 16777215);
+    }
+}
+
+static ref_reply both(int call, uint32_t budget);
+static ref_reply behind; /* the answer that the last 13 hid */
+
+/* After 13: the call once more with registers of this file. What lay behind the 13 shows. */
+static void look_behind(int call, uint32_t budget)
+{
+    snapshot s = snap_take();
+    bool by_sum = has_registers();
+    relend(L_REGS, REG_BYTES);
+    sign();
+    behind = both(call, budget);
+    if (behind.kind == REF_REFUSED && behind.number <= 12)
+        beside[call][behind.number]++;
+    else if (by_sum && behind.kind == REF_FINISHED && behind.steps == 0)
+        meet_state(WHEN_FINISHED, true);
+    else if (by_sum && budget == 0)
+        meet_state(WITH_BUDGET_0, true);
+    snap_restore(&s);
+    snap_free(&s);
+}
+
 /* ---- the calls ---- */
+
+static yalgovim_reply call_library(int call, uint32_t budget)
+{
+    list *l = lists;
+    uint16_t *map = (void *)l[L_MAP].lib;
+    uint32_t *w[4];
+    size_t n[4];
+    for (int i = 0; i < 4; i++) {
+        w[i] = (void *)l[L_MAIN + i].lib;
+        n[i] = l[L_MAIN + i].len;
+    }
+    if (call == CHECK)
+        return yalgovim_check(l[L_FILE].lib, l[L_FILE].len, map, l[L_MAP].len);
+    if (call == START)
+        return yalgovim_start(l[L_FILE].lib, l[L_FILE].len, map, l[L_MAP].len, w[0], n[0],
+                              w[1], n[1], w[2], n[2], w[3], n[3], l[L_REGS].lib, l[L_REGS].len);
+    return yalgovim_run(l[L_FILE].lib, l[L_FILE].len, map, l[L_MAP].len, w[0], n[0], w[1], n[1],
+                        w[2], n[2], w[3], n[3], l[L_REGS].lib, l[L_REGS].len, budget);
+}
+
+static ref_reply call_reference(int call, uint32_t budget)
+{
+    list *l = lists;
+    uint16_t *map = (void *)l[L_MAP].ref;
+    uint32_t *w[4];
+    size_t n[4];
+    for (int i = 0; i < 4; i++) {
+        w[i] = (void *)l[L_MAIN + i].ref;
+        n[i] = l[L_MAIN + i].len;
+    }
+    if (call == CHECK)
+        return ref_check(l[L_FILE].ref, l[L_FILE].len, map, l[L_MAP].len);
+    if (call == START)
+        return ref_start(l[L_FILE].ref, l[L_FILE].len, map, l[L_MAP].len, w[0], n[0],
+                         w[1], n[1], w[2], n[2], w[3], n[3], l[L_REGS].ref, l[L_REGS].len);
+    return ref_run(l[L_FILE].ref, l[L_FILE].len, map, l[L_MAP].len, w[0], n[0], w[1], n[1],
+                   w[2], n[2], w[3], n[3], l[L_REGS].ref, l[L_REGS].len, budget);
+}
+
+static void count_answer(int call, uint32_t budget, ref_reply ref)
+{
+    answers[call][ref.kind > 5 ? 5 : ref.kind]++;
+    if (ref.kind == REF_REFUSED)
+        refusals[call][ref.number > 13 ? 0 : ref.number]++;
+    if (ref.kind == REF_REFUSED)
+        look_at_lists();
+    if (ref.kind == REF_REFUSED && ref.number == 11)
+        meet_heap(ref.place);
+    if (ref.kind == REF_UNCAUGHT)
+        raised[ref.number >= 1 && ref.number <= 6 ? ref.number : 7]++;
+    if (call == RUN)
+        meet_run(ref, budget);
+    if (call != CHECK)
+        meet_registers(call, ref);
+    steps_total += ref.steps;
+}
 
 static ref_reply both(int call, uint32_t budget)
 {
     list *l = lists;
-    yalgovim_reply lib;
-    ref_reply ref;
-    uint16_t *lib_map = (void *)l[L_MAP].lib, *ref_map = (void *)l[L_MAP].ref;
-    uint32_t *lib_w[4], *ref_w[4];
-    size_t n[4];
-    for (int i = 0; i < 4; i++) {
-        lib_w[i] = (void *)l[L_MAIN + i].lib;
-        ref_w[i] = (void *)l[L_MAIN + i].ref;
-        n[i] = l[L_MAIN + i].len;
-    }
     if (have_before)
         snap_free(&before_call);
     before_call = snap_take();
     have_before = true;
     uint32_t code = 0;
-    if (call == RUN && budget == 1 && l[L_REGS].len == 28 && reg(0) < l[L_FILE].len)
+    if (call == RUN && budget == 1 && has_registers() && reg(0) < l[L_FILE].len)
         code = l[L_FILE].ref[reg(0)];
-
-    switch (call) {
-    case CHECK:
-        lib = yalgovim_check(l[L_FILE].lib, l[L_FILE].len, lib_map, l[L_MAP].len);
-        ref = ref_check(l[L_FILE].ref, l[L_FILE].len, ref_map, l[L_MAP].len);
-        break;
-    case START:
-        lib = yalgovim_start(l[L_FILE].lib, l[L_FILE].len, lib_map, l[L_MAP].len, lib_w[0], n[0],
-                             lib_w[1], n[1], lib_w[2], n[2], lib_w[3], n[3],
-                             l[L_REGS].lib, l[L_REGS].len);
-        ref = ref_start(l[L_FILE].ref, l[L_FILE].len, ref_map, l[L_MAP].len, ref_w[0], n[0],
-                        ref_w[1], n[1], ref_w[2], n[2], ref_w[3], n[3],
-                        l[L_REGS].ref, l[L_REGS].len);
-        break;
-    default:
-        lib = yalgovim_run(l[L_FILE].lib, l[L_FILE].len, lib_map, l[L_MAP].len, lib_w[0], n[0],
-                           lib_w[1], n[1], lib_w[2], n[2], lib_w[3], n[3],
-                           l[L_REGS].lib, l[L_REGS].len, budget);
-        ref = ref_run(l[L_FILE].ref, l[L_FILE].len, ref_map, l[L_MAP].len, ref_w[0], n[0],
-                      ref_w[1], n[1], ref_w[2], n[2], ref_w[3], n[3],
-                      l[L_REGS].ref, l[L_REGS].len, budget);
-        break;
-    }
+    yalgovim_reply lib = call_library(call, budget);
+    ref_reply ref = call_reference(call, budget);
     calls++;
     if (lib.kind != ref.kind || lib.number != ref.number || lib.place != ref.place
         || lib.steps != ref.steps)
@@ -1497,18 +1687,11 @@ static ref_reply both(int call, uint32_t budget)
         if (!guards_whole(&l[i], i))
             dump(call, budget, lib, ref, &before_call, "written outside a list");
     }
-    answers[call][ref.kind > 5 ? 5 : ref.kind]++;
-    if (ref.kind == REF_REFUSED)
-        refusals[call][ref.number > 12 ? 0 : ref.number]++;
-    if (ref.kind == REF_REFUSED && ref.number == 11)
-        meet_heap(ref.place);
-    if (ref.kind == REF_UNCAUGHT)
-        raised[ref.number >= 1 && ref.number <= 6 ? ref.number : 7]++;
-    if (call == RUN)
-        meet_run(ref, budget);
-    steps_total += ref.steps;
+    count_answer(call, budget, ref);
     if (ref.steps == 1)
         stepped[code]++;
+    if (ref.kind == REF_REFUSED && ref.number == 13)
+        look_behind(call, budget);
     return ref;
 }
 
@@ -1913,7 +2096,7 @@ static uint32_t other_return(uint32_t here)
 /* Damage that keeps close to what is sound. */
 static void damage_closely(uint32_t k)
 {
-    if (lists[L_REGS].len != 28)
+    if (!has_registers())
         return;
     uint32_t records = reg(5) / 5;
     if (k == 12) { /* lists that end just above their tops */
@@ -1943,7 +2126,7 @@ static void damage_closely(uint32_t k)
 /* The code at the place, if it may be used on a vector and there are words on the stacks; else 0. */
 static uint32_t vector_code(void)
 {
-    if (lists[L_REGS].len != 28 || reg(0) >= lists[L_FILE].len || lists[L_HEAP].len < 2
+    if (!has_registers() || reg(0) >= lists[L_FILE].len || lists[L_HEAP].len < 2
         || reg(3) > lists[L_MAIN].len || reg(4) > lists[L_PTR].len)
         return 0;
     uint32_t code = lists[L_FILE].ref[reg(0)];
@@ -1986,63 +2169,237 @@ static void damage_element(uint32_t code)
     set_word(L_MAIN, reg(3) - 1, one_in(3) ? v.bound + below(v.length + 2) - 1 : some_index(&v));
 }
 
+static void damage_length(void)
+{
+    static const size_t odd[4][6] = {
+        { 0, 1, 4096, 4097, 2, 3 }, { 0, 1, 4096, 4097, 2, 3 },
+        { 0, 4, 1280, 1281, 5, 6 }, { 0, 1, 16384, 16385, 2, 3 }
+    };
+    int which = (int)below(4);
+    size_t n = lists[L_MAIN + which].len;
+    size_t to = one_in(2) ? odd[which][below(6)] : one_in(2) ? n + 1 + below(9) : n - (n > 0);
+    relend(L_MAIN + which, to);
+}
+
+static void set_file_byte(size_t at, uint32_t b)
+{
+    lists[L_FILE].ref[at] = lists[L_FILE].lib[at] = (uint8_t)b;
+}
+
+/* With the new file's sums in most cases: else 13 would hide what the state is to that file. */
+static void damage_file(void)
+{
+    if (lists[L_FILE].len == 0)
+        return;
+    size_t at = below((uint32_t)lists[L_FILE].len);
+    set_file_byte(at, one_in(2) ? known_kind() : lists[L_FILE].ref[at] + 1u);
+    if (!one_in(6))
+        sign();
+}
+
+/* A length that 13 is for, now and then the right one. */
+static size_t odd_registers(void)
+{
+    return one_in(3) ? below(64) : odd_lengths[below(ODD_LENGTHS)];
+}
+
 static void damage(void)
 {
     uint32_t k = vector_code() != 0 && one_in(2) ? 15 : one_in(5) ? 13 : below(16);
     damages[k]++;
     switch (k) {
     case 0: case 1: {
-        size_t i = below(7);
-        if (lists[L_REGS].len == 28)
+        size_t i = below(SUM); /* the sums have damage of their own */
+        if (has_registers())
             set_reg(i, nudge(reg(i)));
         break;
     }
-    case 2: case 3:
-        damage_words(L_CTL, lists[L_REGS].len == 28 ? reg(5) : 0);
-        break;
-    case 4:
-        damage_words(L_MAIN, lists[L_REGS].len == 28 ? reg(3) : 0);
-        break;
-    case 5:
-        damage_words(L_PTR, lists[L_REGS].len == 28 ? reg(4) : 0);
-        break;
-    case 6: case 7:
-        damage_heap();
-        break;
-    case 8: {
-        static const size_t odd[4][6] = {
-            { 0, 1, 4096, 4097, 2, 3 }, { 0, 1, 4096, 4097, 2, 3 },
-            { 0, 4, 1280, 1281, 5, 6 }, { 0, 1, 16384, 16385, 2, 3 }
-        };
-        int which = (int)below(4);
-        size_t n = lists[L_MAIN + which].len;
-        size_t to = one_in(2) ? odd[which][below(6)] : one_in(2) ? n + 1 + below(9) : n - (n > 0);
-        relend(L_MAIN + which, to);
-        break;
-    }
-    case 9:
-        relend(L_REGS, one_in(2) ? 27 + 2 * below(2) : below(64));
-        break;
+    case 2: case 3: damage_words(L_CTL, has_registers() ? reg(5) : 0); break;
+    case 4: damage_words(L_MAIN, has_registers() ? reg(3) : 0); break;
+    case 5: damage_words(L_PTR, has_registers() ? reg(4) : 0); break;
+    case 6: case 7: damage_heap(); break;
+    case 8: damage_length(); break;
+    case 9: relend(L_REGS, odd_registers()); break;
     case 10:
         relend(L_MAP, one_in(2) ? lists[L_MAP].len + below(100)
                : lists[L_FILE].len * 3 - (lists[L_FILE].len > 0 ? below(4) : 0));
         break;
-    case 12: case 13: case 14:
-        damage_closely(k);
-        break;
+    case 12: case 13: case 14: damage_closely(k); break;
     case 15:
         if (vector_code() == 80 || vector_code() == 81)
             damage_make(vector_code());
         else if (vector_code() != 0)
             damage_element(vector_code());
         break;
-    default:
-        if (lists[L_FILE].len > 0) {
-            size_t at = below((uint32_t)lists[L_FILE].len);
-            uint8_t b = one_in(2) ? known_kind() : (uint8_t)(lists[L_FILE].ref[at] + 1);
-            lists[L_FILE].ref[at] = lists[L_FILE].lib[at] = b;
-        }
+    default: damage_file(); break;
+    }
+}
+
+/* ---- a state that is not the file's ---- */
+
+static uint32_t reversed(uint32_t w)
+{
+    return w << 24 | (w & 0xff00u) << 8 | (w >> 8 & 0xff00u) | w >> 24;
+}
+
+/* One sum or both: a bit, a byte, exchanged, reckoned otherwise, or of a file a byte off. */
+static void damage_sums(void)
+{
+    const list *l = &lists[L_FILE];
+    if (!has_registers() || l->len == 0)
+        return;
+    sums now = { reg(SUM), reg(SUM_OF_SUMS) }, near = sums_of(l->ref, l->len - 1);
+    size_t i = one_in(2) ? SUM : SUM_OF_SUMS, k = 4 * SUM + below(8);
+    switch (below(12)) {
+    case 0: set_reg(i, reg(i) ^ 1u << below(32)); break;
+    case 1: lists[L_REGS].ref[k] = lists[L_REGS].lib[k] = (uint8_t)draw(); break;
+    case 2:
+        set_reg(SUM, now.second);
+        set_reg(SUM_OF_SUMS, now.first);
         break;
+    case 3: /* the file without its last byte */
+        set_reg(SUM, near.first);
+        set_reg(SUM_OF_SUMS, near.second);
+        break;
+    case 4: /* a byte greater by one */
+        set_reg(SUM, now.first + 1);
+        set_reg(SUM_OF_SUMS, now.second + 1 + below((uint32_t)l->len));
+        break;
+    case 5: set_reg(SUM_OF_SUMS, now.second - now.first); break;
+    case 6: set_reg(SUM_OF_SUMS, now.second - l->ref[0]); break;
+    case 7: set_reg(SUM_OF_SUMS, now.second + 1 - 2 * below(2)); break;
+    case 8: set_reg(i, reversed(reg(i))); break;
+    case 9: set_reg(i, reg(i) & (one_in(2) ? 255 : 65535)); break;
+    case 10: /* as a state of 28 bytes made longer */
+        set_reg(SUM, 0);
+        set_reg(SUM_OF_SUMS, 0);
+        break;
+    default: set_reg(i, nudge(reg(i))); break;
+    }
+}
+
+/* The places of the operands' bytes, or of the literals' alone, which the map does not hang on. */
+static uint32_t operands(bool literals, size_t at[ROOM])
+{
+    const list *l = &lists[L_FILE];
+    uint32_t count = 0;
+    for (size_t i = 0; i < l->len; i += 1 + body_of(l->ref[i])) {
+        uint8_t kind = l->ref[i];
+        bool wanted = literals ? kind == 54 || kind == 56 : kind != 240;
+        for (size_t k = i + 1; wanted && k <= i + body_of(kind) && k < l->len; k++)
+            at[count++] = k;
+    }
+    return count;
+}
+
+/* Two unequal ones change places: the first sum stays. */
+static bool swap_operands(bool literals)
+{
+    static size_t at[ROOM];
+    uint32_t count = operands(literals, at);
+    for (int tries = 0; tries < 20 && count > 1; tries++) {
+        size_t i = at[below(count)], j = at[below(count)];
+        uint8_t a = lists[L_FILE].ref[i], b = lists[L_FILE].ref[j];
+        if (a != b) {
+            set_file_byte(i, b);
+            set_file_byte(j, a);
+            return true;
+        }
+    }
+    return false;
+}
+
+static bool change_literal(void)
+{
+    static size_t at[ROOM];
+    uint32_t count = operands(true, at);
+    if (count == 0)
+        return false;
+    size_t i = at[below(count)];
+    set_file_byte(i, lists[L_FILE].ref[i] + 1u + below(255));
+    return true;
+}
+
+/* Three literals at equal distances by k, -2k, k: both sums stay. */
+static bool balance_literals(void)
+{
+    static size_t at[ROOM];
+    uint32_t count = operands(true, at);
+    for (int tries = 0; tries < 200 && count > 2; tries++) {
+        uint32_t i = below(count - 2), j = one_in(2) ? i + 1 : i + 1 + below(count - 2 - i), m = j;
+        int32_t k = (one_in(2) ? 1 : -1) * (int32_t)(one_in(2) ? 1 : 1 + below(60));
+        while (m + 1 < count && at[m] < 2 * at[j] - at[i])
+            m++;
+        if (at[m] != 2 * at[j] - at[i])
+            continue;
+        const uint8_t *f = lists[L_FILE].ref;
+        int32_t a = f[at[i]] + k, b = f[at[j]] - 2 * k, c = f[at[m]] + k;
+        if (a >= 0 && a < 256 && b >= 0 && b < 256 && c >= 0 && c < 256) {
+            set_file_byte(at[i], (uint32_t)a);
+            set_file_byte(at[j], (uint32_t)b);
+            set_file_byte(at[m], (uint32_t)c);
+            return true;
+        }
+    }
+    return false;
+}
+
+static uint32_t count_heads(void)
+{
+    const list *l = &lists[L_FILE];
+    uint32_t heads = 0;
+    for (size_t i = 0; i < l->len; i += 1 + body_of(l->ref[i]))
+        heads += l->ref[i] == 240;
+    return heads;
+}
+
+/* A procedure behind the others. */
+static bool one_more(void)
+{
+    static const uint8_t least[] = { 240, 0, 0, 0, 0, 0, 0, 73 };
+    size_t n = lists[L_FILE].len;
+    if (n + sizeof least > 4096 || count_heads() == 64)
+        return false;
+    relend(L_FILE, n + sizeof least);
+    for (size_t i = 0; i < sizeof least; i++)
+        set_file_byte(n + i, least[i]);
+    return true;
+}
+
+static bool another_file(void)
+{
+    static maker other;
+    make_file(&other, 1 + below(4), 30 + below(250), 0);
+    lend_file(other.f, other.n > 4096 ? 4096 : other.n);
+    return true;
+}
+
+enum {
+    NEAR_SUMS, NEAR_LITERALS, NEAR_OPERANDS, NEAR_LITERAL, NEAR_EQUAL, NEAR_MORE, NEAR_OTHER,
+    MISPLACED
+};
+
+static counter misplaced[MISPLACED] = {
+    [NEAR_SUMS] = { "another sum", 0 },
+    [NEAR_LITERALS] = { "two literal bytes swapped", 0 },
+    [NEAR_OPERANDS] = { "two operand bytes swapped", 0 },
+    [NEAR_LITERAL] = { "another literal byte", 0 },
+    [NEAR_EQUAL] = { "three literal bytes, both sums kept", 0 },
+    [NEAR_MORE] = { "a procedure more", 0 },
+    [NEAR_OTHER] = { "another file", 0 }
+};
+
+/* The state is the file's no more, or does not show it (NEAR_EQUAL); false if there is no way. */
+static bool misplace(uint32_t how)
+{
+    switch (how) {
+    case NEAR_SUMS: damage_sums(); return true;
+    case NEAR_LITERALS: return swap_operands(true);
+    case NEAR_OPERANDS: return swap_operands(false);
+    case NEAR_LITERAL: return change_literal();
+    case NEAR_EQUAL: return balance_literals();
+    case NEAR_MORE: return one_more();
+    default: return another_file();
     }
 }
 
@@ -2056,6 +2413,41 @@ static uint32_t some_budget(void)
     case 6: return below(200);
     default: return 1000 + below(2000);
     }
+}
+
+/*
+ * A run with a sound state that is misplaced; now and then something else is
+ * wrong too. The lists are as before afterwards. Where the file's map is as it
+ * was, the state is sound for it: nothing but 13 may be told.
+ */
+static void misplaced_run(void)
+{
+    snapshot s = snap_take();
+    bool also = one_in(3);
+    uint32_t how = below(MISPLACED + 1) % MISPLACED; /* another sum twice as often */
+    if (also)
+        damage();
+    bool fits = lists[L_MAP].len >= 3 * lists[L_FILE].len;
+    if (misplace(how)) {
+        misplaced[how].count++;
+        if (fits && lists[L_MAP].len < 3 * lists[L_FILE].len)
+            relend(L_MAP, 3 * lists[L_FILE].len);
+        if (one_in(2))
+            fill_junk(L_MAP);
+        ref_reply r = both(RUN, some_budget());
+        if (!also && how == NEAR_EQUAL) {
+            if (r.kind == REF_REFUSED)
+                state_fault("a state with the file's sums, sound for it, is refused");
+            meet_state(EQUAL_SUMS, true);
+        } else if (!also && how != NEAR_OPERANDS && how != NEAR_OTHER
+                   && r.kind == REF_REFUSED && (r.number != 13 || behind.kind == REF_REFUSED)) {
+            state_fault("a state that is sound but for its sums is refused as another than 13");
+        }
+        if (one_in(4))
+            both(START, 0);
+    }
+    snap_restore(&s);
+    snap_free(&s);
 }
 
 /* A run in pieces ends as a run in one piece. */
@@ -2077,11 +2469,9 @@ static void run_again(const snapshot *ready, ref_reply last, uint32_t done)
     snap_free(&end);
 }
 
-static void one_case(void)
+/* The file, its map, and the check; true if it passes. */
+static bool check_case(void)
 {
-    chance = seed * 0x2545f4914f6cdd1du + case_no * 0x9e3779b97f4a7c15u;
-    chance ^= chance >> 29;
-    draw();
     choose_file();
     size_t n = lists[L_FILE].len;
     size_t map_len = 3 * n;
@@ -2095,12 +2485,9 @@ static void one_case(void)
     fill_junk(L_MAP);
     ref_reply r = both(CHECK, 0);
     bool valid = n > 0 && n <= 4096 && map_len >= 3 * n;
-    uint32_t heads = 0;
-    for (size_t i = 0; r.kind == REF_PASSED && i < n; i += 1 + body_of(lists[L_FILE].ref[i]))
-        heads += lists[L_FILE].ref[i] == 240;
     edges[0] += n == 4096 && r.kind == REF_PASSED;
     edges[1] += n == 4097;
-    edges[2] += heads == 64;
+    edges[2] += r.kind == REF_PASSED && count_heads() == 64;
     edges[3] += r.kind == REF_REFUSED && r.number == 4 && g.procs == 65;
     edges[4] += n == 0;
     if ((!strcmp(file_sort, "valid") || !strcmp(file_sort, "long"))
@@ -2109,14 +2496,20 @@ static void one_case(void)
                " case %" PRIu64 "\n", r.number, r.place, seed, case_no);
         exit(1);
     }
+    return r.kind == REF_PASSED;
+}
 
+/* A register list that 13 is for more often where a refusal before it comes first. */
+static void lend_lists(bool passed)
+{
+    size_t n = lists[L_FILE].len;
     uint32_t x = n > 6 ? lists[L_FILE].ref[5] : 1, y = n > 6 ? lists[L_FILE].ref[6] : 1;
     lend(L_MAIN, around(x == 0 ? 1 : x, 4096, 80));
     lend(L_PTR, around(y == 0 ? 1 : y, 4096, 60));
     lend(L_CTL, around(5, 1280, one_in(4) ? 300 : 60));
     lend(L_HEAP, one_in(60) ? 16384
          : around(2, 16384, one_in(40) ? 16383 : one_in(10) ? 2000 : one_in(2) ? 60 : 400));
-    lend(L_REGS, one_in(60) ? below(60) : 28);
+    lend(L_REGS, one_in(passed ? 60 : 8) ? odd_registers() : REG_BYTES);
     fill_junk(L_MAIN);
     fill_junk(L_PTR);
     fill_junk(L_CTL);
@@ -2124,14 +2517,59 @@ static void one_case(void)
     fill_heap();
     if (one_in(20))
         damage_heap();
+}
+
+/* A run of what no start has made, mostly with the file's sums: else 13 would hide the rest. */
+static void run_unstarted(void)
+{
+    if (!one_in(4))
+        sign();
+    both(RUN, some_budget());
+}
+
+/* A run with damage, and a start now and then; true if the damage is kept. */
+static bool damaged_run(void)
+{
+    snapshot s = snap_take();
+    uint32_t hits = one_in(5) ? 2 : 1;
+    for (uint32_t k = 0; k < hits; k++)
+        damage();
+    ref_reply r = both(RUN, some_budget());
     if (one_in(10))
-        both(RUN, some_budget()); /* never started */
-    r = both(START, 0);
-    if (r.kind != REF_READY) {
+        both(START, 0);
+    bool kept = one_in(4) && r.kind != REF_REFUSED;
+    if (!kept)
+        snap_restore(&s);
+    snap_free(&s);
+    return kept;
+}
+
+/* Beyond the end of a run, finished or not caught. */
+static void run_on(void)
+{
+    both(RUN, some_budget()); /* once more from there */
+    if (one_in(3))
+        misplaced_run();
+    if (one_in(2)) {
+        damage();
         both(RUN, some_budget());
+    }
+}
+
+static void one_case(void)
+{
+    chance = seed * 0x2545f4914f6cdd1du + case_no * 0x9e3779b97f4a7c15u;
+    chance ^= chance >> 29;
+    draw();
+    lend_lists(check_case());
+    if (one_in(10))
+        run_unstarted();
+    if (one_in(4))
+        fill_junk(L_MAP);
+    if (both(START, 0).kind != REF_READY) {
+        run_unstarted();
         return;
     }
-
     snapshot ready = snap_take();
     bool whole = true; /* no damage kept so far */
     uint32_t done = 0, turns = 1 + below(8);
@@ -2139,30 +2577,16 @@ static void one_case(void)
     if (single)
         turns += 20;
     for (uint32_t i = 0; i < turns; i++) {
-        if (one_in(3)) {
-            snapshot s = snap_take();
-            uint32_t hits = one_in(5) ? 2 : 1;
-            for (uint32_t k = 0; k < hits; k++)
-                damage();
-            r = both(RUN, some_budget());
-            if (one_in(10))
-                both(START, 0);
-            if (one_in(4) && r.kind != REF_REFUSED)
-                whole = false;
-            else
-                snap_restore(&s);
-            snap_free(&s);
-        }
-        r = both(RUN, single && !one_in(6) ? 1 : some_budget());
+        if (one_in(3) && damaged_run())
+            whole = false;
+        if (one_in(8))
+            misplaced_run();
+        ref_reply r = both(RUN, single && !one_in(6) ? 1 : some_budget());
         done += r.steps;
         if (r.kind == REF_FINISHED || r.kind == REF_UNCAUGHT) {
             if (whole)
                 run_again(&ready, r, done);
-            both(RUN, some_budget()); /* and once more from there */
-            if (one_in(2)) {
-                damage();
-                both(RUN, some_budget());
-            }
+            run_on();
             break;
         }
         if (r.kind == REF_REFUSED)
@@ -2185,34 +2609,49 @@ static const char *const damage_name[] = {
     "another place", "a vector's operands"
 };
 
-static void heap_line(const char *title, int from, int to)
+static void counter_line(const char *title, const counter *c, int from, int to)
 {
     printf("%s", title);
     for (int i = from; i <= to; i++)
-        printf(" %s %" PRIu64 "%s", heap_met[i].name, heap_met[i].count, i < to ? "," : "\n");
+        printf(" %s %" PRIu64 "%s", c[i].name, c[i].count, i < to ? "," : "\n");
 }
 
 static void heap_table(void)
 {
-    heap_line("refused 11, the word named:", AT_MARK, AT_FREE);
-    heap_line("refused 11, the fault:", MARK_LOW, LAST_OF_ALL);
-    heap_line("refused 11, two faults:", MARK_ROOT, FREE_FREE);
-    heap_line("refused 11, vectors:", PLAIN_POINTERS, BAD_ELEMENT);
-}
-
-static void vector_line(const char *title, int from, int to)
-{
-    printf("%s", title);
-    for (int i = from; i <= to; i++)
-        printf(" %s %" PRIu64 "%s", vector_met[i].name, vector_met[i].count, i < to ? "," : "\n");
+    counter_line("refused 11, the word named:", heap_met, AT_MARK, AT_FREE);
+    counter_line("refused 11, the fault:", heap_met, MARK_LOW, LAST_OF_ALL);
+    counter_line("refused 11, two faults:", heap_met, MARK_ROOT, FREE_FREE);
+    counter_line("refused 11, vectors:", heap_met, PLAIN_POINTERS, BAD_ELEMENT);
 }
 
 static void vector_table(void)
 {
-    vector_line("exception 6:", INDEX_LOW, OTHER_KIND);
-    vector_line("80 to 85, raised:", INDEX_WRAPS, WORD_SHORT);
-    vector_line("80 to 85, done:", FIT_EXACT, VALUE_NIL);
-    vector_line("32 and 33 on vectors:", PLAIN_BOUND, POINTERS_SET);
+    counter_line("exception 6:", vector_met, INDEX_LOW, OTHER_KIND);
+    counter_line("80 to 85, raised:", vector_met, INDEX_WRAPS, WORD_SHORT);
+    counter_line("80 to 85, done:", vector_met, FIT_EXACT, VALUE_NIL);
+    counter_line("32 and 33 on vectors:", vector_met, PLAIN_BOUND, POINTERS_SET);
+}
+
+/* By start, then by run. */
+static void state_table(void)
+{
+    for (int call = START; call <= RUN; call++) {
+        printf("refused 13 by %s, bytes of registers:", call_name[call]);
+        for (int k = 0; k < ODD_LENGTHS; k++)
+            printf(" %zu: %" PRIu64 ",", odd_lengths[k], by_length[call][k]);
+        printf(" others: %" PRIu64 "\n", by_length[call][ODD_LENGTHS]);
+    }
+    counter_line("refused 13 by run, the sum:", state_met, FIRST_ALONE, EXCHANGED);
+    counter_line("refused 13 by run, a sum in a sound state:", state_met, WHEN_FINISHED,
+                 WITH_BUDGET_0);
+    for (int call = START; call <= RUN; call++) {
+        int most = call == START ? 11 : 12;
+        printf("due with 13, %s:", call_name[call]);
+        for (int k = 1; k <= most; k++)
+            printf(" %d: %" PRIu64 "%s", k, beside[call][k], k < most ? "," : "\n");
+    }
+    counter_line("states misplaced:", misplaced, 0, MISPLACED - 1);
+    counter_line("gone on:", state_met, FIRST_LONG, EQUAL_SUMS);
 }
 
 static void table(void)
@@ -2237,9 +2676,10 @@ static void table(void)
     for (int k = 0; k < 5; k++)
         printf("%-12s %12" PRIu64 " %12" PRIu64 " %12" PRIu64 "\n", kind_name[k],
                answers[0][k], answers[1][k], answers[2][k]);
-    for (int k = 1; k <= 12; k++)
+    for (int k = 1; k <= 13; k++)
         printf("refused %-4d %12" PRIu64 " %12" PRIu64 " %12" PRIu64 "\n", k,
                refusals[0][k], refusals[1][k], refusals[2][k]);
+    state_table();
     heap_table();
     printf("uncaught codes:");
     for (int k = 1; k <= 6; k++)
@@ -2267,6 +2707,31 @@ static bool met_number(const char *group, int number, uint64_t count)
     return met(group, name, count);
 }
 
+static bool all_counted(const char *group, const counter *c, int count)
+{
+    bool all = true;
+    for (int i = 0; i < count; i++)
+        all = met(group, c[i].name, c[i].count) && all;
+    return all;
+}
+
+/* Of refusal 13: by each length, by each sum, with each other refusal that the call can give. */
+static bool all_states(void)
+{
+    static const char *const length[] = { "", "13 by start, bytes", "13 by run, bytes" };
+    static const char *const with[] = { "", "due with 13, start", "due with 13, run" };
+    bool all = all_counted("registers", state_met, STATE_COUNTERS);
+    all = all_counted("states misplaced", misplaced, MISPLACED) && all;
+    for (int call = START; call <= RUN; call++) {
+        for (int k = 0; k < ODD_LENGTHS; k++)
+            all = met_number(length[call], (int)odd_lengths[k], by_length[call][k]) && all;
+        all = met(length[call], "others", by_length[call][ODD_LENGTHS]) && all;
+        for (int k = 1; k <= (call == START ? 11 : 12); k++)
+            all = met_number(with[call], k, beside[call][k]) && all;
+    }
+    return all;
+}
+
 /* Nothing that the table counts is 0. */
 static bool all_met(void)
 {
@@ -2275,19 +2740,18 @@ static bool all_met(void)
         "4,096 bytes and passed", "4,097 bytes", "64 procedures and passed",
         "65 procedures refused as 4", "0 bytes"
     };
-    bool all = true;
+    bool all = all_states();
     for (int call = CHECK; call <= RUN; call++)
-        for (int k = 1; k <= (call == CHECK ? 9 : 12); k++)
-            all = met_number(by[call], k, refusals[call][k]) && all;
+        for (int k = 1; k <= (call == CHECK ? 9 : 13); k++)
+            if (call != START || k != 12) /* start has no state to judge */
+                all = met_number(by[call], k, refusals[call][k]) && all;
     for (int k = 1; k <= 6; k++)
         all = met_number("uncaught", k, raised[k]) && all;
-    for (int i = 0; i < VECTOR_COUNTERS; i++)
-        all = met("vectors", vector_met[i].name, vector_met[i].count) && all;
+    all = all_counted("vectors", vector_met, VECTOR_COUNTERS) && all;
     for (size_t i = 0; i < sizeof kinds; i++)
         if (kinds[i] != 240)
             all = met_number("single step", kinds[i], stepped[kinds[i]]) && all;
-    for (int i = 0; i < HEAP_COUNTERS; i++)
-        all = met("refused 11", heap_met[i].name, heap_met[i].count) && all;
+    all = all_counted("refused 11", heap_met, HEAP_COUNTERS) && all;
     for (int i = 0; i < 7; i++)
         all = met("files", made_name[i], made[i]) && all;
     for (int i = 0; i < 16; i++)

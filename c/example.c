@@ -1,7 +1,8 @@
 /*
  * A small controller: loads a code file (or a built-in sample), checks it,
  * starts it and runs it stroke by stroke, a budget of 100 steps each. Prints
- * what the panel would show.
+ * what the panel would show. With the sample it also takes the state for
+ * another routine's, once: that is refused, and the sample goes on.
  *   example [FILE]
  */
 #include "yalgovim.h"
@@ -50,6 +51,9 @@ static const uint8_t sample[] = {
     /* 83 */ 73
 };
 
+/* The routine that is mixed up with it: it returns at once. */
+static const uint8_t other[] = { 240, 0, 0, 0, 0, 0, 0, 73 };
+
 static const char *refusal_words(uint32_t number)
 {
     static const char *const words[] = {
@@ -65,7 +69,8 @@ static const char *refusal_words(uint32_t number)
         "leads to a place that is reached with other depths or handlers",
         "a lent list is too short or too long",
         "the heap is damaged",
-        "the registers, stacks or control records are damaged"
+        "the registers, stacks or control records are damaged",
+        "the state belongs to another file, or the register list has not 36 bytes"
     };
     return number < LENGTH(words) ? words[number] : "unknown refusal";
 }
@@ -83,7 +88,7 @@ static const char *exception_words(uint32_t code)
     }
 }
 
-/* The seven registers, most significant byte first. */
+/* The nine registers, most significant byte first. */
 static uint32_t reg(size_t i)
 {
     const uint8_t *b = registers + 4 * i;
@@ -126,15 +131,20 @@ static size_t load(int argc, char **argv)
     return n;
 }
 
-int main(int argc, char **argv)
+static yalgovim_reply run(const uint8_t *code, size_t n, uint32_t budget)
 {
-    size_t n = load(argc, argv);
-    if (n == SIZE_MAX)
-        return 2;
+    return yalgovim_run(code, n, map, LENGTH(map), main_stack, LENGTH(main_stack),
+                        ptr_stack, LENGTH(ptr_stack), ctl_stack, LENGTH(ctl_stack),
+                        heap, LENGTH(heap), registers, sizeof registers, budget);
+}
+
+/* Checked and started: the state in the lists is this file's from here on. */
+static bool begin(size_t n)
+{
     yalgovim_reply r = yalgovim_check(file, n, map, LENGTH(map));
     if (r.kind != YALGOVIM_PASSED) {
         show_refusal("check", r);
-        return 1;
+        return false;
     }
     printf("check: passed, %zu bytes\n", n);
 
@@ -144,15 +154,18 @@ int main(int argc, char **argv)
                        heap, LENGTH(heap), registers, sizeof registers);
     if (r.kind != YALGOVIM_READY) {
         show_refusal("start", r);
-        return 1;
+        return false;
     }
     printf("start: ready\n");
+    return true;
+}
 
+/* Stroke by stroke; 0 if it finishes. */
+static int strokes(size_t n)
+{
     uint64_t steps = 0;
     for (unsigned stroke = 1; stroke <= STROKES; stroke++) {
-        r = yalgovim_run(file, n, map, LENGTH(map), main_stack, LENGTH(main_stack),
-                         ptr_stack, LENGTH(ptr_stack), ctl_stack, LENGTH(ctl_stack),
-                         heap, LENGTH(heap), registers, sizeof registers, STROKE);
+        yalgovim_reply r = run(file, n, STROKE);
         steps += r.steps;
         printf("stroke %u: ", stroke);
         switch (r.kind) {
@@ -176,4 +189,16 @@ int main(int argc, char **argv)
     }
     printf("STOPPED by the controller: not finished after %d strokes\n", STROKES);
     return 1;
+}
+
+int main(int argc, char **argv)
+{
+    size_t n = load(argc, argv);
+    if (n == SIZE_MAX)
+        return 2;
+    if (!begin(n))
+        return 1;
+    if (argc < 2) /* a refusal leaves the state as it is */
+        show_refusal("run of another routine", run(other, sizeof other, STROKE));
+    return strokes(n);
 }

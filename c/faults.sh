@@ -156,8 +156,129 @@ plant "a pointer vector a word short let pass" 's/size != 3 + pointers/size > 3 
 plant "a pointer vector a word long let pass" 's/size != 3 + pointers/size < 3 + pointers/'
 plant "a pointer vector's size named by its header" 's/(kind == PLAIN \&\& pointers > 0)/(kind == PLAIN \&\& pointers > 0) || (kind == POINTERS \&\& at + 1 < mark \&\& heap[at + 1] != 3 + pointers)/'
 plant "kind 4 let pass" 's/kind > POINTERS/kind > 4/'
-plant "a pointer vector's elements not judged" 's/^        size_t plain = at + 2 + (heap\[at\] \& 0xffffffu);/        size_t plain = at + 2 + (heap[at] >> 24 == POINTERS ? 0 : heap[at] \& 0xffffffu);/'
-plant "a pointer vector's bound judged as a pointer" 's/^        size_t plain = at + 2 + (heap\[at\] \& 0xffffffu);/        size_t plain = at + 2 + (heap[at] \& 0xffffffu) + (heap[at] >> 24 == POINTERS);/'
+plant "a pointer vector's elements not judged" \
+    '/^        size_t plain = /s/(heap\[at\] \& 0xffffffu)/(heap[at] >> 24 == POINTERS ? 0 : heap[at] \& 0xffffffu)/'
+plant "a pointer vector's bound judged as a pointer" \
+    '/^        size_t plain = /s/(heap\[at\] \& 0xffffffu)/& + (heap[at] >> 24 == POINTERS)/'
+# Order 3, the state belongs to its file. The tests' order: in run,
+run13='^    if (regs_len != REG_BYTES || sums_differ(regs, file, file_len))'
+start13='^    if (regs_len != REG_BYTES)$'
+lengths='lengths_fault(file, main_len, ptr_len, ctl_len, heap_len)'
+plant "run: 13 after 10" "s/$run13/    if ($lengths)\\
+        return refused(10, 0);\\
+&/"
+plant "run: 13 after 11" "s/$run13/    if (!$lengths \\&\\& heap_fault(heap, heap_len, objects, \\&fault))\\
+        return refused(11, fault);\\
+&/"
+plant "run: 13 after 12" "s/$run13/    if (regs_len == REG_BYTES \\&\\& !$lengths \\&\\& !heap_fault(heap, heap_len, objects, \\&fault)) {\\
+        registers first = read_registers(regs);\\
+        if (!state_sound(file, file_len, map, \\&lay, main_stack, main_len, ptr_stack, ptr_len,\\
+                         ctl_stack, ctl_len, objects, heap_len, \\&first))\\
+            return refused(12, 0);\\
+    }\\
+&/"
+plant "run: 13 before 9" '/^ref_reply ref_run/,/^}/s/^    if (checked.kind != REF_PASSED)/    if (checked.number == 9 \&\& (regs_len != REG_BYTES || sums_differ(regs, file, file_len)))\
+        return refused(13, 0);\
+&/'
+plant "run: 13 before 1" '/^ref_reply ref_run/,/^}/s/^    layout lay;/    if (regs_len != REG_BYTES || sums_differ(regs, file, file_len))\
+        return refused(13, 0);\
+&/'
+# in start,
+plant "start: 13 after 10" "s/$start13/    if ($lengths)\\
+        return refused(10, 0);\\
+&/"
+plant "start: 13 after 11" "s/$start13/    if (!$lengths \\&\\& heap_fault(heap, heap_len, objects, \\&place))\\
+        return refused(11, place);\\
+&/"
+plant "start: 13 before 9" '/^ref_reply ref_start/,/^}/s/^    if (checked.kind != REF_PASSED)/    if (checked.number == 9 \&\& regs_len != REG_BYTES)\
+        return refused(13, 0);\
+&/'
+# the length,
+plant "run: 12 for the length" "s/$run13/    if (regs_len != REG_BYTES)\\
+        return refused(12, 0);\\
+&/"
+plant "run: 12 for the length, after 11" "s/$run13/    if (regs_len == REG_BYTES \\&\\& sums_differ(regs, file, file_len))/
+    s/^    registers reg = read_registers(regs);/    if (regs_len != REG_BYTES)\\
+        return refused(12, 0);\\
+&/"
+plant "start: 12 for the length" "/$start13/{n;s/13/12/;}"
+plant "run: 28 bytes let pass" "s/$run13/    if (regs_len != 28 \\&\\& (regs_len != REG_BYTES || sums_differ(regs, file, file_len)))/"
+plant "start: 28 bytes let pass" "s/$start13/    if (regs_len != REG_BYTES \\&\\& regs_len != 28)/
+    s/^    write_sums(regs, file, file_len);/    if (regs_len == REG_BYTES)\\
+        write_sums(regs, file, file_len);/"
+plant "run: more than 36 bytes let pass" "s/$run13/    if (regs_len < REG_BYTES || sums_differ(regs, file, file_len))/"
+plant "start: more than 36 bytes let pass" "s/$start13/    if (regs_len < REG_BYTES)/"
+plant "run: place 1" "/$run13/{n;s/13, 0/13, 1/;}"
+plant "start: place 1" "/$start13/{n;s/13, 0/13, 1/;}"
+# what is compared, and when,
+plant "only the first sum compared" 's/^        || word_of_bytes(regs + SUM_OF_SUMS_AT) != sums.sum_of_sums;/        ;/'
+plant "only the second sum compared" 's/return word_of_bytes(regs + SUM_AT) != sums.sum$/return 0/'
+plant "13 only if both sums differ" 's/|| word_of_bytes(regs + SUM_OF_SUMS_AT)/\&\& word_of_bytes(regs + SUM_OF_SUMS_AT)/'
+plant "the first sum compared in 16 bits" 's/word_of_bytes(regs + SUM_AT) != sums.sum$/(uint16_t)(word_of_bytes(regs + SUM_AT) ^ sums.sum) != 0/'
+plant "the second sum compared in 16 bits" 's/word_of_bytes(regs + SUM_OF_SUMS_AT) != sums.sum_of_sums/(uint16_t)(word_of_bytes(regs + SUM_OF_SUMS_AT) ^ sums.sum_of_sums) != 0/'
+plant "no sum compared when finished" "s/$run13/    if (regs_len != REG_BYTES || (regs[27] != 1 \\&\\& sums_differ(regs, file, file_len)))/"
+plant "no sum compared at budget 0" "s/$run13/    if (regs_len != REG_BYTES || (budget != 0 \\&\\& sums_differ(regs, file, file_len)))/"
+plant "start compares the sums" "s/$start13/    if (regs_len != REG_BYTES || sums_differ(regs, file, file_len))/"
+# the sums themselves,
+sums='^    ref_sums sums = ref_sums_of(file, file_len);'
+plant "both sums without the last byte" 's/ref_sums_of(file, file_len)/ref_sums_of(file, file_len - 1)/'
+plant "the second sum without the last sum" "s/$sums/&\\
+    sums.sum_of_sums -= sums.sum;/"
+plant "the second sum without the first sum" "s/$sums/&\\
+    sums.sum_of_sums -= file[0];/"
+plant "the last sum twice in the second sum" "s/$sums/&\\
+    sums.sum_of_sums += sums.sum;/"
+plant "bytes taken as signed" "s/$sums/&\\
+    for (size_t i = 0; i < file_len; i++)\\
+        sums.sum -= file[i] > 127 ? 256 : 0;/"
+plant "the first sum in 16 bits" "s/$sums/&\\
+    sums.sum \\&= 65535;/"
+plant "the second sum in 24 bits" "s/$sums/&\\
+    sums.sum_of_sums \\&= 16777215;/"
+plant "the sums' least significant byte first" "s/$sums/&\\
+    sums.sum = __builtin_bswap32(sums.sum);\\
+    sums.sum_of_sums = __builtin_bswap32(sums.sum_of_sums);/"
+# and what is written.
+plant "start does not write the sums" 's/^    write_sums(regs, file, file_len);//'
+plant "start does not write the second sum" 's/^    bytes_of_word(regs + SUM_OF_SUMS_AT, sums.sum_of_sums);//'
+plant "start writes the sums exchanged" '/^static void write_sums/,/^}/{
+    s/sums\.sum_of_sums/sums.first/
+    s/sums\.sum)/sums.sum_of_sums)/
+    s/sums\.first/sums.sum/
+    }'
+plant "a start refused as 10 writes the sums" "/$start13/{n;s/\$/\\
+    write_sums(regs, file, file_len);/;}"
+plant "run clears the sums" 's/^    write_registers(regs, &reg); .*/&\
+    memset(regs + SUM_AT, 0, 8);/'
+plant "run clears the sums when it finishes" 's/^    write_registers(regs, &reg); .*/&\
+    if (reg.state == 1)\
+        memset(regs + SUM_AT, 0, 8);/'
+plant "run clears the sums when nothing catches" 's/^    write_registers(regs, &reg); .*/&\
+    if (ending.kind == REF_UNCAUGHT)\
+        memset(regs + SUM_AT, 0, 8);/'
+plant "13 writes the file's sums" "s/$run13/    if (regs_len == REG_BYTES \\&\\& sums_differ(regs, file, file_len)) {\\
+        write_sums(regs, file, file_len);\\
+        return refused(13, 0);\\
+    }\\
+&/"
+plant "run: 13 fills the map" "s/$run13/&\\
+        clear_map(map, file_len);\\
+&/"
+plant "start: 13 fills the map" "s/$start13/&\\
+        clear_map(map, file_len);\\
+&/"
+old='static uint16_t old[3 * FILE_MAX];\
+    size_t kept = map_len < 3 * FILE_MAX ? map_len : 3 * FILE_MAX;\
+    memcpy(old, map, 2 * kept);\
+'
+plant "run: 13 leaves the old map" "/^ref_reply ref_run/,/^}/s/^    layout lay;/    $old&/
+    s/$run13/&\\
+        memcpy(map, old, 2 * kept);\\
+&/"
+plant "start: 13 leaves the old map" "/^ref_reply ref_start/,/^}/s/^    layout lay;/    $old&/
+    s/$start13/&\\
+        memcpy(map, old, 2 * kept);\\
+&/"
 # The rest.
 plant "wrong place of an uncaught exception" 's/REF_UNCAUGHT, exception, place, steps/REF_UNCAUGHT, exception, place + 1, steps/'
 plant "a popped word not zeroed" 's/^    list\[\*top\] = 0;/    (void)list;/'

@@ -11,7 +11,9 @@ enum {
     HEAP_MAX = 16384,
     RECORD = 5,     /* words of a control record */
     HEAD_SIZE = 7,  /* kind byte and six bytes */
-    REG_BYTES = 28,
+    REG_BYTES = 36, /* seven registers, the file's two sums (order 3) */
+    SUM_AT = 28,
+    SUM_OF_SUMS_AT = 32,
     NONE = 65535,   /* map: no instruction, no open handler */
     NO_OWNER = 255  /* owner: no instruction starts here */
 };
@@ -672,7 +674,7 @@ static bool records_sound(const uint8_t *file, size_t file_len, const uint16_t *
     }
 }
 
-/* 12 in run */
+/* 12: registers, stacks and records; run alone tests it */
 static bool state_sound(const uint8_t *file, size_t file_len, const uint16_t *map,
                         const layout *lay,
                         const uint32_t *main_stack, size_t main_len,
@@ -712,6 +714,7 @@ static void bytes_of_word(uint8_t *b, uint32_t word)
     b[3] = (uint8_t)word;
 }
 
+/* The seven registers; the sums behind them are no part of the machine's steps. */
 static registers read_registers(const uint8_t *b)
 {
     registers reg;
@@ -736,6 +739,23 @@ static void write_registers(uint8_t *b, const registers *reg)
     bytes_of_word(b + 24, reg->state);
 }
 
+/* ---- the state belongs to its file (order 3): refusal 13 ---- */
+
+static void write_sums(uint8_t *regs, const uint8_t *file, size_t file_len)
+{
+    ref_sums sums = ref_sums_of(file, file_len);
+    bytes_of_word(regs + SUM_AT, sums.sum);
+    bytes_of_word(regs + SUM_OF_SUMS_AT, sums.sum_of_sums);
+}
+
+/* 13 in run: either sum differs. */
+static bool sums_differ(const uint8_t *regs, const uint8_t *file, size_t file_len)
+{
+    ref_sums sums = ref_sums_of(file, file_len);
+    return word_of_bytes(regs + SUM_AT) != sums.sum
+        || word_of_bytes(regs + SUM_OF_SUMS_AT) != sums.sum_of_sums;
+}
+
 /* ---- start ---- */
 
 ref_reply ref_start(const uint8_t *file, size_t file_len,
@@ -752,12 +772,13 @@ ref_reply ref_start(const uint8_t *file, size_t file_len,
     ref_reply checked = check_file(file, file_len, map, map_len, &lay);
     if (checked.kind != REF_PASSED)
         return checked;
+    /* 13 after 9 and before 10; of what the registers hold nothing counts */
+    if (regs_len != REG_BYTES)
+        return refused(13, 0);
     if (lengths_fault(file, main_len, ptr_len, ctl_len, heap_len))
         return refused(10, 0);
     if (heap_fault(heap, heap_len, objects, &place))
         return refused(11, place);
-    if (regs_len != REG_BYTES)
-        return refused(12, 0);
 
     memset(main_stack, 0, main_len * sizeof *main_stack);
     memset(ptr_stack, 0, ptr_len * sizeof *ptr_stack);
@@ -765,6 +786,7 @@ ref_reply ref_start(const uint8_t *file, size_t file_len,
     memset(ctl_stack, 0, ctl_len * sizeof *ctl_stack);
     registers reg = { HEAD_SIZE, 1, 0, 0, 0, RECORD, 0 };
     write_registers(regs, &reg);
+    write_sums(regs, file, file_len);
     return answer(REF_READY, 0, 0, 0);
 }
 
@@ -839,12 +861,13 @@ ref_reply ref_run(const uint8_t *file, size_t file_len,
     ref_reply checked = check_file(file, file_len, map, map_len, &lay);
     if (checked.kind != REF_PASSED)
         return checked;
+    /* 13 after 9 and before 10, whatever state and budget */
+    if (regs_len != REG_BYTES || sums_differ(regs, file, file_len))
+        return refused(13, 0);
     if (lengths_fault(file, main_len, ptr_len, ctl_len, heap_len))
         return refused(10, 0);
     if (heap_fault(heap, heap_len, objects, &fault))
         return refused(11, fault);
-    if (regs_len != REG_BYTES)
-        return refused(12, 0);
     registers reg = read_registers(regs);
     if (!state_sound(file, file_len, map, &lay, main_stack, main_len, ptr_stack, ptr_len,
                      ctl_stack, ctl_len, objects, heap_len, &reg))
@@ -1329,6 +1352,6 @@ done:
     reg.main_top = mt;
     reg.ptr_top = pt;
     reg.ctl_top = ct;
-    write_registers(regs, &reg);
+    write_registers(regs, &reg); /* the sums stay */
     return ending;
 }

@@ -37,11 +37,34 @@ typedef struct {
     uint32_t steps;  /* for finished, spent and uncaught; else 0 */
 } ref_reply;
 
+/*
+ * Order 3: the sum of the bytes, and the sum of that sum after each byte.
+ * At most 255 * 4096 and 255 * 4096 * 4097 / 2 in a file: both fit a word.
+ * Defined here so that the tests reach it.
+ */
+typedef struct {
+    uint32_t sum;
+    uint32_t sum_of_sums;
+} ref_sums;
+
+static inline ref_sums ref_sums_of(const uint8_t *bytes, size_t len)
+{
+    ref_sums sums = { 0, 0 };
+    for (size_t i = 0; i < len; i++) {
+        sums.sum += bytes[i];
+        sums.sum_of_sums += sums.sum;
+    }
+    return sums;
+}
+
 /* Tests 1 to 9. */
 ref_reply ref_check(const uint8_t *file, size_t file_len,
                     uint16_t *map, size_t map_len);
 
-/* Tests 1 to 12, then zeroes the stacks, writes first frame and registers. */
+/*
+ * Tests 1 to 9, of 13 the register list's length (36 bytes), 10 and 11, then
+ * zeroes the stacks, writes first frame, registers and the file's sums.
+ */
 ref_reply ref_start(const uint8_t *file, size_t file_len,
                     uint16_t *map, size_t map_len,
                     uint32_t *main_stack, size_t main_len,
@@ -50,7 +73,7 @@ ref_reply ref_start(const uint8_t *file, size_t file_len,
                     uint32_t *heap, size_t heap_len,
                     uint8_t *regs, size_t regs_len);
 
-/* Tests 1 to 12, then runs at most budget steps. */
+/* Tests 1 to 9, 13, 10, 11 and 12, then runs at most budget steps. The sums stay. */
 ref_reply ref_run(const uint8_t *file, size_t file_len,
                   uint16_t *map, size_t map_len,
                   uint32_t *main_stack, size_t main_len,

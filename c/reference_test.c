@@ -10,7 +10,7 @@
 #include <stdlib.h>
 #include <string.h>
 
-enum { N = 65535 };
+enum { N = 65535, REG_BYTES = 36 };
 
 static unsigned long checks, failures;
 
@@ -38,7 +38,7 @@ typedef struct {
 } rig;
 
 enum { MAIN, PTR, CTL, HEAP, REGS };
-enum { PLACE, FRAME, HANDLER, MTOP, PTOP, CTOP, STATE };
+enum { PLACE, FRAME, HANDLER, MTOP, PTOP, CTOP, STATE, SUM, SUM_OF_SUMS, REG_WORDS };
 
 static void *take(size_t bytes)
 {
@@ -80,7 +80,7 @@ static rig rig_new(const uint8_t *file, size_t file_len, size_t map_len,
 /* The bench program's lists. */
 static rig bench_rig(const uint8_t *file, size_t file_len)
 {
-    return rig_new(file, file_len, 3 * 4096, 256, 256, 250, 1024, 28);
+    return rig_new(file, file_len, 3 * 4096, 256, 256, 250, 1024, REG_BYTES);
 }
 
 static void rig_free(rig *g)
@@ -103,15 +103,21 @@ static bool same_bytes(const void *a, const void *b, size_t bytes)
     return bytes == 0 || memcmp(a, b, bytes) == 0;
 }
 
-static rig rig_copy(const rig *g)
+/* The lists of g with another file; registers of another length are cut, or have junk behind. */
+static rig relend(const rig *g, const uint8_t *file, size_t file_len, size_t regs_len)
 {
-    rig c = rig_new(g->file, g->file_len, g->map_len, g->len[MAIN], g->len[PTR],
-                    g->len[CTL], g->len[HEAP], g->regs_len);
+    rig c = rig_new(file, file_len, g->map_len, g->len[MAIN], g->len[PTR],
+                    g->len[CTL], g->len[HEAP], regs_len);
     copy(c.map, g->map, g->map_len * 2);
     for (int l = 0; l < 4; l++)
         copy(c.list[l], g->list[l], g->len[l] * 4);
-    copy(c.regs, g->regs, g->regs_len);
+    copy(c.regs, g->regs, regs_len < g->regs_len ? regs_len : g->regs_len);
     return c;
+}
+
+static rig rig_copy(const rig *g)
+{
+    return relend(g, g->file, g->file_len, g->regs_len);
 }
 
 static bool same_map(const rig *a, const rig *b)
@@ -144,6 +150,34 @@ static void set_reg(rig *g, size_t i, uint32_t v)
 {
     for (size_t k = 0; k < 4; k++)
         g->regs[4 * i + k] = (uint8_t)(v >> (24 - 8 * k));
+}
+
+/*
+ * The file's sums (order 3), another way: byte i is in the sums after bytes i
+ * to length - 1, so it is length - i times in the sum of sums.
+ */
+static void sums_by_weight(const rig *g, uint64_t *sum, uint64_t *sum_of_sums)
+{
+    *sum = *sum_of_sums = 0;
+    for (size_t i = 0; i < g->file_len; i++) {
+        *sum += g->file[i];
+        *sum_of_sums += (uint64_t)g->file[i] * (g->file_len - i);
+    }
+}
+
+static void put_sums(rig *g)
+{
+    uint64_t sum, sum_of_sums;
+    sums_by_weight(g, &sum, &sum_of_sums);
+    set_reg(g, SUM, (uint32_t)sum);
+    set_reg(g, SUM_OF_SUMS, (uint32_t)sum_of_sums);
+}
+
+static bool has_sums(const rig *g)
+{
+    uint64_t sum, sum_of_sums;
+    sums_by_weight(g, &sum, &sum_of_sums);
+    return reg_of(g, SUM) == sum && reg_of(g, SUM_OF_SUMS) == sum_of_sums;
 }
 
 static uint32_t word_of(const rig *g, int list, size_t i)
@@ -197,10 +231,11 @@ static int32_t signed_of(uint32_t w)
     return w < 0x80000000u ? (int32_t)w : -(int32_t)(0xffffffffu - w) - 1;
 }
 
-/* What run leaves is sound, and a run of no step leaves it alone. */
+/* What run leaves is sound, with the file's sums, and a run of no step leaves it alone. */
 static void expect_sound(int line, const rig *g)
 {
     rig again = rig_copy(g);
+    expect(has_sums(g), line, "run keeps the sums");
     uint32_t kind = reg_of(g, STATE) == 1 ? REF_FINISHED : REF_SPENT;
     expect(is(do_run(&again, 0), kind, 0, 0, 0), line, "run leaves a sound state");
     expect(same_rig(&again, g), line, "no step changes nothing");
@@ -247,11 +282,12 @@ static void expect_bench(int line, const char *want, const uint8_t *file, size_t
 
 /* ---- refusals 1 to 9 by all three calls, and what they write ---- */
 
-static void expect_refusal(int line, uint32_t number, uint32_t place,
-                           const uint8_t *file, size_t file_len)
+/* The registers hold junk: in run 13 is behind each of these. */
+static void refusal_with(int line, uint32_t number, uint32_t place,
+                         const uint8_t *file, size_t file_len, size_t map_len, size_t regs_len)
 {
     for (int call = 0; call < 3; call++) {
-        rig g = rig_new(file, file_len, 3 * file_len + 4, 9, 9, 9, 9, 28);
+        rig g = rig_new(file, file_len, map_len, 9, 9, 9, 9, regs_len);
         rig before = rig_copy(&g);
         ref_reply r = call == 0 ? do_check(&g) : call == 1 ? do_start(&g) : do_run(&g, 7);
         bool ok = is_refused(r, number, place);
@@ -266,6 +302,12 @@ static void expect_refusal(int line, uint32_t number, uint32_t place,
         rig_free(&g);
         rig_free(&before);
     }
+}
+
+static void expect_refusal(int line, uint32_t number, uint32_t place,
+                           const uint8_t *file, size_t file_len)
+{
+    refusal_with(line, number, place, file, file_len, 3 * file_len + 4, REG_BYTES);
 }
 
 #define REFUSAL(number, place, ...) \
@@ -358,7 +400,7 @@ static void test_samples(void)
 
     /* A map of 39 and a main stack of 2 suffice. */
     {
-        rig g = rig_new(BYTES(A_FILE), 39, 2, 1, 5, 2, 28);
+        rig g = rig_new(BYTES(A_FILE), 39, 2, 1, 5, 2, REG_BYTES);
         EXPECT(is(do_check(&g), REF_PASSED, 0, 0, 0));
         EXPECT(is(do_start(&g), REF_READY, 0, 0, 0));
         EXPECT(is(do_run(&g, 4), REF_FINISHED, 0, 0, 4));
@@ -383,14 +425,15 @@ static void test_samples(void)
 
 static void test_start(void)
 {
-    rig g = rig_new(BYTES(A_FILE), 45, 6, 4, 12, 8, 28);
+    rig g = rig_new(BYTES(A_FILE), 45, 6, 4, 12, 8, REG_BYTES);
     /* an object of one pointer word to itself, and the root */
     uint32_t heap[8] = { 5, 2, 0x01000001, 3, 2, 0, 0, 0 };
     memcpy(g.list[HEAP], heap, sizeof heap);
     EXPECT(is(do_start(&g), REF_READY, 0, 0, 0));
-    const uint8_t regs[28] = { 0, 0, 0, 7, 0, 0, 0, 1, 0, 0, 0, 0, 0, 0,
-                               0, 0, 0, 0, 0, 0, 0, 0, 0, 5, 0, 0, 0, 0 };
-    EXPECT(memcmp(g.regs, regs, 28) == 0);
+    /* behind the seven registers the sums 574 = 2 * 256 + 62, 4,077 = 15 * 256 + 237 */
+    const uint8_t regs[REG_BYTES] = { 0, 0, 0, 7, 0, 0, 0, 1, 0, 0, 0, 0, 0, 0, 0, 0, 0, 0,
+                                      0, 0, 0, 0, 0, 5, 0, 0, 0, 0, 0, 0, 2, 62, 0, 0, 15, 237 };
+    EXPECT(memcmp(g.regs, regs, REG_BYTES) == 0);
     for (int l = MAIN; l <= CTL; l++)
         for (size_t i = 0; i < g.len[l]; i++)
             EXPECT(g.list[l][i] == 0);
@@ -405,12 +448,12 @@ static void test_start(void)
     EXPECT(g.list[MAIN][0] == 2 && g.list[MAIN][1] == 0);
     EXPECT(is(do_run(&g, 0), REF_SPENT, 0, 0, 0));
     EXPECT(is(do_run(&g, 9), REF_FINISHED, 0, 0, 1));
-    const uint8_t done[28] = { 0, 0, 0, 0, 0, 0, 0, 0, 0, 0, 0, 0, 0, 0,
-                               0, 1, 0, 0, 0, 0, 0, 0, 0, 0, 0, 0, 0, 1 };
-    EXPECT(memcmp(g.regs, done, 28) == 0);
+    const uint8_t done[REG_BYTES] = { 0, 0, 0, 0, 0, 0, 0, 0, 0, 0, 0, 0, 0, 0, 0, 1, 0, 0,
+                                      0, 0, 0, 0, 0, 0, 0, 0, 0, 1, 0, 0, 2, 62, 0, 0, 15, 237 };
+    EXPECT(memcmp(g.regs, done, REG_BYTES) == 0);
     EXPECT(is(do_run(&g, 0), REF_FINISHED, 0, 0, 0));
     EXPECT(is(do_run(&g, 4294967295u), REF_FINISHED, 0, 0, 0));
-    EXPECT(memcmp(g.regs, done, 28) == 0);
+    EXPECT(memcmp(g.regs, done, REG_BYTES) == 0);
     rig_free(&g);
 
     /* A place above 255: 100 times fjump 0 from 7, so 307 = 1 * 256 + 51. */
@@ -482,7 +525,7 @@ static void test_file(void)
 
     /* 2 */
     for (size_t map_len = 0; map_len <= 39; map_len++) {
-        rig g = rig_new(BYTES(A_FILE), map_len, 2, 1, 5, 2, 28);
+        rig g = rig_new(BYTES(A_FILE), map_len, 2, 1, 5, 2, REG_BYTES);
         rig before = rig_copy(&g);
         if (map_len < 39) {
             EXPECT(is_refused(do_check(&g), 2, 0));
@@ -1316,7 +1359,7 @@ static void test_exceptions(void)
     for (size_t h = 2; h <= 12; h++) {
         /* 7 54 1; 9 57; 10 form 1 1; 15 54 2; 17 57; 18 form 1 1; 23 73 */
         g = rig_new(BYTES(240, 0, 0, 0, 2, 1, 2, 54, 1, 57, 36, 0, 1, 0, 1,
-                          54, 2, 57, 36, 0, 1, 0, 1, 73), 80, 1, 2, 5, h, 28);
+                          54, 2, 57, 36, 0, 1, 0, 1, 73), 80, 1, 2, 5, h, REG_BYTES);
         EXPECT(is(do_start(&g), REF_READY, 0, 0, 0));
         ref_reply r = do_run(&g, 100);
         if (h < 6) {
@@ -1339,7 +1382,7 @@ static void test_exceptions(void)
 
     /* 5: x. Procedure 0 calls itself, each frame one word up: 7 54 1; 9 72 0 */
     g = rig_new(BYTES(240, 0, 0, 0, 0, 1, 0, 54, 1, 72, 0, 0, 64, 0, 1, 0, 0, 73),
-                54, 3, 1, 1280, 2, 28);
+                54, 3, 1, 1280, 2, REG_BYTES);
     EXPECT(is(do_start(&g), REF_READY, 0, 0, 0));
     EXPECT(is(do_run(&g, 100), REF_UNCAUGHT, 5, 9, 5));
     LIST_IS(g, MAIN, 1, 1, 1);
@@ -1347,21 +1390,21 @@ static void test_exceptions(void)
     rig_free(&g);
     /* 5: y. 7 57; 8 72 0; 11 64 0 1; 16 73 */
     g = rig_new(BYTES(240, 0, 0, 0, 0, 0, 1, 57, 72, 0, 0, 64, 0, 0, 0, 1, 73),
-                51, 1, 2, 1280, 2, 28);
+                51, 1, 2, 1280, 2, REG_BYTES);
     EXPECT(is(do_start(&g), REF_READY, 0, 0, 0));
     EXPECT(is(do_run(&g, 100), REF_UNCAUGHT, 5, 8, 3));
     LIST_IS(g, CTL, 0, 0, 0, 0, 0, 0, 1, 0, 11, 1);
     rig_free(&g);
     /* 5: control words, for lists of 5 to 20: as many calls as whole records */
     for (size_t c = 5; c <= 20; c++) {
-        g = rig_new(BYTES(HEAD0, 72, 0, 0, 73), 33, 1, 1, c, 2, 28);
+        g = rig_new(BYTES(HEAD0, 72, 0, 0, 73), 33, 1, 1, c, 2, REG_BYTES);
         EXPECT(is(do_start(&g), REF_READY, 0, 0, 0));
         EXPECT(is(do_run(&g, 100), REF_UNCAUGHT, 5, 7, (uint32_t)(c / 5) - 1));
         rig_free(&g);
     }
     /* 5: a handler's record. B in control lists of 5 to 10 */
     for (size_t c = 5; c <= 10; c++) {
-        g = rig_new(BYTES(B_FILE), 54, 2, 1, c, 2, 28);
+        g = rig_new(BYTES(B_FILE), 54, 2, 1, c, 2, REG_BYTES);
         EXPECT(is(do_start(&g), REF_READY, 0, 0, 0));
         ref_reply r = do_run(&g, 100);
         if (c < 10)
@@ -1374,7 +1417,7 @@ static void test_exceptions(void)
        15 161; 16 73; 17 73. 18 head; 25 73 */
     for (size_t m = 199; m <= 201; m++) {
         g = rig_new(BYTES(240, 0, 0, 1, 0, 1, 0, 160, 0, 17, 72, 0, 1, 54, 7, 161, 73, 73,
-                          240, 0, 0, 0, 0, 200, 0, 73), 78, m, 1, 15, 2, 28);
+                          240, 0, 0, 0, 0, 200, 0, 73), 78, m, 1, 15, 2, REG_BYTES);
         EXPECT(is(do_start(&g), REF_READY, 0, 0, 0));
         ref_reply r = do_run(&g, 100);
         if (m < 200) {
@@ -1390,7 +1433,7 @@ static void test_exceptions(void)
        7 54 1; 9 54 2; 11 72 1; 14 73. 15 head a 1, x 2: 1 + 2 = 3; 22 73 */
     for (size_t m = 2; m <= 3; m++) {
         g = rig_new(BYTES(240, 0, 0, 2, 0, 2, 0, 54, 1, 54, 2, 72, 0, 1, 73,
-                          240, 1, 0, 1, 0, 2, 0, 73), 69, m, 1, 15, 2, 28);
+                          240, 1, 0, 1, 0, 2, 0, 73), 69, m, 1, 15, 2, REG_BYTES);
         EXPECT(is(do_start(&g), REF_READY, 0, 0, 0));
         if (m == 2)
             EXPECT(is(do_run(&g, 100), REF_UNCAUGHT, 5, 11, 2));
@@ -1448,7 +1491,7 @@ static void test_exceptions(void)
     /* 4, caught: 7 160 -> 24; 10 form; 15 64 0 1; 20 54 7; 22 161; 23 73; 24 73 */
     for (size_t h = 2; h <= 4; h++) {
         g = rig_new(BYTES(240, 0, 0, 1, 0, 1, 1, 160, 0, 24, 36, 0, 0, 0, 0, 64, 0, 0, 0, 1,
-                          54, 7, 161, 73, 73), 75, 1, 1, 10, h, 28);
+                          54, 7, 161, 73, 73), 75, 1, 1, 10, h, REG_BYTES);
         EXPECT(is(do_start(&g), REF_READY, 0, 0, 0));
         ref_reply r = do_run(&g, 100);
         if (h < 4) {
@@ -1496,13 +1539,14 @@ static void test_handlers(void)
     /* 7 160 -> 20; 10 54 1; 12 160 -> 18; 15 54 9; 17 162 to 18 with 1, 9;
        18 140; 19 162 of 10 to 20; 20 73 */
     BENCH("finished steps=8 main=10", NESTED_FILE);
-    /* both closed: 7 160 -> 20; 10 160 -> 18; 13 161; 14 161; 15 54 7; 17 73; 18 161; 19 73; 20 73 */
+    /* both closed: 7 160 -> 20; 10 160 -> 18; 13 161; 14 161; 15 54 7; 17 73;
+       18 161; 19 73; 20 73 */
     BENCH("finished steps=6 main=7",
           240, 0, 0, 1, 0, 1, 0, 160, 0, 20, 160, 0, 18, 161, 161, 54, 7, 73, 161, 73, 73);
     /* the second record doesn't fit in 10 or 14 words: 5 goes to the outer one */
     for (size_t c = 10; c <= 15; c++) {
         g = rig_new(BYTES(240, 0, 0, 1, 0, 1, 0, 160, 0, 20, 160, 0, 18, 161, 161, 54, 7, 73,
-                          161, 73, 73), 63, 1, 1, c, 2, 28);
+                          161, 73, 73), 63, 1, 1, c, 2, REG_BYTES);
         EXPECT(is(do_start(&g), REF_READY, 0, 0, 0));
         EXPECT(is(do_run(&g, 100), REF_FINISHED, 0, 0, c < 15 ? 3 : 6));
         EXPECT(g.list[MAIN][0] == (c < 15 ? 5 : 7));
@@ -1611,13 +1655,13 @@ static void test_handlers(void)
 
 static rig deep_rig(void)
 {
-    rig g = rig_new(BYTES(DEEP_FILE), 3 * 107, 8, 6, 37, 12, 28);
+    rig g = rig_new(BYTES(DEEP_FILE), 3 * 107, 8, 6, 37, 12, REG_BYTES);
     EXPECT(is(do_start(&g), REF_READY, 0, 0, 0));
     return g;
 }
 
-/* The registers after each step. */
-static const uint32_t deep_trace[31][7] = {
+/* The seven registers after each step. */
+static const uint32_t deep_trace[31][SUM] = {
     { 7, 1, 0, 0, 0, 5, 0 },   { 9, 1, 0, 1, 0, 5, 0 },   { 11, 1, 0, 2, 0, 5, 0 },
     { 12, 1, 0, 2, 1, 5, 0 },  { 17, 1, 0, 1, 1, 5, 0 },  { 20, 1, 2, 1, 1, 10, 0 },
     { 23, 1, 2, 1, 2, 10, 0 }, { 24, 1, 2, 1, 1, 10, 0 }, { 26, 1, 2, 2, 1, 10, 0 },
@@ -1660,7 +1704,7 @@ static ref_reply sound_reply(const rig *g)
 /* Puts many other values in every word of a list, and tests run's answer. */
 static void damage(int line, const rig *sound, int list, judge expected)
 {
-    size_t len = list == REGS ? 7 : sound->len[list];
+    size_t len = list == REGS ? REG_WORDS : sound->len[list];
     for (size_t i = 0; i < len; i++) {
         uint32_t old = word_of(sound, list, i);
         for (uint32_t t = 0; t < 120 + 32 + 8; t++) {
@@ -1684,11 +1728,11 @@ static void damage(int line, const rig *sound, int list, judge expected)
     }
 }
 
-/* Control words and words above the tops have one sound value. */
+/* 13 for a sum, 12 for any other word with one sound value. */
 static ref_reply judge_fixed(const rig *sound, int list, size_t i, uint32_t v)
 {
-    (void)sound; (void)list; (void)i; (void)v;
-    return reply(REF_REFUSED, 12, 0, 0);
+    (void)sound; (void)v;
+    return reply(REF_REFUSED, list == REGS && i >= SUM ? 13 : 12, 0, 0);
 }
 
 /* Any word below the main top is sound. */
@@ -1701,10 +1745,9 @@ static ref_reply judge_main(const rig *sound, int list, size_t i, uint32_t v)
 /* The place may be another one of equal state. */
 static ref_reply judge_deep_regs(const rig *sound, int list, size_t i, uint32_t v)
 {
-    (void)list;
     if (i == PLACE && equal_places(v, reg_of(sound, PLACE)))
         return sound_reply(sound);
-    return reply(REF_REFUSED, 12, 0, 0);
+    return judge_fixed(sound, list, i, v);
 }
 
 /* After step 20 objects lie at 2 and 6. */
@@ -1792,8 +1835,9 @@ static void test_deep(void)
         rig once = deep_rig();
         EXPECT(is(do_run(&once, k), k == 30 ? REF_FINISHED : REF_SPENT, 0, 0, k));
         EXPECT(same_rig(&g, &once));
-        for (size_t i = 0; i < 7; i++)
+        for (size_t i = 0; i < SUM; i++)
             EXPECT(reg_of(&g, i) == deep_trace[k][i]);
+        EXPECT(has_sums(&g));
         /* all registers and control words changed, at every step */
         damage(__LINE__, &g, REGS, judge_deep_regs);
         damage(__LINE__, &g, CTL, judge_fixed);
@@ -1855,7 +1899,7 @@ static void cut_runs(int line, uint32_t kind, uint32_t total, const uint8_t *fil
 {
     for (uint32_t n = 0; n <= total; n++)
         for (uint32_t m = 0; n + m <= total + 2; m++) {
-            rig one = rig_new(file, file_len, 3 * file_len, 20, 20, 60, 40, 28);
+            rig one = rig_new(file, file_len, 3 * file_len, 20, 20, 60, 40, REG_BYTES);
             rig two = rig_copy(&one);
             expect(is(do_start(&one), REF_READY, 0, 0, 0), line, "ready");
             expect(is(do_start(&two), REF_READY, 0, 0, 0), line, "ready");
@@ -1874,6 +1918,7 @@ static void cut_runs(int line, uint32_t kind, uint32_t total, const uint8_t *fil
             expect(whole.steps == (n + m < total ? n + m : total), line, "the steps");
             expect(first.steps + second.steps == whole.steps, line, "the steps add up");
             expect(same_rig(&one, &two), line, "the same memory");
+            expect(has_sums(&one), line, "the sums stay");
             rig_free(&one);
             rig_free(&two);
         }
@@ -1894,11 +1939,12 @@ static void test_cuts(void)
     cut_runs(__LINE__, REF_UNCAUGHT, 11, BYTES(HEAD0, 72, 0, 0, 73));
 }
 
-/* ---- refusals 10 to 12 ---- */
+/* ---- refusals 10 to 12, and 13 for the registers' length ---- */
 
 static void lengths(int line, size_t m, size_t p, size_t c, size_t h, bool fine)
 {
-    rig g = rig_new(BYTES(HEAD0, 73), 24, m, p, c, h, 28);
+    rig g = rig_new(BYTES(HEAD0, 73), 24, m, p, c, h, REG_BYTES);
+    put_sums(&g); /* else run answers 13 */
     rig before = rig_copy(&g);
     ref_reply r = do_start(&g);
     if (fine) {
@@ -1932,49 +1978,52 @@ static void test_lengths(void)
     lengths(__LINE__, 1, 1, 5, 16385, false);
 
     /* below procedure 0's x, y; another procedure's don't count */
-    rig g = rig_new(BYTES(A_FILE), 39, 1, 1, 5, 2, 28);
+    rig g = rig_new(BYTES(A_FILE), 39, 1, 1, 5, 2, REG_BYTES);
     EXPECT(is_refused(do_start(&g), 10, 0));
+    put_sums(&g);
     EXPECT(is_refused(do_run(&g, 1), 10, 0));
     rig_free(&g);
-    g = rig_new(BYTES(240, 0, 0, 0, 0, 0, 3, 73), 24, 1, 2, 5, 2, 28);
+    g = rig_new(BYTES(240, 0, 0, 0, 0, 0, 3, 73), 24, 1, 2, 5, 2, REG_BYTES);
     EXPECT(is_refused(do_start(&g), 10, 0));
     rig_free(&g);
-    g = rig_new(BYTES(240, 0, 0, 0, 0, 0, 3, 73), 24, 1, 3, 5, 2, 28);
+    g = rig_new(BYTES(240, 0, 0, 0, 0, 0, 3, 73), 24, 1, 3, 5, 2, REG_BYTES);
     EXPECT(is(do_start(&g), REF_READY, 0, 0, 0));
     rig_free(&g);
-    g = rig_new(BYTES(HEAD0, 73, 240, 0, 0, 0, 0, 99, 99, 73), 48, 1, 1, 5, 2, 28);
+    g = rig_new(BYTES(HEAD0, 73, 240, 0, 0, 0, 0, 99, 99, 73), 48, 1, 1, 5, 2, REG_BYTES);
     EXPECT(is(do_start(&g), REF_READY, 0, 0, 0));
     rig_free(&g);
     /* in a finished state too */
-    g = rig_new(BYTES(A_FILE), 39, 2, 1, 5, 2, 28);
+    g = rig_new(BYTES(A_FILE), 39, 2, 1, 5, 2, REG_BYTES);
     EXPECT(is(do_start(&g), REF_READY, 0, 0, 0));
     EXPECT(is(do_run(&g, 9), REF_FINISHED, 0, 0, 4));
     g.len[MAIN] = 1;
     EXPECT(is_refused(do_run(&g, 9), 10, 0));
     rig_free(&g);
 
-    /* 10 before 11 before 12 */
-    g = rig_new(BYTES(A_FILE), 39, 1, 1, 5, 2, 27);
+    /* 10 before 11 before 12; start has no 12 */
+    g = rig_new(BYTES(A_FILE), 39, 1, 1, 5, 2, REG_BYTES);
+    put_sums(&g);
     g.list[HEAP][0] = 1;
     EXPECT(is_refused(do_start(&g), 10, 0));
     EXPECT(is_refused(do_run(&g, 9), 10, 0));
     rig_free(&g);
-    g = rig_new(BYTES(A_FILE), 39, 2, 1, 5, 2, 27);
+    g = rig_new(BYTES(A_FILE), 39, 2, 1, 5, 2, REG_BYTES);
+    put_sums(&g);
     g.list[HEAP][0] = 1;
     EXPECT(is_refused(do_start(&g), 11, 0));
     EXPECT(is_refused(do_run(&g, 9), 11, 0));
     g.list[HEAP][0] = 2;
-    EXPECT(is_refused(do_start(&g), 12, 0));
     EXPECT(is_refused(do_run(&g, 9), 12, 0));
+    EXPECT(is(do_start(&g), REF_READY, 0, 0, 0));
     rig_free(&g);
     /* a register list of another length, start and run */
-    for (size_t len = 0; len <= 60; len++) {
+    for (size_t len = 0; len <= 80; len++) {
         g = rig_new(BYTES(A_FILE), 39, 2, 1, 5, 2, len);
         rig before = rig_copy(&g);
-        if (len != 28) {
-            EXPECT(is_refused(do_start(&g), 12, 0));
+        if (len != REG_BYTES) {
+            EXPECT(is_refused(do_start(&g), 13, 0));
             EXPECT(same_state(&g, &before));
-            EXPECT(is_refused(do_run(&g, 1), 12, 0));
+            EXPECT(is_refused(do_run(&g, 1), 13, 0));
             EXPECT(same_state(&g, &before));
         } else {
             EXPECT(is(do_start(&g), REF_READY, 0, 0, 0));
@@ -1993,6 +2042,11 @@ static void test_lengths(void)
     EXPECT(is_refused(do_run(&g, 3), 2, 0));
     rig_free(&g);
     g = rig_new(BYTES(A_FILE), 39, 0, 0, 0, 0, 0);
+    EXPECT(is_refused(do_start(&g), 13, 0));
+    EXPECT(is_refused(do_run(&g, 3), 13, 0));
+    rig_free(&g);
+    g = rig_new(BYTES(A_FILE), 39, 0, 0, 0, 0, REG_BYTES);
+    put_sums(&g);
     EXPECT(is_refused(do_start(&g), 10, 0));
     EXPECT(is_refused(do_run(&g, 3), 10, 0));
     rig_free(&g);
@@ -2001,7 +2055,7 @@ static void test_lengths(void)
 /* 11 at a place, or fine (-1), by start and by run. */
 static void heap_case(int line, int place, const uint32_t *heap, size_t len)
 {
-    rig g = rig_new(BYTES(HEAD0, 73), 24, 1, 1, 5, len, 28);
+    rig g = rig_new(BYTES(HEAD0, 73), 24, 1, 1, 5, len, REG_BYTES);
     /* a started state, with this heap put in its place */
     expect(is(do_start(&g), REF_READY, 0, 0, 0), line, "ready");
     memcpy(g.list[HEAP], heap, len * 4);
@@ -2180,7 +2234,7 @@ static ref_reply judge_one_pointer(const rig *sound, int list, size_t i, uint32_
 static void test_sound(void)
 {
     /* row 12: pointer stack 3, object at 2 only; 7 form 0 0; 12 73 */
-    rig g = rig_new(BYTES(240, 0, 0, 0, 1, 0, 1, 36, 0, 0, 0, 0, 73), 39, 1, 2, 5, 8, 28);
+    rig g = rig_new(BYTES(240, 0, 0, 0, 1, 0, 1, 36, 0, 0, 0, 0, 73), 39, 1, 2, 5, 8, REG_BYTES);
     EXPECT(is(do_start(&g), REF_READY, 0, 0, 0));
     EXPECT(is(do_run(&g, 1), REF_SPENT, 0, 0, 1));
     LIST_IS(g, PTR, 2);
@@ -2201,7 +2255,7 @@ static void test_sound(void)
     rig_free(&g);
 
     /* A, finished: one main result */
-    g = rig_new(BYTES(A_FILE), 39, 4, 1, 7, 3, 28);
+    g = rig_new(BYTES(A_FILE), 39, 4, 1, 7, 3, REG_BYTES);
     EXPECT(is(do_start(&g), REF_READY, 0, 0, 0));
     EXPECT(is(do_run(&g, 4), REF_FINISHED, 0, 0, 4));
     damage(__LINE__, &g, REGS, judge_fixed);
@@ -2211,7 +2265,7 @@ static void test_sound(void)
 
     /* recursion of procedure 0: frames 1 to 3; 7 72 0; 10 73. Both places have
        state (0, 0, none), so each may stand for the other in the registers. */
-    g = rig_new(BYTES(HEAD0, 72, 0, 0, 73), 33, 1, 1, 15, 2, 28);
+    g = rig_new(BYTES(HEAD0, 72, 0, 0, 73), 33, 1, 1, 15, 2, REG_BYTES);
     EXPECT(is(do_start(&g), REF_READY, 0, 0, 0));
     EXPECT(is(do_run(&g, 2), REF_SPENT, 0, 0, 2));
     LIST_IS(g, CTL, 0, 0, 0, 0, 0, 0, 0, 0, 10, 1, 0, 0, 0, 10, 2);
@@ -2222,7 +2276,7 @@ static void test_sound(void)
 
     /* two calls of one procedure with equal states: either return place is
        sound. 7 72 1; 10 72 1; 13 73. 14 head; 21 73 */
-    g = rig_new(BYTES(HEAD0, 72, 0, 1, 72, 0, 1, 73, HEAD0, 73), 66, 1, 1, 10, 2, 28);
+    g = rig_new(BYTES(HEAD0, 72, 0, 1, 72, 0, 1, 73, HEAD0, 73), 66, 1, 1, 10, 2, REG_BYTES);
     EXPECT(is(do_start(&g), REF_READY, 0, 0, 0));
     EXPECT(is(do_run(&g, 1), REF_SPENT, 0, 0, 1));
     LIST_IS(g, CTL, 0, 0, 0, 0, 0, 0, 0, 1, 10, 1);
@@ -2241,7 +2295,8 @@ static void test_sound(void)
 
     /* a call of another procedure is no return place: 7 72 1; 10 72 2; 13 73.
        14 head; 21 73. 22 head; 29 73 */
-    g = rig_new(BYTES(HEAD0, 72, 0, 1, 72, 0, 2, 73, HEAD0, 73, HEAD0, 73), 90, 1, 1, 10, 2, 28);
+    g = rig_new(BYTES(HEAD0, 72, 0, 1, 72, 0, 2, 73, HEAD0, 73, HEAD0, 73),
+                90, 1, 1, 10, 2, REG_BYTES);
     EXPECT(is(do_start(&g), REF_READY, 0, 0, 0));
     EXPECT(is(do_run(&g, 1), REF_SPENT, 0, 0, 1));
     g.list[CTL][8] = 13;
@@ -2284,7 +2339,7 @@ static rig before_code(int line, bool caught, words m, words p, words heap,
     n += size;
     for (int i = 0; i < (caught ? 2 : 1); i++, n += 3)
         memcpy(f + n, (const uint8_t[]){ 3, 0, 3 }, 3);
-    rig g = rig_new(f, n, 3 * n, m.n + 1, p.n + 1, 10, heap.n, 28);
+    rig g = rig_new(f, n, 3 * n, m.n + 1, p.n + 1, 10, heap.n, REG_BYTES);
     uint32_t steps = (uint32_t)(m.n + p.n) + caught;
     expect(is(do_start(&g), REF_READY, 0, 0, 0), line, "ready");
     expect(is(do_run(&g, steps), REF_SPENT, 0, 0, steps), line, "the pushes");
@@ -2815,12 +2870,567 @@ static ref_reply judge_vector_heap(const rig *sound, int list, size_t i, uint32_
 static void test_vector_damage(void)
 {
     const uint32_t heap[] = { 10, 6, WV, 4, 70, 71, PV + 1, 4, 2, 72, 0, 0 };
-    rig g = rig_new(BYTES(HEAD0, 73), 24, 1, 1, 5, 12, 28);
+    rig g = rig_new(BYTES(HEAD0, 73), 24, 1, 1, 5, 12, REG_BYTES);
     EXPECT(is(do_start(&g), REF_READY, 0, 0, 0));
     memcpy(g.list[HEAP], heap, sizeof heap);
     EXPECT(is(do_run(&g, 0), REF_SPENT, 0, 0, 0));
     damage(__LINE__, &g, HEAP, judge_vector_heap);
     rig_free(&g);
+}
+
+/* ---- order 3: the state belongs to its file ---- */
+
+/* A with other literals; three literals. */
+#define A_WITH(p, q) 240, 0, 0, 1, 0, 2, 0, 54, p, 54, q, 142, 73
+#define THREE(p, q, r) 240, 0, 0, 3, 0, 3, 0, 54, p, 54, q, 54, r, 73
+
+static bool sums_are(ref_sums sums, uint32_t sum, uint32_t sum_of_sums)
+{
+    return sums.sum == sum && sums.sum_of_sums == sum_of_sums;
+}
+
+/* The eight bytes behind the seven registers. */
+static bool sum_bytes(const rig *g, const uint8_t *want)
+{
+    return memcmp(g->regs + 4 * SUM, want, 8) == 0;
+}
+
+static void test_sum_function(void)
+{
+    static uint8_t bytes[4096];
+    EXPECT(sums_are(ref_sums_of(NULL, 0), 0, 0));
+    EXPECT(sums_are(ref_sums_of(BYTES(0)), 0, 0));
+    EXPECT(sums_are(ref_sums_of(BYTES(1)), 1, 1));
+    EXPECT(sums_are(ref_sums_of(BYTES(255)), 255, 255));
+    EXPECT(sums_are(ref_sums_of(BYTES(255, 255)), 510, 765)); /* 255 + 510 */
+    EXPECT(sums_are(ref_sums_of(BYTES(1, 0, 0)), 1, 3)); /* 1 + 1 + 1 */
+    EXPECT(sums_are(ref_sums_of(BYTES(0, 0, 1)), 1, 1)); /* 0 + 0 + 1 */
+    EXPECT(sums_are(ref_sums_of(BYTES(1, 2, 3)), 6, 10)); /* 1 + 3 + 6 */
+    EXPECT(sums_are(ref_sums_of(BYTES(3, 2, 1)), 6, 14)); /* 3 + 5 + 6 */
+    /* 1 + 2 + ... + 4,096 = 2,048 * 4,097 = 8,390,656 */
+    memset(bytes, 1, sizeof bytes);
+    EXPECT(sums_are(ref_sums_of(bytes, 4096), 4096, 8390656));
+    for (uint32_t n = 0; n < 40; n++)
+        EXPECT(sums_are(ref_sums_of(bytes, n), n, n * (n + 1) / 2));
+    /* 255 * 4,096 = 1,044,480; 255 * 8,390,656 = 2,139,617,280 */
+    memset(bytes, 255, sizeof bytes);
+    EXPECT(sums_are(ref_sums_of(bytes, 4096), 1044480, 2139617280u));
+    /* the last byte is once in both, the first one 4,096 times in the second */
+    bytes[4095] = 0;
+    EXPECT(sums_are(ref_sums_of(bytes, 4096), 1044225, 2139617025u));
+    bytes[4095] = 255;
+    bytes[0] = 0;
+    EXPECT(sums_are(ref_sums_of(bytes, 4096), 1044225, 2138572800u)); /* less 1,044,480 */
+}
+
+/* The function gives these sums, and start writes them. */
+static void expect_sums(int line, uint32_t sum, uint32_t sum_of_sums,
+                        const uint8_t *file, size_t file_len)
+{
+    rig g = bench_rig(file, file_len);
+    expect(sums_are(ref_sums_of(file, file_len), sum, sum_of_sums), line, "the sums");
+    expect(is(do_start(&g), REF_READY, 0, 0, 0), line, "ready");
+    expect(reg_of(&g, SUM) == sum && reg_of(&g, SUM_OF_SUMS) == sum_of_sums, line,
+           "start writes the sums");
+    expect_sound(line, &g);
+    rig_free(&g);
+}
+
+#define SUMS(sum, sum_of_sums, ...) expect_sums(__LINE__, sum, sum_of_sums, BYTES(__VA_ARGS__))
+
+static void test_file_sums(void)
+{
+    /* 240 after each byte of the head, then 313: 7 * 240 + 313 */
+    SUMS(313, 1993, HEAD0, 73);
+    /* A, after each byte: 240 240 240 241 241 243 243 297 302 356 359 501 574;
+       3 * 240 + 2 * 241 + 2 * 243 = 1,688, and 297 + 302 + 356 + 359 + 501 + 574 = 2,389 */
+    SUMS(574, 4077, A_FILE);
+    /* 300 and 354 for 302 and 356 */
+    SUMS(574, 4073, A_WITH(3, 5));
+    /* bytes count from 0 up, whatever 54 pushes: the first literal is in the last five
+       sums, the second in three; -8 + 508, -(5 * 5 + 3 * 3) + 5 * 255 + 3 * 253 */
+    SUMS(1074, 6077, A_WITH(255, 253));
+    /* B: 1,688 as in A, then 403 403 420 474 483 537 537 680 841 914 987, in all 6,679 */
+    SUMS(987, 8367, B_FILE);
+    /* 3 for the zero, which is in the last five sums */
+    SUMS(990, 8382, B3_FILE);
+}
+
+/*
+ * 4,096 bytes: 0 head with 255 for r, s, x, y; 7 56 -1; from 12 on 680 times
+ * 56 -1 and 204; 4,092 146; 146; 146; 4,095 162.
+ * The sum: 240 + 4 * 255 = 1,260; 56 + 4 * 255 = 1,076; 680 * (1,076 + 204) =
+ * 870,400; 3 * 146 + 162 = 600: 873,336 = 13 * 65,536 + 83 * 256 + 120.
+ * The sum of sums, byte i taken 4,096 - i times: head 240 * 4,096 +
+ * 255 * (4,093 + 4,092 + 4,091 + 4,090) = 983,040 + 4,173,330; the first 56
+ * 56 * 4,089 + 255 * (4,088 + 4,087 + 4,086 + 4,085) = 228,984 + 4,168,230.
+ * One of the 680 whose 56 is taken w times: 56 w + 255 * (4 w - 10) +
+ * 204 * (w - 5) = 1,280 w - 3,570. w is 4,084, 4,078 and so on, all together
+ * 680 * 4,084 - 6 * 679 * 680 / 2 = 1,391,960; so 1,280 * 1,391,960 -
+ * 680 * 3,570 = 1,779,281,200. Last 146 * (4 + 3 + 2) + 162 = 1,476.
+ * 1,788,836,260 = 106 * 2^24 + 159 * 65,536 + 121 * 256 + 164.
+ */
+static void test_greatest_sums(void)
+{
+    static uint8_t f[4096] = { 240, 0, 0, 255, 255, 255, 255, 56, 255, 255, 255, 255 };
+    static const uint8_t want[8] = { 0, 13, 83, 120, 106, 159, 121, 164 };
+    for (size_t i = 12; i < 4092; i += 6)
+        memcpy(f + i, (const uint8_t[]){ 56, 255, 255, 255, 255, 204 }, 6);
+    memcpy(f + 4092, (const uint8_t[]){ 146, 146, 146, 162 }, 4);
+    expect_sums(__LINE__, 873336, 1788836260, f, sizeof f);
+    /* -1 >= -1 is 1, 1 >= -1 is 1; not, not, not: 0; 1 + 680 * 2 + 3 steps */
+    rig g = bench_rig(f, sizeof f);
+    EXPECT(is(do_start(&g), REF_READY, 0, 0, 0));
+    EXPECT(sum_bytes(&g, want));
+    EXPECT(is(do_run(&g, 1000), REF_SPENT, 0, 0, 1000));
+    EXPECT(sum_bytes(&g, want));
+    EXPECT(is(do_run(&g, 1000), REF_UNCAUGHT, 0, 4095, 364));
+    EXPECT(sum_bytes(&g, want));
+    for (size_t i = 4 * SUM; i < REG_BYTES; i++) {
+        g.regs[i] ^= 128;
+        EXPECT(is_refused(do_run(&g, 1), 13, 0));
+        g.regs[i] ^= 128;
+    }
+    EXPECT(is(do_run(&g, 1000), REF_UNCAUGHT, 0, 4095, 0));
+    rig_free(&g);
+}
+
+/* 13 at 0 by start or run, and of all lists the finished map alone is written. */
+static void expect_13(int line, const rig *g, bool start, uint32_t budget)
+{
+    rig got = rig_copy(g), want = rig_copy(g);
+    for (size_t i = 0; i < g->map_len; i++)
+        got.map[i] = want.map[i] = (uint16_t)(0x1234 + i);
+    expect(is(do_check(&want), REF_PASSED, 0, 0, 0), line, "the file passes");
+    ref_reply r = start ? do_start(&got) : do_run(&got, budget);
+    bool ok = is_refused(r, 13, 0);
+    expect(ok, line, "13 at 0");
+    if (!ok && failures <= 50)
+        printf("    got: kind %" PRIu32 " number %" PRIu32 " place %" PRIu32 "\n",
+               r.kind, r.number, r.place);
+    expect(same_rig(&got, &want), line, "the finished map alone is written");
+    rig_free(&got);
+    rig_free(&want);
+}
+
+static void expect_run_13(int line, const rig *g)
+{
+    expect_13(line, g, false, 0);
+    expect_13(line, g, false, 1);
+    expect_13(line, g, false, 4294967295u);
+}
+
+static void expect_start_13(int line, const rig *g)
+{
+    expect_13(line, g, true, 0);
+}
+
+/* Run takes the state as sound, and start the lists. */
+static void expect_taken(int line, const rig *g)
+{
+    rig c = rig_copy(g);
+    ref_reply want = sound_reply(g);
+    expect(is(do_run(&c, 0), want.kind, 0, 0, 0), line, "run takes the state");
+    expect(same_state(&c, g), line, "no step changes nothing");
+    expect(is(do_start(&c), REF_READY, 0, 0, 0), line, "ready");
+    rig_free(&c);
+}
+
+/* A after so many steps: 4 are all. Small lists, the map longer than needed. */
+static rig a_state(uint32_t steps)
+{
+    rig g = rig_new(BYTES(A_FILE), 60, 4, 3, 12, 6, REG_BYTES);
+    EXPECT(is(do_start(&g), REF_READY, 0, 0, 0));
+    EXPECT(is(do_run(&g, steps), steps < 4 ? REF_SPENT : REF_FINISHED, 0, 0, steps));
+    return g;
+}
+
+/* A state in register lists of other lengths: cut, or with bytes behind it. */
+static void test_register_lengths(void)
+{
+    static const size_t lens[] = { 0, 1, 4, 8, 27, 28, 29, 32, 35, 36, 37, 40, 64, 72 };
+    for (uint32_t steps = 0; steps <= 4; steps += 2) {
+        rig g = a_state(steps);
+        for (size_t i = 0; i < sizeof lens / sizeof *lens; i++) {
+            rig h = relend(&g, g.file, g.file_len, lens[i]);
+            if (lens[i] == REG_BYTES) {
+                expect_taken(__LINE__, &h);
+            } else {
+                expect_run_13(__LINE__, &h);
+                expect_start_13(__LINE__, &h);
+            }
+            rig_free(&h);
+        }
+        rig_free(&g);
+    }
+}
+
+/* A's map by hand where 13 was answered. */
+static void test_map_of_13(void)
+{
+    for (int call = 0; call < 2; call++) {
+        rig g = rig_new(BYTES(A_FILE), 45, 2, 1, 5, 2, call == 0 ? 35 : REG_BYTES);
+        EXPECT(is_refused(call == 0 ? do_start(&g) : do_run(&g, 9), 13, 0));
+        for (size_t i = 0; i < 45; i++) {
+            size_t at = i / 3;
+            uint16_t depth = at == 7 ? 0 : at == 9 || at == 12 ? 1 : at == 11 ? 2 : N;
+            if (i >= 39)
+                EXPECT(g.map[i] == (uint16_t)(0xabcd + i));
+            else
+                EXPECT(g.map[i] == (depth == N || i % 3 == 2 ? N : i % 3 == 0 ? depth : 0));
+        }
+        rig_free(&g);
+    }
+}
+
+/* Every other value in each of the eight bytes; the state running or finished. */
+static void test_sum_bytes(void)
+{
+    static const uint8_t right[8] = { 0, 0, 2, 62, 0, 0, 15, 237 }; /* 574, 4,077 */
+    for (uint32_t steps = 0; steps <= 4; steps += 2) {
+        rig g = a_state(steps), fresh = a_state(0);
+        EXPECT(sum_bytes(&g, right));
+        expect_taken(__LINE__, &g);
+        for (size_t i = 0; i < 8; i++)
+            for (uint32_t v = 0; v < 256; v++) {
+                if (v == right[i])
+                    continue;
+                rig h = rig_copy(&g);
+                h.regs[4 * SUM + i] = (uint8_t)v;
+                expect_run_13(__LINE__, &h);
+                /* start takes no notice, and writes them anew */
+                EXPECT(is(do_start(&h), REF_READY, 0, 0, 0));
+                EXPECT(same_state(&h, &fresh));
+                rig_free(&h);
+            }
+        rig_free(&g);
+        rig_free(&fresh);
+    }
+}
+
+/*
+ * Words at fault: one off; exchanged; of A with its literals swapped (4,073);
+ * without A's last byte (501, 3,503), with the last sum twice (4,651); the low
+ * byte or the low half alone right; bytes turned round (62 2 0 0, 237 15 0 0).
+ */
+static void test_sum_words(void)
+{
+    static const uint32_t wrong[][2] = {
+        { 0, 0 }, { 574, 0 }, { 0, 4077 }, { 4077, 574 }, { 575, 4077 }, { 573, 4077 },
+        { 574, 4078 }, { 574, 4076 }, { 573, 4078 }, { 574, 4073 }, { 501, 3503 },
+        { 574, 3503 }, { 574, 4651 }, { 574, 574 }, { 4077, 4077 }, { 62, 237 },
+        { 0x3e020000, 0xed0f0000u }, { 574, 0xed0f0000u }, { 0xffffffffu, 0xffffffffu },
+        { 0x80000000u + 574, 4077 }, { 574, 0x80000000u + 4077 }, { 65536 + 574, 4077 }
+    };
+    for (uint32_t steps = 1; steps <= 4; steps += 3)
+        for (size_t i = 0; i < sizeof wrong / sizeof *wrong; i++) {
+            rig g = a_state(steps);
+            set_reg(&g, SUM, wrong[i][0]);
+            set_reg(&g, SUM_OF_SUMS, wrong[i][1]);
+            expect_run_13(__LINE__, &g);
+            put_sums(&g);
+            expect_taken(__LINE__, &g);
+            rig_free(&g);
+        }
+}
+
+/* What 36 bytes hold does not matter to start. */
+static void test_junk_registers(void)
+{
+    rig want = a_state(0);
+    for (uint32_t byte = 0; byte < 256; byte++) {
+        rig g = a_state(byte % 5);
+        memset(g.regs, (int)byte, REG_BYTES);
+        expect_run_13(__LINE__, &g); /* no sums at all */
+        EXPECT(is(do_start(&g), REF_READY, 0, 0, 0));
+        EXPECT(same_state(&g, &want));
+        /* junk with the right sums is not sound */
+        memset(g.regs, (int)byte, 4 * SUM);
+        EXPECT(is_refused(do_run(&g, 3), 12, 0));
+        EXPECT(has_sums(&g));
+        rig_free(&g);
+    }
+    rig_free(&want);
+}
+
+/* Run for another file is 13 from the first one's state; its sums are all that is wrong. */
+static void other_file(int line, uint32_t steps, const uint8_t *file, size_t file_len,
+                       const uint8_t *other, size_t other_len)
+{
+    rig g = bench_rig(file, file_len);
+    expect(is(do_start(&g), REF_READY, 0, 0, 0), line, "ready");
+    expect(do_run(&g, steps).steps == steps, line, "the steps");
+    rig h = relend(&g, other, other_len, REG_BYTES);
+    expect_run_13(line, &h);
+    put_sums(&h);
+    expect_taken(line, &h);
+    rig_free(&g);
+    rig_free(&h);
+}
+
+static void test_other_files(void)
+{
+    /* A with its literals swapped: 574 both times, 4,077 and 4,073 */
+    SUMS(574, 4077, A_WITH(5, 3));
+    SUMS(574, 4073, A_WITH(3, 5));
+    for (uint32_t steps = 0; steps <= 4; steps++) {
+        other_file(__LINE__, steps, BYTES(A_WITH(5, 3)), BYTES(A_WITH(3, 5)));
+        other_file(__LINE__, steps, BYTES(A_WITH(3, 5)), BYTES(A_WITH(5, 3)));
+    }
+    /* equal sums of sums: A's literals are in five and in three sums; from A
+       +7 and +3 * 7, or +3 + 2 and +5 * 3 + 3 * 2: 4,077 + 21 both times */
+    SUMS(581, 4098, A_WITH(5, 10));
+    SUMS(579, 4098, A_WITH(8, 5));
+    for (uint32_t steps = 0; steps <= 4; steps++) {
+        other_file(__LINE__, steps, BYTES(A_WITH(5, 10)), BYTES(A_WITH(8, 5)));
+        other_file(__LINE__, steps, BYTES(A_WITH(8, 5)), BYTES(A_WITH(5, 10)));
+    }
+    /* another length, equal sums: 240 + 1 + 1 + 54 + 146 + 73 = 515. 10 bytes: 240 * 10 +
+       7 + 5 + 54 * 3 + 146 * 2 + 73; 11 bytes: 240 * 11 + 8 + 6 + 54 * 4 + 146 * 2 + 73 */
+    SUMS(515, 2939, 240, 0, 0, 1, 0, 1, 0, 54, 146, 73);
+    SUMS(515, 3235, 240, 0, 0, 1, 0, 1, 0, 54, 0, 146, 73);
+    for (uint32_t steps = 0; steps <= 2; steps++)
+        other_file(__LINE__, steps, BYTES(240, 0, 0, 1, 0, 1, 0, 54, 146, 73),
+                   BYTES(240, 0, 0, 1, 0, 1, 0, 54, 0, 146, 73));
+    /* a procedure more: 626 for 313 */
+    other_file(__LINE__, 0, BYTES(HEAD0, 73), BYTES(HEAD0, 73, HEAD0, 73));
+    other_file(__LINE__, 1, BYTES(HEAD0, 73, HEAD0, 73), BYTES(HEAD0, 73));
+}
+
+/* A with its literals swapped, given its sums, runs on: 5 from A, then 5 - 5. */
+static void test_sums_put_right(void)
+{
+    rig g = a_state(1);
+    rig h = relend(&g, BYTES(A_WITH(3, 5)), REG_BYTES);
+    set_reg(&h, SUM_OF_SUMS, 4073);
+    EXPECT(is(do_run(&h, 9), REF_FINISHED, 0, 0, 3));
+    EXPECT(h.list[MAIN][0] == 0 && reg_of(&h, SUM) == 574 && reg_of(&h, SUM_OF_SUMS) == 4073);
+    rig_free(&g);
+    rig_free(&h);
+}
+
+/*
+ * Two files with equal sums: the literals at 8, 10 and 12 of 14 bytes are in
+ * the last 6, 4 and 2 sums. 1 + 2 + 1 = 2 + 0 + 2, and 6 + 8 + 2 = 12 + 0 + 4.
+ * The rest: 240 + 3 + 3 + 3 * 54 + 73 = 481, and 240 * 14 + 3 * (11 + 9) +
+ * 54 * (7 + 5 + 3) + 73 = 4,303.
+ */
+static void test_equal_sums(void)
+{
+    SUMS(485, 4319, THREE(1, 2, 1));
+    SUMS(485, 4319, THREE(2, 0, 2));
+    for (uint32_t steps = 0; steps <= 4; steps++) {
+        rig g = rig_new(BYTES(THREE(1, 2, 1)), 42, 3, 1, 5, 2, REG_BYTES);
+        EXPECT(is(do_start(&g), REF_READY, 0, 0, 0));
+        EXPECT(do_run(&g, steps).steps == steps);
+        rig h = relend(&g, BYTES(THREE(2, 0, 2)), REG_BYTES);
+        expect_taken(__LINE__, &h);
+        EXPECT(is(do_run(&h, 9), REF_FINISHED, 0, 0, 4 - steps));
+        EXPECT(h.list[MAIN][0] == (steps < 1 ? 2 : 1));
+        EXPECT(h.list[MAIN][1] == (steps < 2 ? 0 : 2));
+        EXPECT(h.list[MAIN][2] == (steps < 3 ? 2 : 1));
+        EXPECT(reg_of(&h, SUM) == 485 && reg_of(&h, SUM_OF_SUMS) == 4319);
+        rig_free(&h);
+        /* 1 + 1 + 2 is 4 too, 6 + 4 + 4 is 14 */
+        h = relend(&g, BYTES(THREE(1, 1, 2)), REG_BYTES);
+        expect_run_13(__LINE__, &h);
+        rig_free(&h);
+        rig_free(&g);
+    }
+}
+
+/* Right sums: run answers number at place. With a wrong sum or another length 13 comes first. */
+static void expect_13_before(int line, uint32_t number, uint32_t place, const rig *g)
+{
+    static const uint32_t off[][2] = { { 1, 0 }, { 0, 1 }, { 0x80000000u, 0 }, { 0, 0x80000000u },
+                                       { 1, 1 }, { 512, 3840 } };
+    static const size_t lens[] = { 0, 27, 28, 29, 35, 37 };
+    rig c = rig_copy(g);
+    expect(has_sums(g), line, "the sums are right");
+    expect(is_refused(do_run(&c, 1), number, place), line, "the refusal behind 13");
+    for (size_t i = 0; i < sizeof off / sizeof *off; i++) {
+        set_reg(&c, SUM, reg_of(g, SUM) ^ off[i][0]);
+        set_reg(&c, SUM_OF_SUMS, reg_of(g, SUM_OF_SUMS) ^ off[i][1]);
+        expect_run_13(line, &c);
+        if (number == 12)
+            continue; /* start has none */
+        expect(is_refused(do_start(&c), number, place), line, "start compares no sums");
+    }
+    for (size_t i = 0; i < sizeof lens / sizeof *lens; i++) {
+        rig h = relend(g, g->file, g->file_len, lens[i]);
+        expect_run_13(line, &h);
+        expect_start_13(line, &h);
+        rig_free(&h);
+    }
+    rig_free(&c);
+}
+
+/* Lists of these lengths, not started; then with 11 and 12 behind 10 as well. */
+static void lengths_13(int line, size_t m, size_t p, size_t c, size_t h)
+{
+    rig g = rig_new(BYTES(A_FILE), 40, m, p, c, h, REG_BYTES);
+    put_sums(&g);
+    expect_13_before(line, 10, 0, &g);
+    if (h > 0) {
+        g.list[HEAP][0] = 1;
+        expect_13_before(line, 10, 0, &g);
+    }
+    rig_free(&g);
+}
+
+static void test_13_before_10(void)
+{
+    lengths_13(__LINE__, 1, 1, 5, 2); /* below x */
+    lengths_13(__LINE__, 0, 1, 5, 2);
+    lengths_13(__LINE__, 4097, 1, 5, 2);
+    lengths_13(__LINE__, 2, 0, 5, 2);
+    lengths_13(__LINE__, 2, 4097, 5, 2);
+    lengths_13(__LINE__, 2, 1, 0, 2);
+    lengths_13(__LINE__, 2, 1, 4, 2);
+    lengths_13(__LINE__, 2, 1, 1281, 2);
+    lengths_13(__LINE__, 2, 1, 5, 0);
+    lengths_13(__LINE__, 2, 1, 5, 1);
+    lengths_13(__LINE__, 2, 1, 5, 16385);
+    lengths_13(__LINE__, 0, 0, 0, 0);
+    for (uint32_t steps = 0; steps <= 4; steps++) {
+        rig g = a_state(steps);
+        g.len[MAIN] = 1;
+        expect_13_before(__LINE__, 10, 0, &g);
+        rig_free(&g);
+    }
+}
+
+static void test_13_before_11(void)
+{
+    for (uint32_t steps = 0; steps <= 4; steps += 2) {
+        rig g = a_state(steps);
+        g.list[HEAP][0] = 1;
+        expect_13_before(__LINE__, 11, 0, &g);
+        g.list[HEAP][0] = 2;
+        g.list[HEAP][1] = 3;
+        expect_13_before(__LINE__, 11, 1, &g);
+        g.list[HEAP][1] = 0;
+        g.list[HEAP][5] = 1;
+        expect_13_before(__LINE__, 11, 5, &g);
+        set_reg(&g, STATE, 2); /* 12 behind that */
+        expect_13_before(__LINE__, 11, 5, &g);
+        rig_free(&g);
+    }
+}
+
+static void test_13_before_12(void)
+{
+    for (uint32_t steps = 0; steps <= 4; steps += 2)
+        for (size_t i = 0; i < SUM; i++) {
+            rig g = a_state(steps);
+            set_reg(&g, i, reg_of(&g, i) + 70);
+            expect_13_before(__LINE__, 12, 0, &g);
+            rig_free(&g);
+        }
+    for (uint32_t steps = 0; steps <= 4; steps += 2)
+        for (int list = MAIN; list <= CTL; list++) {
+            rig g = a_state(steps);
+            g.list[list][g.len[list] - 1] = 1; /* above the top */
+            expect_13_before(__LINE__, 12, 0, &g);
+            rig_free(&g);
+        }
+    rig g = a_state(2);
+    g.list[CTL][3] = 7; /* the first frame's return place */
+    expect_13_before(__LINE__, 12, 0, &g);
+    rig_free(&g);
+}
+
+/* 1 to 9 come before 13, with the map as they leave it. */
+static void test_13_after_9(void)
+{
+    static const uint8_t big[4097] = { HEAD0, 73 };
+    static const size_t lens[] = { 0, 27, 28, 29, 35, 36, 37 };
+    for (size_t i = 0; i < sizeof lens / sizeof *lens; i++) {
+        size_t n = lens[i];
+        refusal_with(__LINE__, 1, 0, NULL, 0, 4, n);
+        refusal_with(__LINE__, 1, 0, big, 4097, 4, n);
+        refusal_with(__LINE__, 2, 0, BYTES(A_FILE), 38, n);
+        refusal_with(__LINE__, 3, 0, BYTES(240, 0, 0), 12, n);
+        refusal_with(__LINE__, 4, 0, BYTES(240, 1, 0, 0, 0, 1, 0, 73), 27, n);
+        refusal_with(__LINE__, 5, 7, BYTES(HEAD0, 72, 0, 1, 73), 40, n);
+        refusal_with(__LINE__, 6, 7, BYTES(240, 0, 0, 0, 0, 1, 0, 54, 1), 30, n);
+        refusal_with(__LINE__, 7, 7, BYTES(240, 0, 0, 0, 0, 1, 0, 142, 73), 30, n);
+        refusal_with(__LINE__, 8, 7, BYTES(240, 0, 0, 1, 0, 1, 0, 73), 30, n);
+        refusal_with(__LINE__, 9, 9, BYTES(240, 0, 0, 0, 0, 1, 0, 54, 1, 3, 0, 5), 40, n);
+    }
+}
+
+/* Every ending of a run keeps the sums. */
+static void test_sums_kept(void)
+{
+    /* A: 574 and 4,077 */
+    static const uint8_t a[8] = { 0, 0, 2, 62, 0, 0, 15, 237 };
+    rig g = a_state(0);
+    EXPECT(sum_bytes(&g, a));
+    EXPECT(is(do_run(&g, 0), REF_SPENT, 0, 0, 0) && sum_bytes(&g, a));
+    EXPECT(is(do_run(&g, 3), REF_SPENT, 0, 0, 3) && sum_bytes(&g, a));
+    EXPECT(is(do_run(&g, 9), REF_FINISHED, 0, 0, 1) && sum_bytes(&g, a));
+    EXPECT(is(do_run(&g, 9), REF_FINISHED, 0, 0, 0) && sum_bytes(&g, a));
+    EXPECT(is(do_run(&g, 0), REF_FINISHED, 0, 0, 0) && sum_bytes(&g, a));
+    rig_free(&g);
+    /* 54 0 143 for 54 3 142: -3 + 1 and -3 * 3 + 2: 572 and 4,070 */
+    static const uint8_t zero[8] = { 0, 0, 2, 60, 0, 0, 15, 230 };
+    g = bench_rig(BYTES(240, 0, 0, 1, 0, 2, 0, 54, 5, 54, 0, 143, 73));
+    EXPECT(is(do_start(&g), REF_READY, 0, 0, 0) && sum_bytes(&g, zero));
+    EXPECT(is(do_run(&g, 9), REF_UNCAUGHT, 1, 11, 2) && sum_bytes(&g, zero));
+    EXPECT(is(do_run(&g, 9), REF_UNCAUGHT, 1, 11, 0) && sum_bytes(&g, zero));
+    rig_free(&g);
+    /* B, a step at a time, a caught exception among them: 987 and 8,367 */
+    static const uint8_t b[8] = { 0, 0, 3, 219, 0, 0, 32, 175 };
+    g = bench_rig(BYTES(B_FILE));
+    EXPECT(is(do_start(&g), REF_READY, 0, 0, 0) && sum_bytes(&g, b));
+    for (int i = 1; i <= 5; i++)
+        EXPECT(is(do_run(&g, 1), i < 5 ? REF_SPENT : REF_FINISHED, 0, 0, 1) && sum_bytes(&g, b));
+    rig_free(&g);
+}
+
+/* Start writes the sums of the file that it is lent. */
+static void test_sums_anew(void)
+{
+    static const uint8_t b[8] = { 0, 0, 3, 219, 0, 0, 32, 175 };
+    for (uint32_t steps = 0; steps <= 4; steps++) {
+        rig g = a_state(steps);
+        rig h = relend(&g, BYTES(B_FILE), REG_BYTES);
+        expect_run_13(__LINE__, &h);
+        EXPECT(is(do_start(&h), REF_READY, 0, 0, 0));
+        EXPECT(sum_bytes(&h, b));
+        EXPECT(is(do_run(&h, 2), REF_SPENT, 0, 0, 2));
+        /* and back */
+        rig back = relend(&h, BYTES(A_FILE), REG_BYTES);
+        expect_run_13(__LINE__, &back);
+        EXPECT(is(do_start(&back), REF_READY, 0, 0, 0));
+        EXPECT(is(do_run(&back, steps), steps < 4 ? REF_SPENT : REF_FINISHED, 0, 0, steps));
+        EXPECT(same_state(&back, &g));
+        rig_free(&g);
+        rig_free(&h);
+        rig_free(&back);
+    }
+}
+
+static void test_file_and_state(void)
+{
+    test_sum_function();
+    test_file_sums();
+    test_greatest_sums();
+    test_register_lengths();
+    test_map_of_13();
+    test_sum_bytes();
+    test_sum_words();
+    test_junk_registers();
+    test_other_files();
+    test_sums_put_right();
+    test_equal_sums();
+    test_13_before_10();
+    test_13_before_11();
+    test_13_before_12();
+    test_13_after_9();
+    test_sums_kept();
+    test_sums_anew();
 }
 
 int main(void)
@@ -2856,6 +3466,7 @@ int main(void)
     test_element_heaps();
     test_greatest_heaps();
     test_vector_damage();
+    test_file_and_state();
     printf("%lu checks, %lu failed\n", checks, failures);
     return failures == 0 ? 0 : 1;
 }

@@ -20,11 +20,11 @@ static uint8_t file[4096];
 static size_t file_len;
 static uint16_t map[3 * 4096];
 static uint32_t main_stack[4096], ptr_stack[4096], ctl_stack[1280], heap[16384];
-static uint8_t registers[28];
+static uint8_t registers[YALGOVIM_REGISTERS];
 static uint32_t budget;
 static volatile uint32_t kind;
 
-#define REST main_stack, 4096, ptr_stack, 4096, ctl_stack, 1280, heap, 16384, registers, 28
+#define REST main_stack, 4096, ptr_stack, 4096, ctl_stack, 1280, heap, 16384, registers, sizeof registers
 
 static void nothing(void) { kind = 0; }
 static void check(void) { kind = yalgovim_check(file, file_len, map, 3 * 4096).kind; }
@@ -70,6 +70,8 @@ static void try_file(const uint8_t *f, size_t n, size_t idle)
         budget = budgets[i];
         note(2, run, idle);
     }
+    registers[YALGOVIM_REGISTERS - 1] ^= 1; /* 13 */
+    note(2, run, idle);
 }
 
 #define TRY(...) \

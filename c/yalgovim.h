@@ -17,14 +17,20 @@
  *   ctl        control stack, 5 to 1,280 words, five for each record
  *   heap       2 to 16,384 words; an empty one is 2, 0, 0, ... (firmware
  *              writes that once, before the first start)
- *   registers  exactly 28 bytes: place, frame record, innermost handler
+ *   registers  exactly 36 bytes: place, frame record, innermost handler
  *              record, tops of main, pointer and control stack, state
- *              (0 running, 1 finished); four bytes each, most significant
+ *              (0 running, 1 finished), sum of the file's bytes, sum of
+ *              that sum after each byte; four bytes each, most significant
  *              first
  *
  * A refusal writes nothing but the map: 1 and 2 leave it as it was, 3 to 9
- * fill its first 3 x file_len numbers with 65,535, 10 to 12 leave the
+ * fill its first 3 x file_len numbers with 65,535, 10 to 13 leave the
  * finished map.
+ *
+ * A state belongs to the file that it was started for: the two sums tell
+ * which. Refusal 13 comes after 9 and before 10: the register list has not
+ * 36 bytes, or, in run, a sum in it is not the file's, whatever the state
+ * and the budget are.
  *
  * Refusal 11 names one word of the heap (docs/MANUAL.md 6.8): word 0 if the
  * mark is out of range; else the first fault met in walking the objects
@@ -47,7 +53,7 @@ enum {
     YALGOVIM_FINISHED = 2, /* run: procedure 0's results remain */
     YALGOVIM_SPENT = 3,    /* run: the budget is used up; run on */
     YALGOVIM_UNCAUGHT = 4, /* run: an exception that no handler caught */
-    YALGOVIM_REFUSED = 5   /* any: numbers 1 to 12 */
+    YALGOVIM_REFUSED = 5   /* any: numbers 1 to 13 */
 };
 
 /* The machine exceptions. A routine may raise any word with 162, these too. */
@@ -69,7 +75,7 @@ enum {
     YALGOVIM_PTR_MAX = 4096,
     YALGOVIM_CTL_MAX = 1280,
     YALGOVIM_HEAP_MAX = 16384,
-    YALGOVIM_REGISTERS = 28
+    YALGOVIM_REGISTERS = 36
 };
 
 typedef struct {
@@ -84,9 +90,10 @@ yalgovim_reply yalgovim_check(const uint8_t *file, size_t file_len,
                               uint16_t *map, size_t map_len);
 
 /*
- * Tests 1 to 12 (12: the register list's length alone). When ready, the three
- * stacks are zeroed all over, the first frame stands in the control stack and
- * the registers name procedure 0's first instruction. The heap is read only.
+ * Tests 1 to 9, 13 (the register list's length alone), 10 and 11. When ready,
+ * the three stacks are zeroed all over, the first frame stands in the control
+ * stack, and the registers name procedure 0's first instruction and have the
+ * file's sums. The heap is read only.
  */
 yalgovim_reply yalgovim_start(const uint8_t *file, size_t file_len,
                               uint16_t *map, size_t map_len,
@@ -97,9 +104,10 @@ yalgovim_reply yalgovim_start(const uint8_t *file, size_t file_len,
                               uint8_t *registers, size_t registers_len);
 
 /*
- * Tests 1 to 12, then does at most budget steps. Stacks, heap and registers
- * hold the state after them; hand them to the next run as they are. After
- * uncaught they are as before the instruction at fault.
+ * Tests 1 to 9, 13, 10, 11 and 12, then does at most budget steps. Stacks,
+ * heap and registers hold the state after them, the sums being kept; hand them
+ * to the next run of the same file as they are. After uncaught they are as
+ * before the instruction at fault.
  */
 yalgovim_reply yalgovim_run(const uint8_t *file, size_t file_len,
                             uint16_t *map, size_t map_len,
