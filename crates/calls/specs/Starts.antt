@@ -12,7 +12,7 @@ use Rattle.model.specs.File.{entry}
 use Rattle.model.specs.Sums.{sumsOf}
 use Rattle.model.specs.Control.{frameRec, putRec, wordFrom, regsFrom, regBytes}
 use Rattle.model.specs.Calls.{Lent, withMap, answers, firstFrame, started, startOf, leaving}
-use Rattle.call_tests.specs.Admit.{Admitted, tested-refused, tested-on, first-whole}
+use Rattle.call_tests.specs.Admit.{belongList, Admitted, tested-refused, tested-on, first-whole}
 use Rattle.check_flow.specs.declared.Verdict.{Verdict}
 use Rattle.check_flow.specs.declared.Verdict.the-variants.{Pass, Refuse}
 use Rattle.model.specs.declared.Regs.{Regs}
@@ -38,7 +38,7 @@ first-back s = refl
 
 module _ (l : Lent) (map table : List ℕ) (v : Verdict) (A : Admitted false l map table v) where
   pub start-refused : (n p : ℕ) → v ≡ Refuse n p → answers (Refused n p) (withMap map l) ≡ startOf l
-  unfolding startOf
+  unfolding startOf belongList
   start-refused n p e = tested-refused false l map table v A _ n p e
 
   -- the registers are put first, then the sums
@@ -46,7 +46,7 @@ module _ (l : Lent) (map table : List ℕ) (v : Verdict) (A : Admitted false l m
       ptr ≡ cut 0 (l .ptr) → ctl ≡ cut 0 (l .ctl) → put ≡ regBytes s firstRegs → t ≡ sumsOf (l .file) → bytes ≡ regBytes t (regsFrom put) →
       answers Ready
       (record { file = l .file; map = map; main = main; ptr = ptr; ctl = ctl; heap = l .heap; bytes = bytes }) ≡ startOf l
-  unfolding startOf started entry
+  unfolding startOf started entry belongList
   start-ready k e main ptr ctl put bytes s t em ep ec er es eb =
       let z = first-whole (l .file) (l .map) map (A .shown k e .passes) .0 in
       rw (em, ep, ec, eb, er, es, first-back s)

@@ -52,6 +52,10 @@ stored b i w at h e =
         ∙ take-at (take (4 * i) b ++ bytesOf w) (drop (4 * i + 4) b) (4 * i + 4)
         (length-append (take (4 * i) b) (bytesOf w) ∙ ap (λ (n : ℕ). n + 4) (length-take-le (4 * i) b (omega arith)))
 
+pub registers-length : (s : Sums) (r : Regs) → length (regBytes s r) ≡ registerBytes
+unfolding regBytes
+registers-length s r = refl
+
 -- all nine
 pub registers-stored : (b₀ b₁ b₂ b₃ b₄ b₅ b₆ b₇ b₈ b₉ : List ℕ) (s : Sums) (r : Regs) → length b₀ ≡ registerBytes →
     Stored b₀ 0 (r .place) b₁ → Stored b₁ 1 (r .frame) b₂ → Stored b₂ 2 (r .handler) b₃ → Stored b₃ 3 (r .mtop) b₄ →
@@ -59,9 +63,14 @@ pub registers-stored : (b₀ b₁ b₂ b₃ b₄ b₅ b₆ b₇ b₈ b₉ : List
     Stored b₈ 8 (s .second) b₉ → b₉ ≡ regBytes s r
 unfolding regBytes
 registers-stored b₀ b₁ b₂ b₃ b₄ b₅ b₆ b₇ b₈ b₉ s r h s₀ s₁ s₂ s₃ s₄ s₅ s₆ s₇ s₈ =
-    sym (take-all registerBytes b₉ (omega arith))
-    ∙ s₈ .front
-    ∙ on (s .second) (s₇ .front ∙ on (s .first) (s₆ .front ∙ on (r .state) (s₅ .front ∙ on (r .ctop) (s₄ .front ∙ on (r .ptop) (s₃ .front ∙ on (r .mtop) (s₂ .front ∙ on (r .handler) (s₁ .front ∙ on (r .frame) (s₀ .front))))))))
+    let e₂ = s₁ .front ∙ on (r .frame) (s₀ .front) in
+    let e₃ = s₂ .front ∙ on (r .handler) e₂ in
+    let e₄ = s₃ .front ∙ on (r .mtop) e₃ in
+    let e₅ = s₄ .front ∙ on (r .ptop) e₄ in
+    let e₆ = s₅ .front ∙ on (r .ctop) e₅ in
+    let e₇ = s₆ .front ∙ on (r .state) e₆ in
+    let e₈ = s₇ .front ∙ on (s .first) e₇ in
+    sym (take-all registerBytes b₉ (omega arith)) ∙ s₈ .front ∙ on (s .second) e₈
   where
     on : (w : ℕ) {x y : List ℕ} → x ≡ y → x ++ bytesOf w ≡ y ++ bytesOf w
     on w e = ap (λ (l : List ℕ). l ++ bytesOf w) e

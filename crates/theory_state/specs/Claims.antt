@@ -20,6 +20,7 @@ use Rattle.model.specs.Claim.{Call, check, start, run, callOf, NotRefused, Dept
 use Rattle.model.specs.declared.Sums.{Sums}
 use Rattle.model.specs.declared.Answer.the-variants as answer
 use Rattle.file_sums.specs.Fits.{sums-fit}
+use Rattle.registers.specs.Registers.{registers-length}
 use Rattle.theory_checker.specs.Exact.{passed-as, passed-again}
 use Rattle.theory_checker.specs.Leaves.{uncaught-stays}
 use Rattle.heap.specs.Pointers.{true-pointer}
@@ -30,7 +31,7 @@ use Rattle.theory_state.specs.Sound.{Sound, TestedPointer, sound-with, t
 use Rattle.theory_state.specs.Keep.{start-sound}
 use Rattle.theory_state.specs.Rules.{HeapLaws, KeptSound, kept-here, kept-on, step-keeps}
 use Rattle.theory_state.specs.Runs.{after-keeps, run-keeps}
-use Rattle.theory_state.specs.Registers.{registers-length, sums-back, registers-back, sound-small}
+use Rattle.theory_state.specs.Registers.{sums-back, registers-back, sound-small}
 use Rattle.theory_state.specs.Testing.{test-cases, start-asks, run-asks, readied}
 
 -- a state between the steps of a run on the lists l

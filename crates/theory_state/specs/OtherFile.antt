@@ -19,7 +19,8 @@ use Rattle.model.specs.declared.Answer.the-variants.{Passed, Ready, Refused}
 use Rattle.file_sums.specs.Fits.{sums-fit}
 use Rattle.theory_checker.specs.Exact.{passed-as}
 use Rattle.theory_checker.specs.Numbers.{verdict-number}
-use Rattle.theory_state.specs.Registers.{registers-length, sums-back}
+use Rattle.registers.specs.Registers.{registers-length}
+use Rattle.theory_state.specs.Registers.{sums-back}
 use Rattle.theory_state.specs.Testing.{test-cases, start-asks, asks-start, run-asks, asks-run, refused-number, refused-place, Never, ready-never}
 use Rattle.theory_state.specs.Testing.{run-never}
 

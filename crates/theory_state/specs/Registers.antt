@@ -1,14 +1,14 @@
 -- Registers and sums travel as bytes and come back the same: a word below 2^32 is the sum of its four bytes. A sound state's registers are
 -- small.
 use Prim.Native.Nat.{ℕ, _+_, _*_, _/_, _%_, _<_, _≤_}
-use mathlib.Core.Path.{_≡_, refl}
+use mathlib.Core.Path.{_≡_}
 use mathlib.Core.List.{List}
 use native.Mathlib.Omega.{arith}
 use native.Mathlib.Nat.{div-div-eq-div-mul, div-add-mod'}
 use lib.ListN.{length}
 use mathlib.Core.Logic.{inl, inr}
 use Rattle.model.specs.File.{greatestMain, greatestPtr}
-use Rattle.model.specs.Control.{Machine, registerBytes, wordFrom, regsFrom, sumsFrom, regBytes}
+use Rattle.model.specs.Control.{Machine, wordFrom, regsFrom, sumsFrom, regBytes}
 use Rattle.model.specs.declared.Regs.{Regs}
 use Rattle.model.specs.declared.Sums.{Sums}
 use Rattle.registers.specs.Registers.{RegsWords}
@@ -34,10 +34,6 @@ four-bytes w h =
     (digits w (w / 256) (w / 65536) (w / 16777216) (w % 256) (w / 256 % 256) (w / 65536 % 256) (div-add-mod' w 256)
     (rw a at (div-add-mod' (w / 256) 256))
     (rw b at (div-add-mod' (w / 65536) 256)))
-
-pub registers-length : (s : Sums) (r : Regs) → length (regBytes s r) ≡ registerBytes
-unfolding regBytes
-registers-length s r = refl
 
 pub sums-back : (s : Sums) (r : Regs) → s .first < words → s .second < words → sumsFrom (regBytes s r) ≡ s
 unfolding sumsFrom regBytes wordFrom
