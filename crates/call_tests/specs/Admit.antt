@@ -1,7 +1,7 @@
 -- Tests 1 to 9, 13, 10 and 11, which start and run share but for what they ask of 13: what the code finds of them decides what the model's
 -- `tested` comes to, whatever follows.
 use Prim.Native.Nat.{ℕ, _<_, _≤_}
-use mathlib.Core.Bool.{Bool, true, false, true≢false}
+use mathlib.Core.Bool.{Bool, true, false}
 use mathlib.Core.List.{List, [], _∷_}
 use mathlib.Core.Path.{_≡_, refl, ap, sym, _∙_}
 use native.Mathlib.Omega.{arith}
@@ -13,7 +13,7 @@ use Rattle.model.specs.File.{headOf, fileMost, procsMost}
 use Rattle.model.specs.Heap.{clean, heapOf, objectsOf}
 use Rattle.model.specs.Sums.{sumsOf}
 use Rattle.model.specs.Control.{registerBytes, recordWords, sumsFrom}
-use Rattle.model.specs.Calls.{pass, refuse, verdictOf, Checked, checked, answered, checkOf, Lent, withMap, After, answers, demand, audited, sumTests, lengthTests}
+use Rattle.model.specs.Calls.{pass, refuse, verdictOf, Checked, checked, answered, checkOf, Lent, withMap, After, answers, demand, audited, sumTests, registerTests, lengthTests}
 use Rattle.model.specs.Calls.{afterCheck, tested, mainMost, ptrMost, ctlMost, heapMost}
 use Rattle.model.specs.Calls as model
 use Rattle.laws.specs.Tests.{fails-all, decided}
@@ -33,13 +33,9 @@ use Rattle.audit_heap.specs.declared.HeapAudit.the-variants.{Clean, Fault}
 use Rattle.model.specs.declared.Sums.{Sums}
 use Rattle.model.specs.declared.Answer.the-variants.{Passed, Refused}
 
--- refusal 13 for run and for start, as the model's belongTests and registerTests have it
-unfoldable pub belongList : Bool → List ℕ → List ℕ → List Test
-belongList true f b = same (length b) registerBytes ∷ sumTests (sumsFrom b) (sumsOf f)
-belongList false f b = same (length b) registerBytes ∷ []
-
-abbrev pub asked : Bool → Lent → List Test
-asked run l = belongList run (l .file) (l .bytes)
+-- refusal 13 in run, as the model's belongTests has it
+abbrev pub belongList : List ℕ → List ℕ → List Test
+belongList f b = same (length b) registerBytes ∷ sumTests (sumsFrom b) (sumsOf f)
 
 pub sums-differ : {s t s′ t′ : Sums} → s ≡ s′ → t ≡ t′ → (s .first ≡ t .first → ⊥) → false ≡ all (sumTests s′ t′)
 sums-differ {s′ = s′} {t′ = t′} e g h = fails-all 0 (sumTests s′ t′) (rw (e, g) at h)
@@ -47,27 +43,15 @@ sums-differ {s′ = s′} {t′ = t′} e g h = fails-all 0 (sumTests s′ t′)
 pub sums-decide : {s t s′ t′ : Sums} → s ≡ s′ → t ≡ t′ → s .first ≡ t .first → eqb (s .second) (t .second) ≡ all (sumTests s′ t′)
 sums-decide {s = s} {t = t} e g h = rw (← e, ← g) (decided 1 (sumTests s t) _ refl (λ w. (h, (eqb-true _ _ w, tt))))
 
-pub belong-length : (run : Bool) (f b : List ℕ) → All (belongList run f b) → length b ≡ registerBytes
-unfolding belongList
-belong-length true f b T = T .0
-belong-length false f b T = T .0
+pub length-wrong : (f b : List ℕ) → (length b ≡ registerBytes → ⊥) → false ≡ all (belongList f b)
+length-wrong f b h = fails-all 0 (belongList f b) h
 
--- the length alone, or with the sums
-pub length-first : (run t : Bool) (f b : List ℕ) → length b ≡ registerBytes → run ≡ true → t ≡ all (sumTests (sumsFrom b) (sumsOf f)) →
-    t ≡ all (belongList run f b)
-unfolding belongList
-length-first true t f b h u e = e ∙ rw (eq-eqb (length b) registerBytes h)
-length-first false t f b h u e = absurd (true≢false (sym u))
+pub length-right : (t : Bool) (f b : List ℕ) → length b ≡ registerBytes → t ≡ all (sumTests (sumsFrom b) (sumsOf f)) → t ≡ all (belongList f b)
+length-right t f b h e = e ∙ rw (eq-eqb (length b) registerBytes h)
 
-pub length-alone : (run : Bool) (f b : List ℕ) → length b ≡ registerBytes → run ≡ false → true ≡ all (belongList run f b)
-unfolding belongList
-length-alone true f b h u = absurd (true≢false u)
-length-alone false f b h u = rw (eq-eqb (length b) registerBytes h)
-
-pub length-wrong : (run : Bool) (f b : List ℕ) → (length b ≡ registerBytes → ⊥) → false ≡ all (belongList run f b)
-unfolding belongList
-length-wrong true f b h = fails-all 0 (belongList true f b) h
-length-wrong false f b h = fails-all 0 (belongList false f b) h
+-- these are the tests for 13, and their outcome; it matters for a file that is not too long
+abbrev pub Asks : List Test → List ℕ → Bool → Type 0
+Asks ts f its = length f ≤ fileMost → its ≡ all ts
 
 -- refusal 10 on numbers, as the model's lengthTests has it
 abbrev pub lengthList : Head → ℕ → ℕ → ℕ → ℕ → List Test
@@ -92,21 +76,25 @@ abbrev pub admitted : Verdict → (Lent → After) → Lent → After
 admitted (Pass k) rest l = rest l
 admitted (Refuse n p) rest l = answers (Refused n p) l
 
--- what the tests show where they found nothing; the file has k procedures
-pub record AdmitShows (l : Lent) (map table : List ℕ) (k : ℕ) : Type 0 where
+-- what the tests show where they found nothing, ts being those for 13; the file has k procedures
+pub record AdmitShows (ts : List Test) (l : Lent) (map table : List ℕ) (k : ℕ) : Type 0 where
+  pub its : All ts
   pub passes : verdictOf (l .file) (l .map) ≡ pass map
   pub placed : Placed (l .file) table k
   pub lengths : All (lengthTests (withMap map l))
   pub heap-clean : heapOf (l .heap) ≡ clean (objectsOf (l .heap))
-  pub registers : length (l .bytes) ≡ registerBytes
 
-pub record Admitted (run : Bool) (l : Lent) (map table : List ℕ) (v : Verdict) : Type 0 where
-  pub is : (rest : Lent → After) → tested (asked run l) l rest ≡ admitted v rest (withMap map l)
-  pub shown : (k : ℕ) → v ≡ Pass k → AdmitShows l map table k
+pub record Admitted (ts : List Test) (l : Lent) (map table : List ℕ) (v : Verdict) : Type 0 where
+  pub is : (rest : Lent → After) → tested ts l rest ≡ admitted v rest (withMap map l)
+  pub shown : (k : ℕ) → v ≡ Pass k → AdmitShows ts l map table k
+
+-- in start
+abbrev pub Started : Lent → List ℕ → List ℕ → Verdict → Type 0
+Started l = Admitted (registerTests l) l
 
 -- the same, with the table of marks that is left behind
-pub record AdmittedMarks (run : Bool) (l : Lent) (map table : List ℕ) (marks : List Bool) (v : Verdict) : Type 0 where
-  pub found : Admitted run l map table v
+pub record AdmittedMarks (ts : List Test) (l : Lent) (map table : List ℕ) (marks : List Bool) (v : Verdict) : Type 0 where
+  pub found : Admitted ts l map table v
   pub marks-are : (k : ℕ) → v ≡ Pass k → Marks (objectsOf (l .heap)) marks
 
 -- the first head of a passed file stands at place 0, and is whole; the file is not too long
@@ -129,12 +117,12 @@ not-passed ts l map (refuse j q new) (Refuse k p) e n rest =
     let b : map ≡ new = ap (λ (c : Checked). c .map) e in
     rw (a, b)
 
-pub admit-refused : {run : Bool} {l : Lent} {map table : List ℕ} {marks : List Bool} {v : Verdict} → Checks (l .file) (l .map) map table v →
-    ((k : ℕ) → v ≡ Pass k → ⊥) → AdmittedMarks run l map table marks v
+pub admit-refused : {ts : List Test} {l : Lent} {map table : List ℕ} {marks : List Bool} {v : Verdict} → Checks (l .file) (l .map) map table v →
+    ((k : ℕ) → v ≡ Pass k → ⊥) → AdmittedMarks ts l map table marks v
 unfolding checkOf
-admit-refused {run = run} {l = l} {map = map} {v = v} C n =
+admit-refused {ts = ts} {l = l} {map = map} {v = v} C n =
     record {
-      found = record { is = not-passed (asked run l) l map (verdictOf (l .file) (l .map)) v (C .is) n; shown = λ k e. absurd (n k e) };
+      found = record { is = not-passed ts l map (verdictOf (l .file) (l .map)) v (C .is) n; shown = λ k e. absurd (n k e) };
       marks-are = λ k e. absurd (n k e);
     }
 
@@ -150,39 +138,42 @@ unfolding checkOf
 admit-passes {f = f} {map₀ = map₀} {map = map} C z = passes-with map (verdictOf f map₀) (sym (ap (λ (x : Verdict). checked (answerOf x) map) z) ∙ C .is)
 
 -- what a refusal behind the check comes to
-refused : {run : Bool} {l : Lent} {map table : List ℕ} {marks : List Bool} (n p : ℕ) →
-    ((rest : Lent → After) → tested (asked run l) l rest ≡ answers (Refused n p) (withMap map l)) → AdmittedMarks run l map table marks (Refuse n p)
+refused : {ts : List Test} {l : Lent} {map table : List ℕ} {marks : List Bool} (n p : ℕ) →
+    ((rest : Lent → After) → tested ts l rest ≡ answers (Refused n p) (withMap map l)) → AdmittedMarks ts l map table marks (Refuse n p)
 refused n p e = record { found = record { is = e; shown = λ j z. refuse-pass n p j z }; marks-are = λ j z. refuse-pass n p j z }
 
-pub admit-foreign : {run : Bool} {l : Lent} {map table : List ℕ} {marks : List Bool} {v : Verdict} {k : ℕ} {its? : Bool} →
-    Checks (l .file) (l .map) map table v → v ≡ Pass k → its? ≡ all (asked run l) → its? ≡ false → AdmittedMarks run l map table marks (Refuse 13 0)
-admit-foreign C z t w = refused 13 0 (λ rest. rw (admit-passes C z, sym t ∙ w))
+pub admit-foreign : {ts : List Test} {l : Lent} {map table : List ℕ} {marks : List Bool} {v : Verdict} {k : ℕ} {its? : Bool} →
+    Checks (l .file) (l .map) map table v → v ≡ Pass k → Asks ts (l .file) its? → its? ≡ false → AdmittedMarks ts l map table marks (Refuse 13 0)
+admit-foreign {l = l} {map = map} C z t w =
+    let p = admit-passes C z in
+    refused 13 0 (λ rest. rw (p, sym (t (first-whole (l .file) (l .map) map p .2)) ∙ w))
 
 -- what is known of a passed file that the state belongs to, before its heap is looked at
-pub record Measured (run : Bool) (l : Lent) (map table : List ℕ) (k : ℕ) (right? : Bool) : Type 0 where
+pub record Measured (ts : List Test) (l : Lent) (map table : List ℕ) (k : ℕ) (right? : Bool) : Type 0 where
   pub passes : verdictOf (l .file) (l .map) ≡ pass map
   pub placed : Placed (l .file) table k
-  pub its : all (asked run l) ≡ true
+  pub its : all ts ≡ true
   pub tests : right? ≡ all (lengthTests (withMap map l))
 
-pub measured : {run : Bool} {l : Lent} {map table : List ℕ} {v : Verdict} {k : ℕ} {its? : Bool} {head : Head} {right? : Bool} →
-    Checks (l .file) (l .map) map table v → v ≡ Pass k → its? ≡ all (asked run l) → its? ≡ true → HeadIs (l .file) 0 head →
+pub measured : {ts : List Test} {l : Lent} {map table : List ℕ} {v : Verdict} {k : ℕ} {its? : Bool} {head : Head} {right? : Bool} →
+    Checks (l .file) (l .map) map table v → v ≡ Pass k → Asks ts (l .file) its? → its? ≡ true → HeadIs (l .file) 0 head →
     right? ≡ all (lengthList head (length (l .main)) (length (l .ptr)) (length (l .ctl)) (length (l .heap))) →
-    Measured run l map table k right?
+    Measured ts l map table k right?
 unfolding lengthTests procHead
 measured {l = l} {map = map} {k = k} C z t w H r =
     let p = admit-passes C z in
-    let e : _ ≡ procHead (l .file) 0 = H .is ∙ head-of (l .file) 0 0 (sym (first-whole (l .file) (l .map) map p .0)) in
+    let whole = first-whole (l .file) (l .map) map p in
+    let e : _ ≡ procHead (l .file) 0 = H .is ∙ head-of (l .file) 0 0 (sym (whole .0)) in
     record {
       passes = p;
       placed = C .placed k z;
-      its = sym t ∙ w;
+      its = sym (t (whole .2)) ∙ w;
       tests = r ∙ ap (λ (w : Head). all (lengthList w (length (l .main)) (length (l .ptr)) (length (l .ctl)) (length (l .heap)))) e;
     }
 
-module _ {run : Bool} {l : Lent} {map table : List ℕ} {k : ℕ} {right? : Bool} (M : Measured run l map table k right?) where
+module _ {ts : List Test} {l : Lent} {map table : List ℕ} {k : ℕ} {right? : Bool} (M : Measured ts l map table k right?) where
   go-on : (rest : Lent → After) →
-      tested (asked run l) l rest
+      tested ts l rest
       ≡ demand (lengthTests (withMap map l)) 10 (withMap map l) (audited (heapOf (l .heap)) (withMap map l) (rest (withMap map l)))
   go-on rest = rw (M .passes, M .its)
 
@@ -195,14 +186,14 @@ module _ {run : Bool} {l : Lent} {map table : List ℕ} {k : ℕ} {right? : Bool
       let T = all-true (lengthTests (withMap map l)) (right w) in
       (T .1 .1 .1 .1 .1 .1 .0, T .1 .1 .1 .1 .1 .1 .1 .0)
 
-  pub admit-lengths : {marks : List Bool} → right? ≡ false → AdmittedMarks run l map table marks (Refuse 10 0)
+  pub admit-lengths : {marks : List Bool} → right? ≡ false → AdmittedMarks ts l map table marks (Refuse 10 0)
   admit-lengths w = refused 10 0 (λ rest. go-on rest ∙ rw (sym (M .tests) ∙ w))
 
   module _ (w : right? ≡ true) {h : HeapAudit} {marks : List Bool} (h-is : Audited (l .heap) h marks) where
-    pub admit-heap : {q : ℕ} → h ≡ Fault q → AdmittedMarks run l map table marks (Refuse 11 q)
+    pub admit-heap : {q : ℕ} → h ≡ Fault q → AdmittedMarks ts l map table marks (Refuse 11 q)
     admit-heap {q = q} e = refused 11 q (λ rest. go-on rest ∙ rw (right w, audited-fault q h-is e))
 
-    pub admit-all : h ≡ Clean → AdmittedMarks run l map table marks (Pass k)
+    pub admit-all : h ≡ Clean → AdmittedMarks ts l map table marks (Pass k)
     admit-all e =
         let clean-is = audited-clean h-is e in
         record {
@@ -211,11 +202,11 @@ module _ {run : Bool} {l : Lent} {map table : List ℕ} {k : ℕ} {right? : Bool
             shown = λ j y.
                 let x : k ≡ j = cc in
                 record {
+                  its = all-true ts (M .its);
                   passes = M .passes;
                   placed = rw x at (M .placed);
                   lengths = all-true (lengthTests (withMap map l)) (right w);
                   heap-clean = clean-is;
-                  registers = belong-length run (l .file) (l .bytes) (all-true (asked run l) (M .its));
                 };
           };
           marks-are = λ j y. h-is .marks e;
@@ -226,9 +217,9 @@ test-self true = refl
 test-self false = refl
 
 -- what start and run come to, once admitted or not
-module _ (run : Bool) (l : Lent) (map table : List ℕ) (v : Verdict) (A : Admitted run l map table v) (rest : Lent → After) where
-  pub tested-refused : (n p : ℕ) → v ≡ Refuse n p → answers (Refused n p) (withMap map l) ≡ tested (asked run l) l rest
+module _ (ts : List Test) (l : Lent) (map table : List ℕ) (v : Verdict) (A : Admitted ts l map table v) (rest : Lent → After) where
+  pub tested-refused : (n p : ℕ) → v ≡ Refuse n p → answers (Refused n p) (withMap map l) ≡ tested ts l rest
   tested-refused n p e = sym (A .is rest ∙ ap (λ (x : Verdict). admitted x rest (withMap map l)) e)
 
-  pub tested-on : (k : ℕ) → v ≡ Pass k → rest (withMap map l) ≡ tested (asked run l) l rest
+  pub tested-on : (k : ℕ) → v ≡ Pass k → rest (withMap map l) ≡ tested ts l rest
   tested-on k e = sym (A .is rest ∙ ap (λ (x : Verdict). admitted x rest (withMap map l)) e)

@@ -10,12 +10,12 @@ use Rattle.model.specs.Heap.{objectsOf}
 use Rattle.model.specs.Control.{regsFrom}
 use Rattle.model.specs.Sound.{sound?}
 use Rattle.model.specs.Claim.{Bytes}
-use Rattle.model.specs.Calls.{Lent, withMap, machineOf, After, answers, lengthTests, soundTests, demand, testedForRun, mainMost, ptrMost}
+use Rattle.model.specs.Calls.{Lent, withMap, machineOf, After, answers, lengthTests, belongTests, soundTests, demand, testedForRun, mainMost, ptrMost}
 use Rattle.check_flow.specs.declared.Verdict.{Verdict}
 use Rattle.check_flow.specs.declared.Verdict.the-variants.{Pass, Refuse}
 use Rattle.audit_heap.specs.Table.{Marks}
 use Rattle.audit_places.specs.Places.{AuditReady, passed-ready}
-use Rattle.call_tests.specs.Admit.{belongList, AdmitShows, AdmittedMarks, tested-refused, tested-on}
+use Rattle.call_tests.specs.Admit.{AdmitShows, AdmittedMarks, tested-refused, tested-on}
 use Rattle.call_tests.specs.declared.Tested.{Tested}
 use Rattle.call_tests.specs.declared.Tested.the-variants.{Sound, Unfit}
 use Rattle.model.specs.declared.Regs.{Regs}
@@ -27,7 +27,7 @@ judgedFor (Unfit n p) rest l = answers (Refused n p) l
 
 -- a state that was let through: the file has k procedures, and these are the registers
 pub record Through (l : Lent) (map table : List ℕ) (k : ℕ) (r : Regs) : Type 0 where
-  pub shown : AdmitShows l map table k
+  pub shown : AdmitShows (belongTests l) l map table k
   pub regs-are : r ≡ regsFrom (l .bytes)
   pub sound : sound? (l .file) map (machineOf (withMap map l)) ≡ true
 
@@ -42,14 +42,13 @@ unfit-sound n p k r e = let y : _≡_ {A = ℕ} 0 1 = cc in absurd (omega arith)
 abbrev then : (Lent → After) → Lent → After
 then rest l = demand (soundTests l) 12 l (rest l)
 
-module _ {l : Lent} {map table : List ℕ} {marks : List Bool} {v : Verdict} (A : AdmittedMarks true l map table marks v) where
+module _ {l : Lent} {map table : List ℕ} {marks : List Bool} {v : Verdict} (A : AdmittedMarks (belongTests l) l map table marks v) where
   pub test-refused : {n p : ℕ} → v ≡ Refuse n p → TestedAs l map table (Unfit n p)
-  unfolding belongList
   test-refused {n = n} {p = p} e =
-      record { is = λ rest. sym (tested-refused true l map table v (A .found) (then rest) n p e); through = λ k r z. unfit-sound n p k r z }
+      record { is = λ rest. sym (tested-refused (belongTests l) l map table v (A .found) (then rest) n p e); through = λ k r z. unfit-sound n p k r z }
 
   module _ {k : ℕ} (e : v ≡ Pass k) where
-    S : AdmitShows l map table k
+    S : AdmitShows (belongTests l) l map table k
     S = A .found .shown k e
 
     pub test-ready : Bytes (l .file) → AuditReady (l .file) map table k
@@ -66,18 +65,16 @@ module _ {l : Lent} {map table : List ℕ} {marks : List Bool} {v : Verdict} (A 
       sound-is = t-is (l .heap) (A .marks-are k e) ∙ rw r-is
 
       pub test-unsound : t ≡ false → TestedAs l map table (Unfit 12 0)
-      unfolding belongList
       test-unsound w =
           record {
-            is = λ rest. sym (tested-on true l map table v (A .found) (then rest) k e) ∙ rw (sym sound-is ∙ w);
+            is = λ rest. sym (tested-on (belongTests l) l map table v (A .found) (then rest) k e) ∙ rw (sym sound-is ∙ w);
             through = λ j s z. unfit-sound 12 0 j s z;
           }
 
       pub test-sound : t ≡ true → TestedAs l map table (Sound k r)
-      unfolding belongList
       test-sound w =
           record {
-            is = λ rest. sym (tested-on true l map table v (A .found) (then rest) k e) ∙ rw (sym sound-is ∙ w);
+            is = λ rest. sym (tested-on (belongTests l) l map table v (A .found) (then rest) k e) ∙ rw (sym sound-is ∙ w);
             through = λ j s z. go j s z;
           }
         where

@@ -1,19 +1,20 @@
 // What start and run test: refusals 1 to 9, 13, 10 and 11; then, for run, the state.
 ghost use mathlib.Core.Path.{_≡_};
-ghost use mathlib.Core.Bool.{Bool, true, false};
-ghost use Prim.Native.Nat.{_≤_};
+ghost use mathlib.Core.List.{List};
+ghost use Prim.Native.Nat.{ℕ, _≤_};
 ghost use lib.ListN.{length, replicate};
-ghost use Rattle.model.specs.Choice.{all};
+ghost use Rattle.model.specs.Choice.{Test, all};
 ghost use Rattle.model.specs.Control.{registerBytes, sumsFrom};
 ghost use Rattle.model.specs.File.{fileMost, procsMost};
 ghost use Rattle.model.specs.Sums.{sumsOf};
 ghost use Rattle.model.specs.Calls.{sumTests};
-ghost use Rattle.call_tests.specs.Admit.{belongList, lengthList, Tables, Admitted, AdmittedMarks};
+ghost use Rattle.call_tests.specs.Admit.{belongList, lengthList, Asks, Tables, Started, AdmittedMarks};
 ghost use Rattle.call_tests.specs.Tested.{TestedAs};
 use audit_heap::HeapAudit;
 use check_flow::Verdict;
 use code_file::Head;
 use model::CTL_MOST;
+use model::FILE_MOST;
 use model::HEAP_MOST;
 use model::MAIN_MOST;
 use model::PROCS_MOST;
@@ -41,18 +42,17 @@ fn sums_right(file: &[u8], bytes: &[u8]) -> bool
     its.second == own.second
 }
 
-// Refusal 13: the register list's length; for a run the sums, too.
-fn belongs(file: &[u8], bytes: &[u8], run: bool) -> bool
-    requires { ⌜ length (now file) ≤ fileMost ⌝ }
-    ensures { λ r. ⌜ r ≡ all (belongList run (now (file .entry)) (now (bytes .entry))) ⌝ }
+// Refusal 13 in run, for a file that is not too long: the register list's length, and the sums.
+fn belongs(file: &[u8], bytes: &[u8]) -> bool
+    ensures { λ r. ⌜ (length (now (file .entry)) ≤ fileMost → r ≡ all (belongList (now (file .entry)) (now (bytes .entry)))) ⌝ }
 {
     if bytes.len() != REGISTER_BYTES {
         return false;
     }
-    if run {
-        return sums_right(file, bytes);
+    if FILE_MOST < file.len() {
+        return false;
     }
-    true
+    sums_right(file, bytes)
 }
 
 // Refusal 10: the lent lengths, with the head of procedure 0.
@@ -89,8 +89,9 @@ fn lengths_right(head: Head, main: usize, ptr: usize, ctl: usize, heap: usize) -
     head.y <= ptr
 }
 
-// Refusals 1 to 9, 13 as start or as run asks for it, 10 and 11. Where there is none, the table has the heads of so many procedures, and
-// the heap's objects are marked.
+// Refusals 1 to 9, 13, 10 and 11. `its` says whether the tests for 13 hold, which start and run have each their own. They are made ahead of
+// the check, so that no list of bytes is carried through it. Where there is no refusal, the table has the heads of so many procedures, and the
+// heap's objects are marked.
 fn admit_with(
     file: &[u8],
     map: &mut [u16],
@@ -100,25 +101,24 @@ fn admit_with(
     ptr: &[u32],
     ctl: &[u32],
     heap: &[u32],
-    bytes: &[u8],
-    run: bool,
+    its: bool,
 ) -> Verdict
     requires { ⌜ Tables (now table) (now marks) (now heap) ⌝ }
-    ensures { λ r. ⌜ AdmittedMarks run (record {
+    ensures { λ r. ⌜ ((ts : List Test) (bytes : List ℕ) → Asks ts (now (file .entry)) its → AdmittedMarks ts (record {
       file = now (file .entry);
       map = now (map .entry);
       main = now (main .entry);
       ptr = now (ptr .entry);
       ctl = now (ctl .entry);
       heap = now (heap .entry);
-      bytes = now (bytes .entry);
-    }) (now (map .exit)) (now (table .exit)) (now (marks .exit)) r ⌝ }
+      bytes = bytes;
+    }) (now (map .exit)) (now (table .exit)) (now (marks .exit)) r) ⌝ }
 {
     let v = checker::check_with(file, map, table);
     let Verdict::Pass(k) = v else {
         return v;
     };
-    if !belongs(file, bytes, run) {
+    if !its {
         return Verdict::Refuse(13, 0);
     }
     let head = code_file::head_at(file, 0);
@@ -133,7 +133,8 @@ fn admit_with(
     }
 }
 
-// The same for start, with marks of its own. A short heap is given a short table: to clear the long one takes longer than to test a short heap.
+// The same for start, with marks of its own. A short heap is given a short table: to clear the long one takes longer than to test a short
+// heap.
 pub fn admit(
     file: &[u8],
     map: &mut [u16],
@@ -145,7 +146,7 @@ pub fn admit(
     bytes: &[u8],
 ) -> Verdict
     requires { ⌜ now table ≡ replicate procsMost 0 ⌝ }
-    ensures { λ r. ⌜ Admitted false (record {
+    ensures { λ r. ⌜ Started (record {
       file = now (file .entry);
       map = now (map .entry);
       main = now (main .entry);
@@ -155,34 +156,13 @@ pub fn admit(
       bytes = now (bytes .entry);
     }) (now (map .exit)) (now (table .exit)) r ⌝ }
 {
+    let its = bytes.len() == REGISTER_BYTES;
     if heap.len() <= FEW {
         let mut few = [false; FEW];
-        return admit_with(
-            file,
-            map,
-            table,
-            &mut few,
-            main,
-            ptr,
-            ctl,
-            heap,
-            bytes,
-            false,
-        );
+        return admit_with(file, map, table, &mut few, main, ptr, ctl, heap, its);
     }
     let mut marks = [false; MANY];
-    admit_with(
-        file,
-        map,
-        table,
-        &mut marks,
-        main,
-        ptr,
-        ctl,
-        heap,
-        bytes,
-        false,
-    )
+    admit_with(file, map, table, &mut marks, main, ptr, ctl, heap, its)
 }
 
 // What the tests of a run find: a sound state of a file with so many procedures, and its registers; or a refusal, its number and its place.
@@ -191,7 +171,7 @@ pub enum Tested {
     Unfit(u32, usize),
 }
 
-// All that run tests.
+// All that run tests; `its` says whether its tests for 13 hold.
 fn test_with(
     file: &[u8],
     map: &mut [u16],
@@ -202,8 +182,9 @@ fn test_with(
     ctl: &[u32],
     heap: &[u32],
     bytes: &[u8],
+    its: bool,
 ) -> Tested
-    requires { ⌜ Tables (now table) (now marks) (now heap) ⌝ }
+    requires { ⌜ Tables (now table) (now marks) (now heap) × Asks (belongList (now file) (now bytes)) (now file) its ⌝ }
     ensures { λ r. ⌜ TestedAs (record {
       file = now (file .entry);
       map = now (map .entry);
@@ -214,7 +195,7 @@ fn test_with(
       bytes = now (bytes .entry);
     }) (now (map .exit)) (now (table .exit)) r ⌝ }
 {
-    let v = admit_with(file, map, table, marks, main, ptr, ctl, heap, bytes, true);
+    let v = admit_with(file, map, table, marks, main, ptr, ctl, heap, its);
     match v {
         Verdict::Refuse(n, p) => Tested::Unfit(n, p),
         Verdict::Pass(k) => {
@@ -249,10 +230,22 @@ pub fn test_for_run(
       bytes = now (bytes .entry);
     }) (now (map .exit)) (now (table .exit)) r ⌝ }
 {
+    let its = belongs(file, bytes);
     if heap.len() <= FEW {
         let mut few = [false; FEW];
-        return test_with(file, map, table, &mut few, main, ptr, ctl, heap, bytes);
+        return test_with(file, map, table, &mut few, main, ptr, ctl, heap, bytes, its);
     }
     let mut marks = [false; MANY];
-    test_with(file, map, table, &mut marks, main, ptr, ctl, heap, bytes)
+    test_with(
+        file,
+        map,
+        table,
+        &mut marks,
+        main,
+        ptr,
+        ctl,
+        heap,
+        bytes,
+        its,
+    )
 }

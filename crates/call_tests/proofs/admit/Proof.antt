@@ -1,10 +1,15 @@
 -- `call_tests::admit` meets its contract: its marks are fresh, and enough for the heap or for any that is not too long.
 use mathlib.Core.Path.{refl}
+use Rattle.model.specs.Calls.{Lent, heapMost, registerTests}
+use Rattle.call_tests.specs.Admit.{tables-fresh, test-self}
 use borrow.Author.Needs.{needs}
-use Rattle.call_tests.specs.Admit.{tables-fresh}
 use Rattle.call_tests.proofs.admit.Statement.{statement}
 use Rattle.call_tests.proofs.admit.Tie as tie
-use Rattle.model.specs.Calls.{heapMost}
+
+abbrev lent : tie.Start → Lent
+lent S =
+    let A = S .args in
+    record { file = A .file .now; map = A .map .now; main = A .main .now; ptr = A .ptr .now; ctl = A .ctl .now; heap = A .heap .now; bytes = A .bytes .now }
 
 slice-aggregate-admit-with : tie.Need-slice-aggregate-admit-with
 slice-aggregate-admit-with c = search needs
@@ -18,7 +23,9 @@ same-length : tie.Need-same-length
 same-length c = search needs
 
 returns : tie.Need-returns
-returns c = c .before .before .before .admit-with .ensures .found
+returns c =
+    let l = lent (c .before .before .before .before .before .before .before .before .before .before .before .before .before .before .before) in
+    c .before .before .before .admit-with .ensures (registerTests l) (l .bytes) (λ few. test-self _) .found
 
 slice-aggregate-admit-with-2 : tie.Need-slice-aggregate-admit-with-2
 slice-aggregate-admit-with-2 c = search needs
@@ -32,7 +39,9 @@ same-length-2 : tie.Need-same-length-2
 same-length-2 c = search needs
 
 returns-2 : tie.Need-returns-2
-returns-2 c = c .before .before .before .admit-with2 .ensures .found
+returns-2 c =
+    let l = lent (c .before .before .before .before .before .before .before .before .before .before .before .before .before .before .before) in
+    c .before .before .before .admit-with2 .ensures (registerTests l) (l .bytes) (λ few. test-self _) .found
 
 pub admit-spec : {M : Type 1} → statement M
 admit-spec =

@@ -28,7 +28,7 @@ put-regs-requires : tie.Need-put-regs-requires
 put-regs-requires c κs =
     let at-t2 = c .before .before .before .before .before .before .before .before .before .before .before .before .before .before .before .before .before in
     let at-test-for-run = at-t2 .before .before .before .before in
-    at-test-for-run .test-for-run .ensures .through _ _ (at-t2 .t2 .given .1) .shown .registers
+    at-test-for-run .test-for-run .ensures .through _ _ (at-t2 .t2 .given .1) .shown .its .0
 
 same-length : tie.Need-same-length
 same-length c = search needs

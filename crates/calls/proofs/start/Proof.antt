@@ -34,7 +34,7 @@ put-regs-requires : tie.Need-put-regs-requires
 put-regs-requires c κs =
     let at-enum-told = c .before .before .before .before .before .before .before .before .before .before .before .before .before .before in
     let at-admit = at-enum-told .before .before .before .before in
-    at-admit .admit .ensures .shown _ (at-enum-told .enum-told .given .1) .registers
+    at-admit .admit .ensures .shown _ (at-enum-told .enum-told .given .1) .its .0
 
 sums-of-requires : tie.Need-sums-of-requires
 sums-of-requires c κs =
