@@ -93,6 +93,7 @@ fn lengths_right(head: Head, main: usize, ptr: usize, ctl: usize, heap: usize) -
 // the check, so that no list of bytes is carried through it. Where there is no refusal, the table has the heads of so many procedures, and the
 // heap's objects are marked.
 fn admit_with(
+    its: bool,
     file: &[u8],
     map: &mut [u16],
     table: &mut [usize; PROCS_MOST],
@@ -101,7 +102,6 @@ fn admit_with(
     ptr: &[u32],
     ctl: &[u32],
     heap: &[u32],
-    its: bool,
 ) -> Verdict
     requires { ⌜ Tables (now table) (now marks) (now heap) ⌝ }
     ensures { λ r. ⌜ ((ts : List Test) (bytes : List ℕ) → Asks ts (now (file .entry)) its → AdmittedMarks ts (record {
@@ -159,10 +159,10 @@ pub fn admit(
     let its = bytes.len() == REGISTER_BYTES;
     if heap.len() <= FEW {
         let mut few = [false; FEW];
-        return admit_with(file, map, table, &mut few, main, ptr, ctl, heap, its);
+        return admit_with(its, file, map, table, &mut few, main, ptr, ctl, heap);
     }
     let mut marks = [false; MANY];
-    admit_with(file, map, table, &mut marks, main, ptr, ctl, heap, its)
+    admit_with(its, file, map, table, &mut marks, main, ptr, ctl, heap)
 }
 
 // What the tests of a run find: a sound state of a file with so many procedures, and its registers; or a refusal, its number and its place.
@@ -173,6 +173,7 @@ pub enum Tested {
 
 // All that run tests; `its` says whether its tests for 13 hold.
 fn test_with(
+    its: bool,
     file: &[u8],
     map: &mut [u16],
     table: &mut [usize; PROCS_MOST],
@@ -182,7 +183,6 @@ fn test_with(
     ctl: &[u32],
     heap: &[u32],
     bytes: &[u8],
-    its: bool,
 ) -> Tested
     requires { ⌜ Tables (now table) (now marks) (now heap) × Asks (belongList (now file) (now bytes)) (now file) its ⌝ }
     ensures { λ r. ⌜ TestedAs (record {
@@ -195,7 +195,7 @@ fn test_with(
       bytes = now (bytes .entry);
     }) (now (map .exit)) (now (table .exit)) r ⌝ }
 {
-    let v = admit_with(file, map, table, marks, main, ptr, ctl, heap, its);
+    let v = admit_with(its, file, map, table, marks, main, ptr, ctl, heap);
     match v {
         Verdict::Refuse(n, p) => Tested::Unfit(n, p),
         Verdict::Pass(k) => {
@@ -233,10 +233,11 @@ pub fn test_for_run(
     let its = belongs(file, bytes);
     if heap.len() <= FEW {
         let mut few = [false; FEW];
-        return test_with(file, map, table, &mut few, main, ptr, ctl, heap, bytes, its);
+        return test_with(its, file, map, table, &mut few, main, ptr, ctl, heap, bytes);
     }
     let mut marks = [false; MANY];
     test_with(
+        its,
         file,
         map,
         table,
@@ -246,6 +247,5 @@ pub fn test_for_run(
         ctl,
         heap,
         bytes,
-        its,
     )
 }

@@ -25,7 +25,7 @@ lent S =
 found-at : (c : tie.After-admit-with) →
     let l = lent (c .before .before .before .before .before .before .before .before .before .before .before .before) in
     let C = c .admit-with in
-    AdmittedMarks (belongTests l) l (C .last .1 .0) (C .last .1 .1 .0) (C .last .1 .1 .1 .0) (C .result)
+    AdmittedMarks (belongTests l) l (C .last .1 .1 .0) (C .last .1 .1 .1 .0) (C .last .1 .1 .1 .1 .0) (C .result)
 found-at c =
     let entry = c .before .before .before .before .before .before .before .before .before .before .before .before in
     let l = lent entry in
