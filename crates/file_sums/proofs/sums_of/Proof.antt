@@ -8,13 +8,13 @@ use Rattle.file_sums.proofs.sums_of.Statement.{statement}
 use Rattle.file_sums.proofs.sums_of.Tie as tie
 
 abbrev Inv-loop : tie.InvT-loop
-Inv-loop file first₀ second₀ i₀ first second i = (i ≤ length file) × (first < 4294967296) × (second < 4294967296) × Summing file i first second
+Inv-loop file first₀ second₀ i₀ first second i = (i ≤ length file) × Summing file i first second × (first < 4294967296) × (second < 4294967296)
 
 abbrev μ-loop : tie.MeasureT-loop
 μ-loop file first₀ second₀ i₀ first second i = length file - i
 
 loop-holds : tie.Need-loop-holds Inv-loop μ-loop
-loop-holds c = (omega arith, omega arith, omega arith, none-summed _)
+loop-holds c = (omega arith, none-summed _, omega arith, omega arith)
 
 shared-slice-read-byte : tie.Need-shared-slice-read-byte Inv-loop μ-loop
 shared-slice-read-byte c = search needs
@@ -38,12 +38,12 @@ loop-again : tie.Need-loop-again Inv-loop μ-loop
 loop-again c =
     let at-loop = c .before .before .before in
     let at-file = at-loop .before in
-    let more = one-summed (at-loop .loop .inv .3) (c .byte .result) (c .byte .ensures .is) (omega arith) in
+    let more = one-summed (at-loop .loop .inv .1) (c .byte .result) (c .byte .ensures .is) (omega arith) in
     let fit = summed-fit more (λ i. omega (arith, at-file .shared-slice-known .given i)) (at-file .before .pre) in
-    (omega arith, fit .0, fit .1, more)
+    (omega arith, more, fit .0, fit .1)
 
 returns : tie.Need-returns Inv-loop μ-loop
-returns c = all-summed (c .before .loop .inv .3) (omega arith)
+returns c = all-summed (c .before .loop .inv .1) (omega arith)
 
 pub sums-of-spec : {M : Type 1} → statement M
 sums-of-spec =
