@@ -198,7 +198,10 @@ int main(int argc, char **argv)
         return 2;
     if (!begin(n))
         return 1;
-    if (argc < 2) /* a refusal leaves the state as it is */
-        show_refusal("run of another routine", run(other, sizeof other, STROKE));
+    if (argc < 2) { /* a refusal leaves the state as it is */
+        yalgovim_reply r = run(other, sizeof other, STROKE);
+        if (r.kind == YALGOVIM_REFUSED)
+            show_refusal("run of another routine", r);
+    }
     return strokes(n);
 }

@@ -7,7 +7,7 @@ use mathlib.Core.Path.{_≡_, refl, ap, sym, _∙_}
 use native.Mathlib.Omega.{arith}
 use lib.ListN.{length, replicate, length-replicate}
 use lib.Dec.{eqb}
-use borrow.Author.Tests.{eq-eqb, eqb-true}
+use borrow.Author.Tests.{eq-eqb, eqb-true, le-leb}
 use Rattle.model.specs.Choice.{if_then_else_, Test, same, atMost, all, All, all-true}
 use Rattle.model.specs.File.{headOf, fileMost, procsMost}
 use Rattle.model.specs.Heap.{clean, heapOf, objectsOf}
@@ -43,15 +43,26 @@ sums-differ {s′ = s′} {t′ = t′} e g h = fails-all 0 (sumTests s′ t′)
 pub sums-decide : {s t s′ t′ : Sums} → s ≡ s′ → t ≡ t′ → s .first ≡ t .first → eqb (s .second) (t .second) ≡ all (sumTests s′ t′)
 sums-decide {s = s} {t = t} e g h = rw (← e, ← g) (decided 1 (sumTests s t) _ refl (λ w. (h, (eqb-true _ _ w, tt))))
 
-pub length-wrong : (f b : List ℕ) → (length b ≡ registerBytes → ⊥) → false ≡ all (belongList f b)
-length-wrong f b h = fails-all 0 (belongList f b) h
-
-pub length-right : (t : Bool) (f b : List ℕ) → length b ≡ registerBytes → t ≡ all (sumTests (sumsFrom b) (sumsOf f)) → t ≡ all (belongList f b)
-length-right t f b h e = e ∙ rw (eq-eqb (length b) registerBytes h)
-
 -- these are the tests for 13, and their outcome; it matters for a file that is not too long
 abbrev pub Asks : List Test → List ℕ → Bool → Type 0
 Asks ts f its = length f ≤ fileMost → its ≡ all ts
+
+-- the same with the file's length ahead
+abbrev pub belongShort : List ℕ → List ℕ → List Test
+belongShort f b = atMost (length f) fileMost ∷ belongList f b
+
+pub file-long : (f b : List ℕ) → fileMost < length f → false ≡ all (belongShort f b)
+file-long f b h = fails-all 0 (belongShort f b) h
+
+pub length-wrong : (f b : List ℕ) → (length b ≡ registerBytes → ⊥) → false ≡ all (belongShort f b)
+length-wrong f b h = fails-all 1 (belongShort f b) h
+
+pub length-right : (t : Bool) (f b : List ℕ) → length f ≤ fileMost → length b ≡ registerBytes → t ≡ all (sumTests (sumsFrom b) (sumsOf f)) →
+    t ≡ all (belongShort f b)
+length-right t f b m h e = e ∙ rw (le-leb (length f) fileMost m, eq-eqb (length b) registerBytes h)
+
+pub short-belongs : (t : Bool) (f b : List ℕ) → t ≡ all (belongShort f b) → Asks (belongList f b) f t
+short-belongs t f b e = λ m. e ∙ rw (le-leb (length f) fileMost m)
 
 -- refusal 10 on numbers, as the model's lengthTests has it
 abbrev pub lengthList : Head → ℕ → ℕ → ℕ → ℕ → List Test

@@ -1,9 +1,9 @@
 // What start and run test: refusals 1 to 9, 13, 10 and 11; then, for run, the state.
 ghost use mathlib.Core.Path.{_≡_};
-ghost use mathlib.Core.List.{List};
+ghost use mathlib.Core.List.{List, _∷_};
 ghost use Prim.Native.Nat.{ℕ, _≤_};
 ghost use lib.ListN.{length, replicate};
-ghost use Rattle.model.specs.Choice.{Test, all};
+ghost use Rattle.model.specs.Choice.{Test, atMost, all};
 ghost use Rattle.model.specs.Control.{registerBytes, sumsFrom};
 ghost use Rattle.model.specs.File.{fileMost, procsMost};
 ghost use Rattle.model.specs.Sums.{sumsOf};
@@ -34,22 +34,23 @@ fn sums_right(file: &[u8], bytes: &[u8]) -> bool
     requires { ⌜ (length (now file) ≤ fileMost) × (length (now bytes) ≡ registerBytes) ⌝ }
     ensures { λ r. ⌜ r ≡ all (sumTests (sumsFrom (now (bytes .entry))) (sumsOf (now (file .entry)))) ⌝ }
 {
-    let its = registers::sums_from(bytes);
+    let kept = registers::sums_from(bytes);
     let own = file_sums::sums_of(file);
-    if its.first != own.first {
+    if kept.first != own.first {
         return false;
     }
-    its.second == own.second
+    kept.second == own.second
 }
 
-// Refusal 13 in run, for a file that is not too long: the register list's length, and the sums.
+// Refusal 13 in run: the register list's length, and the sums. The check has not been made yet, and the sums are of a file that is not too
+// long; a longer one is refused 1 whatever this answers.
 fn belongs(file: &[u8], bytes: &[u8]) -> bool
-    ensures { λ r. ⌜ (length (now (file .entry)) ≤ fileMost → r ≡ all (belongList (now (file .entry)) (now (bytes .entry)))) ⌝ }
+    ensures { λ r. ⌜ r ≡ all (atMost (length (now (file .entry))) fileMost ∷ belongList (now (file .entry)) (now (bytes .entry))) ⌝ }
 {
-    if bytes.len() != REGISTER_BYTES {
+    if FILE_MOST < file.len() {
         return false;
     }
-    if FILE_MOST < file.len() {
+    if bytes.len() != REGISTER_BYTES {
         return false;
     }
     sums_right(file, bytes)
@@ -89,9 +90,9 @@ fn lengths_right(head: Head, main: usize, ptr: usize, ctl: usize, heap: usize) -
     head.y <= ptr
 }
 
-// Refusals 1 to 9, 13, 10 and 11. `its` says whether the tests for 13 hold, which start and run have each their own. They are made ahead of
-// the check, so that no list of bytes is carried through it. Where there is no refusal, the table has the heads of so many procedures, and the
-// heap's objects are marked.
+// Refusals 1 to 9, 13, 10 and 11, for any tests for 13 whose outcome is `its`: start and run have each their own. They make them ahead, so that
+// this function need not be handed the register list, which made the audit of deep stacks slower (docs/PERFORMANCE.md). Where there is no
+// refusal, the table has the heads of so many procedures, and the heap's objects are marked.
 fn admit_with(
     its: bool,
     file: &[u8],
@@ -156,7 +157,7 @@ pub fn admit(
       bytes = now (bytes .entry);
     }) (now (map .exit)) (now (table .exit)) r ⌝ }
 {
-    let its = bytes.len() == REGISTER_BYTES;
+    let its = bytes.len() == REGISTER_BYTES; // refusal 13 in start: the length alone
     if heap.len() <= FEW {
         let mut few = [false; FEW];
         return admit_with(its, file, map, table, &mut few, main, ptr, ctl, heap);

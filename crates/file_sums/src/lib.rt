@@ -1,4 +1,4 @@
-// A file's two sums (Manual 2.16), byte by byte.
+// A file's two sums (Manual 2.16), byte by byte. Of at most 4,096 bytes neither sum wraps.
 ghost use mathlib.Core.Path.{_≡_};
 ghost use Prim.Native.Nat.{_≤_};
 ghost use lib.ListN.{length};

@@ -50,6 +50,10 @@ pub sums-of-one : sumsOf (255 ∷ []) ≡ sums 255 255
 unfolding total totals sumsOf
 sums-of-one = refl
 
+pub sums-of-three : sumsOf (1 ∷ 2 ∷ 3 ∷ []) ≡ sums 6 10
+unfolding total totals sumsOf
+sums-of-three = refl
+
 pub sums-of-A : sumsOf (A 5 3) ≡ sums 574 4077
 unfolding total totals sumsOf
 sums-of-A = refl
@@ -163,14 +167,18 @@ rows =
     -- an uncaught instruction: 5 div 0; the sums are 572 = 2 * 256 + 60 and 4070 = 15 * 256 + 230
     ∷ row (run 9) (lent divA (0 ∷ 0 ∷ []) (first (word 2 60 ++ word 15 230))) (Uncaught 1 11 2)
     (withMap mapA (lent divA (5 ∷ 0 ∷ []) (registersOf 11 1 2 5 0 (word 2 60 ++ word 15 230))))
-    -- the register list's length: 35, 37, 28 and no bytes, in start and in run
+    -- the register list's length: 35, 37, 28, 32, 40 and no bytes, in start and in run
     ∷ foreign start (startedA (take 35 (first sumsA)))
     ∷ foreign start (startedA (first sumsA ++ (0 ∷ [])))
     ∷ foreign start (startedA (take 28 (first sumsA)))
+    ∷ foreign start (startedA (take 32 (first sumsA)))
+    ∷ foreign start (startedA (first sumsA ++ small 0))
     ∷ foreign start (startedA [])
     ∷ foreign (run 9) (startedA (take 35 (first sumsA)))
     ∷ foreign (run 9) (startedA (first sumsA ++ (0 ∷ [])))
     ∷ foreign (run 9) (startedA (take 28 (first sumsA)))
+    ∷ foreign (run 9) (startedA (take 32 (first sumsA)))
+    ∷ foreign (run 9) (startedA (first sumsA ++ small 0))
     ∷ foreign (run 9) (startedA [])
     -- 579 = 2 * 256 + 67 and 4096 = 16 * 256: a missing last byte would be read as the 0 that it is
     ∷ row (run 9) (lent (A 7 6) (0 ∷ 0 ∷ []) (first (word 2 67 ++ word 16 0))) (Finished 4)
@@ -180,7 +188,9 @@ rows =
     ∷ row (run 9) (withMap (replicate 41 9) (startedA [])) (Refused 13 0) (withMap (mapA ++ (9 ∷ 9 ∷ [])) (startedA []))
     -- no start was made
     ∷ foreign (run 9) (startedA (replicate 36 0))
-    -- either sum damaged, in each of its bytes; the sums exchanged; with budget 0; finished
+    -- either sum damaged, in each of its bytes, upwards and downwards; the sums exchanged; amid a run; with budget 0; finished
+    ∷ foreign (run 9) (startedA (first (word 2 61 ++ word 15 237)))
+    ∷ foreign (run 9) (lent (A 5 3) (5 ∷ 3 ∷ []) (registersOf 11 1 2 5 0 (word 2 62 ++ word 15 238)))
     ∷ foreign (run 9) (startedA (first (word 2 63 ++ word 15 237)))
     ∷ foreign (run 9) (startedA (first (word 3 62 ++ word 15 237)))
     ∷ foreign (run 9) (startedA (first ((0 ∷ 1 ∷ 2 ∷ 62 ∷ []) ++ word 15 237)))
@@ -208,7 +218,9 @@ rows =
     ∷ foreign (run 9) (lent (A 5 3) [] (first (word 2 63 ++ word 15 237)))
     ∷ foreign (run 9) (onHeap (1 ∷ 0 ∷ []) (startedA (first (word 2 62 ++ word 15 236))))
     ∷ foreign (run 9) (startedA (registersOf 7 1 0 5 2 (word 2 62 ++ word 15 236)))
-    -- with the sums and the length right each of these is told
+    -- with the sums and the length right each of these is told, 10 before 11
+    ∷ row (run 9) (onHeap (1 ∷ 0 ∷ []) (lent (A 5 3) [] (first sumsA))) (Refused 10 0)
+    (withMap mapA (onHeap (1 ∷ 0 ∷ []) (lent (A 5 3) [] (first sumsA))))
     ∷ row start (lent (A 5 3) [] (first sumsA)) (Refused 10 0) (withMap mapA (lent (A 5 3) [] (first sumsA)))
     ∷ row (run 9) (lent (A 5 3) [] (first sumsA)) (Refused 10 0) (withMap mapA (lent (A 5 3) [] (first sumsA)))
     ∷ row (run 9) (onHeap (1 ∷ 0 ∷ []) (startedA (first sumsA))) (Refused 11 0) (withMap mapA (onHeap (1 ∷ 0 ∷ []) (startedA (first sumsA))))

@@ -17,27 +17,27 @@ use Rattle.theory_state.specs.Testing.{test-cases, start-asks, asks-star
 use Rattle.theory_state.specs.Testing.{run-never}
 
 -- ts are the tests for 13, which say what it asks
-module _ {Its : Type 0} (ts : List Test) (says : All ts → Its) (said : Its → All ts) (l : Lent) (q : ℕ) (rest : Lent → After) where
-  tested-eleven : Never 11 rest → tested ts l rest .answer ≡ Refused 11 q → HeapFault Its l q
+module _ {Registers : Type 0} (ts : List Test) (says : All ts → Registers) (said : Registers → All ts) (l : Lent) (q : ℕ) (rest : Lent → After) where
+  tested-eleven : Never 11 rest → tested ts l rest .answer ≡ Refused 11 q → HeapFault Registers l q
   unfolding checkOf lengthTests
   tested-eleven B =
-      test-cases {P = λ a. a .answer ≡ Refused 11 q → HeapFault Its l q}
+      test-cases {P = λ a. a .answer ≡ Refused 11 q → HeapFault Registers l q}
       (record {
         by-check = λ n p map v e. absurd (omega (arith, verdict-number (l .file) (l .map) map n p v, refused-number n 11 p q e));
         by-registers = λ map v n e. absurd (omega (arith, refused-number 13 11 0 q e));
         by-lengths = λ map v T e. absurd (omega (arith, refused-number 10 11 0 q e));
         by-heap = λ map p v T L h e.
             let g = refused-place 11 11 p q e in
-            record { passes = rw v; its = says T; lengths = L; first = fault-exact (l .heap) q .0 (rw g at h) };
+            record { passes = rw v; registers = says T; lengths = L; first = fault-exact (l .heap) q .0 (rw g at h) };
         by-none = λ map os v T L h e. absurd (B (withMap map l) q e);
       })
 
-  eleven-tested : HeapFault Its l q → tested ts l rest .answer ≡ Refused 11 q
+  eleven-tested : HeapFault Registers l q → tested ts l rest .answer ≡ Refused 11 q
   unfolding checkOf lengthTests
   eleven-tested F = go (verdictOf (l .file) (l .map)) (F .passes)
     where
       go : (v : Verdict) → answered v .answer ≡ Passed → afterCheck ts l rest v .answer ≡ Refused 11 q
-      go (pass m) e = rw (true-all ts (said (F .its)), true-all (lengthTests l) (F .lengths), fault-exact (l .heap) q .1 (F .first))
+      go (pass m) e = rw (true-all ts (said (F .registers)), true-all (lengthTests l) (F .lengths), fault-exact (l .heap) q .1 (F .first))
       go (refuse n p m) e = cc
 
 pub refused-eleven : RefusedEleven

@@ -83,9 +83,9 @@ module _ (f map : List ℕ) (L : CodeLaws f map) where
   results-most = let H = L .formed .heads 0 some in (H .1 .0, H .1 .1 .1 .0)
 
   -- where the instruction at p leads: `agrees`, and `targets` and `nexts` for its procedure
-  pub passed-on : (p q : ℕ) (t : State) → isIns f p ≡ true → Passes f (assigned map) p q t → Is f map q (procAt f p) t
+  pub handed-on : (p q : ℕ) (t : State) → isIns f p ≡ true → Passes f (assigned map) p q t → Is f map q (procAt f p) t
   unfolding isIns
-  passed-on p q t h P =
+  handed-on p q t h P =
       let F = rules p h in
       let e = F .agrees q t P in
       let M = moves f p _ _ (record { targets = F .targets; nexts = F .nexts; depths = F .depths; leaves = F .leaves }) q t P in
@@ -99,7 +99,7 @@ module _ (f map : List ℕ) (L : CodeLaws f map) where
 
   pub leads-on : (p : ℕ) (i : Ins) (q : ℕ) (t : State) → isIns f p ≡ true → insAt f p ≡ i →
       Mem (q, t) (passes f p i (assigned map p) (innermost (assigned map) (assigned map p))) → Is f map q (procAt f p) t
-  leads-on p i q t h e P = passed-on p q t h (rw e P)
+  leads-on p i q t h e P = handed-on p q t h (rw e P)
 
   -- what an instruction pops is there: `depths`
   pub pops : (p : ℕ) (i : Ins) → isIns f p ≡ true → insAt f p ≡ i →

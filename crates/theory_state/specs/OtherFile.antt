@@ -12,7 +12,7 @@ use Rattle.model.specs.Sums.{sumsOf}
 use Rattle.model.specs.Control.{sumsFrom, regBytes}
 use Rattle.model.specs.Calls.{Verdict, pass, refuse, verdictOf, answered, checkOf, Lent, withMap, registerTests, belongTests, soundTests}
 use Rattle.model.specs.Calls.{After, answers, afterCheck, tested, startOf, ranFrom, runOf}
-use Rattle.model.specs.Claim.{Bytes, RunIts, NotIts, turnedAway, RefusedThirteen, StartSums, RunSums, PassedOn, OtherFile}
+use Rattle.model.specs.Claim.{Bytes, RunRegisters, WrongRegisters, turnedAway, RefusedThirteen, StartSums, RunSums, HandedOn, OtherFile}
 use Rattle.model.specs.declared.Regs.{Regs}
 use Rattle.model.specs.declared.Sums.{Sums}
 use Rattle.model.specs.declared.Answer.the-variants.{Passed, Ready, Refused}
@@ -25,25 +25,25 @@ use Rattle.theory_state.specs.Testing.{test-cases, start-asks, asks-star
 use Rattle.theory_state.specs.Testing.{run-never}
 
 -- ts are the tests for 13, which say what it asks
-module _ {Its : Type 0} (ts : List Test) (says : All ts → Its) (said : Its → All ts) (l : Lent) (rest : Lent → After) where
-  tested-thirteen : (p : ℕ) → Never 13 rest → tested ts l rest .answer ≡ Refused 13 p → NotIts Its l p
+module _ {Registers : Type 0} (ts : List Test) (says : All ts → Registers) (said : Registers → All ts) (l : Lent) (rest : Lent → After) where
+  tested-thirteen : (p : ℕ) → Never 13 rest → tested ts l rest .answer ≡ Refused 13 p → WrongRegisters Registers l p
   unfolding checkOf
   tested-thirteen p B =
-      test-cases {P = λ a. a .answer ≡ Refused 13 p → NotIts Its l p}
+      test-cases {P = λ a. a .answer ≡ Refused 13 p → WrongRegisters Registers l p}
       (record {
         by-check = λ n q map v e. absurd (omega (arith, verdict-number (l .file) (l .map) map n q v, refused-number n 13 q p e));
-        by-registers = λ map v n e. record { passes = rw v; not-its = λ I. n (said I); place = sym (refused-place 13 13 0 p e) };
+        by-registers = λ map v n e. record { passes = rw v; wrong = λ I. n (said I); place = sym (refused-place 13 13 0 p e) };
         by-lengths = λ map v T e. absurd (omega (arith, refused-number 10 13 0 p e));
         by-heap = λ map q v T L h e. absurd (omega (arith, refused-number 11 13 q p e));
         by-none = λ map os v T L h e. absurd (B (withMap map l) p e);
       })
 
-  thirteen-tested : (p : ℕ) → NotIts Its l p → tested ts l rest ≡ turnedAway 13 p l
+  thirteen-tested : (p : ℕ) → WrongRegisters Registers l p → tested ts l rest ≡ turnedAway 13 p l
   unfolding checkOf
   thirteen-tested p F = go (verdictOf (l .file) (l .map)) refl (F .passes)
     where
       fails : (t : Bool) → all ts ≡ t → t ≡ false
-      fails true e = absurd (F .not-its (says (all-true ts e)))
+      fails true e = absurd (F .wrong (says (all-true ts e)))
       fails false e = refl
 
       go : (v : Verdict) → verdictOf (l .file) (l .map) ≡ v → answered v .answer ≡ Passed → afterCheck ts l rest v ≡ turnedAway 13 p l
@@ -94,28 +94,28 @@ run-sums n l B =
       by-none = λ map os v T L h. go map v (asks-run l T) (all (soundTests (withMap map l)));
     })
   where
-    go : (map : List ℕ) → verdictOf (l .file) (l .map) ≡ pass map → RunIts l → (t : Bool) →
+    go : (map : List ℕ) → verdictOf (l .file) (l .map) ≡ pass map → RunRegisters l → (t : Bool) →
         let a = if t then ranFrom n (withMap map l) else answers (Refused 12 0) (withMap map l) in
         (length (a .lists .bytes) ≡ length (l .bytes)) × (sumsFrom (a .lists .bytes) ≡ sumsFrom (l .bytes))
     go map v I true = (registers-length _ _ ∙ sym (I .0), sums-left (l .file) (l .map) map B v (sumsFrom (l .bytes)) (I .1) _)
     go map v I false = (refl, refl)
 
 -- so do runs, one after the other
-passed-on : (b : List ℕ) (rs : List (ℕ × Lent)) (c : List ℕ) → PassedOn b rs c → (length c ≡ length b) × (sumsFrom c ≡ sumsFrom b)
-passed-on b [] c e = (ap length e, ap sumsFrom e)
-passed-on b ((n, l) ∷ rs) c P =
+handed-on : (b : List ℕ) (rs : List (ℕ × Lent)) (c : List ℕ) → HandedOn b rs c → (length c ≡ length b) × (sumsFrom c ≡ sumsFrom b)
+handed-on b [] c e = (ap length e, ap sumsFrom e)
+handed-on b ((n, l) ∷ rs) c P =
     let e = P .0 in
     let r = run-sums n l (P .1) in
-    let q = passed-on (runOf n l .lists .bytes) rs c (P .2) in
+    let q = handed-on (runOf n l .lists .bytes) rs c (P .2) in
     (q .0 ∙ r .0 ∙ ap length e, q .1 ∙ r .1 ∙ ap sumsFrom e)
 
 pub other-file : OtherFile
 other-file l B e rs k p c n =
     let S = start-sums l B e in
-    let R = passed-on (startOf l .lists .bytes) rs (k .bytes) p in
+    let R = handed-on (startOf l .lists .bytes) rs (k .bytes) p in
     let its = R .1 ∙ S .1 in
     let T = refused-thirteen k .1 n in
     record {
-      differ = λ h. T 0 .1 (record { passes = c; not-its = λ I. h (sym (I .1) ∙ its); place = refl });
-      agree = λ h q z. T q .0 z .not-its (R .0 ∙ S .0, its ∙ sym h);
+      differ = λ h. T 0 .1 (record { passes = c; wrong = λ I. h (sym (I .1) ∙ its); place = refl });
+      agree = λ h q z. T q .0 z .wrong (R .0 ∙ S .0, its ∙ sym h);
     }

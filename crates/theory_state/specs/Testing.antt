@@ -11,7 +11,7 @@ use Rattle.model.specs.Sums.{sumsOf}
 use Rattle.model.specs.Step.{runOn}
 use Rattle.model.specs.Calls.{Verdict, pass, refuse, verdictOf, Lent, machineOf, withMap, lengthTests, registerTests, belongTests, soundTests}
 use Rattle.model.specs.Calls.{After, answers, demand, audited, afterCheck, tested, leaving, started, ranFrom}
-use Rattle.model.specs.Claim.{Stopped, StartIts, RunIts}
+use Rattle.model.specs.Claim.{Stopped, StartRegisters, RunRegisters}
 use Rattle.model.specs.declared.Sums.{Sums}
 use Rattle.model.specs.declared.Answer.the-variants.{Ready, Refused}
 use Rattle.theory_checker.specs.Leaves.{run-leaves}
@@ -59,16 +59,16 @@ module _ {P : After → Type 0} {ts : List Test} {l : Lent} {rest : Lent → Aft
       go (refuse n p map) e = C .by-check n p map e
 
 -- what 13 asks, as its tests and as statements
-pub start-asks : (l : Lent) → StartIts l → All (registerTests l)
+pub start-asks : (l : Lent) → StartRegisters l → All (registerTests l)
 start-asks l I = (I, tt)
 
-pub asks-start : (l : Lent) → All (registerTests l) → StartIts l
+pub asks-start : (l : Lent) → All (registerTests l) → StartRegisters l
 asks-start l T = T .0
 
-pub run-asks : (l : Lent) → RunIts l → All (belongTests l)
+pub run-asks : (l : Lent) → RunRegisters l → All (belongTests l)
 run-asks l I = (I .0, (ap (λ (s : Sums). s .first) (I .1), (ap (λ (s : Sums). s .second) (I .1), tt)))
 
-pub asks-run : (l : Lent) → All (belongTests l) → RunIts l
+pub asks-run : (l : Lent) → All (belongTests l) → RunRegisters l
 asks-run l T = let e = T .1 .0 in let g = T .1 .1 .0 in (T .0, λ i. record { first = e i; second = g i })
 
 -- equal refusals have equal numbers and places
