@@ -47,7 +47,12 @@ elsewhere = (161 ∷ []) ∷ (160 ∷ []) ∷ (73 ∷ []) ∷ (headKind ∷ []) 
 -- the arms of `plain_at`, the last one first; 20 to 23 are told by a range
 abbrev pub rowArms : List (List ℕ)
 rowArms =
-    (141 ∷ 143 ∷ [])
+    (156 ∷ [])
+    ∷ (155 ∷ [])
+    ∷ (151 ∷ 153 ∷ [])
+    ∷ (150 ∷ 152 ∷ [])
+    ∷ (53 ∷ [])
+    ∷ (141 ∷ 143 ∷ [])
     ∷ (130 ∷ 140 ∷ 142 ∷ 145 ∷ 195 ∷ 198 ∷ 201 ∷ 204 ∷ [])
     ∷ (144 ∷ 146 ∷ [])
     ∷ (131 ∷ [])

@@ -5,7 +5,7 @@ use mathlib.Core.Bool.{Bool, true}
 use mathlib.Core.List.{List}
 use lib.Dec.{leb}
 use Rattle.model.specs.File.{onMain, onPtr, Basic, local, assign, field, setField, make, literal, nil, root, setRoot, retract, binary, samePtr, unary}
-use Rattle.model.specs.File.{element, setElement, Ins, basic, jump, branch, branchKeep, call, return, enter, exit, raise, procs}
+use Rattle.model.specs.File.{element, setElement, realLiteral, real, realLess, hoop, Ins, basic, jump, branch, branchKeep, call, return, enter, exit, raise, procs}
 use Rattle.model.specs.Checker.{Effect, effect, basicEffect, effectOf, handlerAt}
 
 -- where an instruction passes its state
@@ -63,6 +63,10 @@ words samePtr = (0, 0)
 words (unary o) = (0, 0)
 words (element d) = (0, 0)
 words (setElement d) = (0, 0)
+words (realLiteral h l) = (0, 0)
+words (real o) = (0, 0)
+words realLess = (0, 0)
+words hoop = (0, 0)
 
 -- the shape of the instruction at p
 unfoldable pub shapeOf : List ℕ → ℕ → Ins → Shape

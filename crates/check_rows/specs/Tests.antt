@@ -10,7 +10,7 @@ use native.Mathlib.Numerals.{add-one}
 use native.Mathlib.Omega.{arith}
 use Rattle.model.specs.Choice.{if_then_else_, Test, atMost, yes?, holds, all, if-both}
 use Rattle.model.specs.File.{onMain, onPtr, Basic, local, assign, field, setField, make, literal, nil, root, setRoot, retract, binary, samePtr, unary}
-use Rattle.model.specs.File.{element, setElement}
+use Rattle.model.specs.File.{element, setElement, realLiteral, real, realLess, hoop}
 use Rattle.model.specs.File.{Ins, basic, jump, branch, branchKeep, call, return, enter, exit, raise, after, procAt, resultsMain, resultsPtr}
 use Rattle.model.specs.File.{greatestMain, greatestPtr}
 use Rattle.model.specs.Checker.{none, State, state, Effect, effect, basicEffect, effectOf, moved, goesOn, passes, own, targetTests, nextTests}
@@ -168,6 +168,10 @@ word-tests samePtr s = simp leb·zero
 word-tests (unary o) s = simp leb·zero
 word-tests (element d) s = simp leb·zero
 word-tests (setElement d) s = simp leb·zero
+word-tests (realLiteral h l) s = simp leb·zero
+word-tests (real o) s = simp leb·zero
+word-tests realLess s = simp leb·zero
+word-tests hoop s = simp leb·zero
 
 -- the tests stack by stack: a, e and c of the one, b, g and d of the other
 by-stack : (a b c d e g t : Bool) →

@@ -275,6 +275,11 @@ pub fn plain_at(
         144 | 146 => step(s, o, limits, p, 1, 1, 0, 1, 0),
         130 | 140 | 142 | 145 | 195 | 198 | 201 | 204 => step(s, o, limits, p, 1, 2, 0, 1, 0),
         141 | 143 => step(s, o, limits, p, 1, 2, 0, 1, 0),
+        53 => step(s, o, limits, p, 9, 0, 0, 2, 0),
+        150 | 152 => step(s, o, limits, p, 1, 4, 0, 2, 0),
+        151 | 153 => step(s, o, limits, p, 1, 4, 0, 2, 0),
+        155 => step(s, o, limits, p, 1, 4, 0, 1, 0),
+        156 => step(s, o, limits, p, 1, 10, 0, 4, 0),
         _ => raises(s, o, limits, p),
     }
 }

@@ -62,7 +62,7 @@ const BODY: [u8; 256] = [
     255, // 50
     255, // 51
     255, // 52
-    255, // 53
+    8, // 53 lLReal
     1, // 54 lLInt
     255, // 55
     4, // 56 lLWord
@@ -159,13 +159,13 @@ const BODY: [u8; 256] = [
     255, // 147
     255, // 148
     255, // 149
-    255, // 150
-    255, // 151
-    255, // 152
-    255, // 153
+    0, // 150 fPlus
+    0, // 151 fTimes
+    0, // 152 fMinus
+    0, // 153 fDivide
     255, // 154
-    255, // 155
-    255, // 156
+    0, // 155 fLess
+    0, // 156 hoop
     255, // 157
     255, // 158
     255, // 159
@@ -309,6 +309,14 @@ pub fn operand4(file: &[u8], p: usize) -> u32
     let high = operand(file, p);
     let low = operand2(file, p);
     (high as u32) * 65536 + (low as u32)
+}
+
+// The four bytes behind those as a word: the low word of 53.
+pub fn operand8(file: &[u8], p: usize) -> u32
+    requires { ⌜ p + 8 < length (now file) ⌝ }
+    ensures { λ r. ⌜ Small 4294967296 (model.operand8 (now (file .entry)) p) r ⌝ }
+{
+    operand4(file, p + 4)
 }
 
 // A signed byte as a word.

@@ -73,7 +73,7 @@ abbrev pub codesButRaise : List ℕ
 codesButRaise =
     1 ∷ 3 ∷ 2 ∷ 4 ∷ 5 ∷ 6 ∷ 20 ∷ 21 ∷ 22 ∷ 23 ∷ 30 ∷ 31 ∷ 32 ∷ 33 ∷ 36 ∷ 54 ∷ 56 ∷ 57 ∷ 58 ∷ 59
     ∷ 60 ∷ 62 ∷ 64 ∷ 72 ∷ 73 ∷ 130 ∷ 131 ∷ 195 ∷ 198 ∷ 201 ∷ 204 ∷ 140 ∷ 141 ∷ 142 ∷ 143 ∷ 145 ∷ 144 ∷ 146 ∷ 160 ∷ 161
-    ∷ 80 ∷ 81 ∷ 82 ∷ 83 ∷ 84 ∷ 85 ∷ []
+    ∷ 80 ∷ 81 ∷ 82 ∷ 83 ∷ 84 ∷ 85 ∷ 53 ∷ 150 ∷ 151 ∷ 152 ∷ 153 ∷ 155 ∷ 156 ∷ []
 
 pub ins-other : (nss : List (List ℕ)) → T (each? (among nss) codesButRaise) → (f : List ℕ) (p k : ℕ) → NoneOf nss k → insOf f p k ≡ raise
 unfolding insOf
@@ -128,6 +128,13 @@ ins-other nss t f p k h =
       ne-eqb k 83 (out 83 tt),
       ne-eqb k 84 (out 84 tt),
       ne-eqb k 85 (out 85 tt),
+      ne-eqb k 53 (out 53 tt),
+      ne-eqb k 150 (out 150 tt),
+      ne-eqb k 151 (out 151 tt),
+      ne-eqb k 152 (out 152 tt),
+      ne-eqb k 153 (out 153 tt),
+      ne-eqb k 155 (out 155 tt),
+      ne-eqb k 156 (out 156 tt),
     )
 
 -- a number that is no row's has no body

@@ -87,6 +87,21 @@ step-requires-18 c κs = (c .before .before .pre .5, low (c .before .before .pre
 step-requires-19 : tie.Need-step-requires-19
 step-requires-19 c κs = (c .before .before .pre .5, low (c .before .before .pre .1), omega arith, omega arith, omega arith)
 
+step-requires-20 : tie.Need-step-requires-20
+step-requires-20 c κs = (c .before .before .pre .5, low (c .before .before .pre .1), omega arith, omega arith, omega arith)
+
+step-requires-21 : tie.Need-step-requires-21
+step-requires-21 c κs = (c .before .before .pre .5, low (c .before .before .pre .1), omega arith, omega arith, omega arith)
+
+step-requires-22 : tie.Need-step-requires-22
+step-requires-22 c κs = (c .before .before .pre .5, low (c .before .before .pre .1), omega arith, omega arith, omega arith)
+
+step-requires-23 : tie.Need-step-requires-23
+step-requires-23 c κs = (c .before .before .pre .5, low (c .before .before .pre .1), omega arith, omega arith, omega arith)
+
+step-requires-24 : tie.Need-step-requires-24
+step-requires-24 c κs = (c .before .before .pre .5, low (c .before .before .pre .1), omega arith, omega arith, omega arith)
+
 locals-requires : tie.Need-locals-requires
 locals-requires c κs =
     let entry = c .before .before .before .before in
@@ -190,12 +205,38 @@ returns-21 c =
     (c .before .before .before .pre .2) (c .before .match .keys21) (c .step19 .ensures)
 
 returns-22 : tie.Need-returns-22
-returns-22 c =
-    at-row _ _ _ _ _ (c .before .before .before .before .before .pre .2) (ap suc (body-locals _ (omega arith) (omega arith))) refl (c .locals .ensures)
+unfolding insOf shapeOf basicEffect bodyOf bodies codes
+returns-22 c = at-row _ _ _ _ _ (c .before .before .before .pre .2 ∙ c .before .match .keys22) refl refl (c .step20 .ensures)
 
 returns-23 : tie.Need-returns-23
-unfolding shapeOf
+unfolding insOf shapeOf basicEffect bodyOf bodies codes
 returns-23 c =
+    at-rows _ _ _ _ _ 1 (rowShape Next (row 4 0 2 0 0 0)) (150 ∷ 152 ∷ [])
+    ((refl, refl), ((refl, refl), tt))
+    (c .before .before .before .pre .2) (c .before .match .keys23) (c .step21 .ensures)
+
+returns-24 : tie.Need-returns-24
+unfolding insOf shapeOf basicEffect bodyOf bodies codes
+returns-24 c =
+    at-rows _ _ _ _ _ 1 (rowShape Next (row 4 0 2 0 0 0)) (151 ∷ 153 ∷ [])
+    ((refl, refl), ((refl, refl), tt))
+    (c .before .before .before .pre .2) (c .before .match .keys24) (c .step22 .ensures)
+
+returns-25 : tie.Need-returns-25
+unfolding insOf shapeOf basicEffect bodyOf bodies codes
+returns-25 c = at-row _ _ _ _ _ (c .before .before .before .pre .2 ∙ c .before .match .keys25) refl refl (c .step23 .ensures)
+
+returns-26 : tie.Need-returns-26
+unfolding insOf shapeOf basicEffect bodyOf bodies codes
+returns-26 c = at-row _ _ _ _ _ (c .before .before .before .pre .2 ∙ c .before .match .keys26) refl refl (c .step24 .ensures)
+
+returns-27 : tie.Need-returns-27
+returns-27 c =
+    at-row _ _ _ _ _ (c .before .before .before .before .before .pre .2) (ap suc (body-locals _ (omega arith) (omega arith))) refl (c .locals .ensures)
+
+returns-28 : tie.Need-returns-28
+unfolding shapeOf
+returns-28 c =
     let entry = c .before .before .before .before in
     let f = entry .args .file .now in
     let p = entry .args .p in
@@ -231,6 +272,11 @@ plain-at-spec =
     step-requires-17
     step-requires-18
     step-requires-19
+    step-requires-20
+    step-requires-21
+    step-requires-22
+    step-requires-23
+    step-requires-24
     locals-requires
     raises-requires
     returns
@@ -255,4 +301,9 @@ plain-at-spec =
     returns-20
     returns-21
     returns-22
-    returns-23)
+    returns-23
+    returns-24
+    returns-25
+    returns-26
+    returns-27
+    returns-28)
