@@ -23,6 +23,11 @@ abbrev pub NoneOf : List (List ℕ) → ℕ → Type 0
 NoneOf [] k = Unit {0}
 NoneOf (ns ∷ nss) k = NoneOf nss k × (OneOf ns k → ⊥)
 
+-- of two codes, the one that a test has left
+pub other : {A B : Type 0} → A ⊎ B → (A → ⊥) → B
+other (inl a) n = absurd (n a)
+other (inr b) n = b
+
 -- a statement at each of the numbers, and a test
 abbrev pub AtEach : (ℕ → Type 0) → List ℕ → Type 0
 AtEach P [] = Unit {0}

@@ -47,9 +47,9 @@ abbrev pub realsOf : Point → List Float
 realsOf p = p .across ∷ p .along ∷ []
 
 -- Manual 4.34: a point scaled: each product is rounded once
-unfoldable pub scaled : Float → Point → Point
+abbrev pub scaled : Float → Point → Point
 scaled k p = point (mul binary64 (p .across) k) (mul binary64 (p .along) k)
 
 -- Manual 4.34: a point shifted: each sum is rounded once
-unfoldable pub shifted : Point → Point → Point
+abbrev pub shifted : Point → Point → Point
 shifted t p = point (add binary64 (p .across) (t .across)) (add binary64 (p .along) (t .along))

@@ -1,7 +1,6 @@
 -- What planning asks for of the file and of a stack, and which code of a family it is.
 use Prim.Native.Nat.{ℕ, _+_, _<_, _≤_}
 use mathlib.Core.List.{List}
-use mathlib.Core.Logic.{_⊎_, inl, inr}
 use lib.ListN.{length}
 use Rattle.model.specs.File.{fileMost}
 use Rattle.model.specs.Calls.{mainMost}
@@ -15,8 +14,3 @@ pub record Body (f : List ℕ) (p n : ℕ) : Type 0 where
 pub record TopWithin (l : List ℕ) (top : ℕ) : Type 0 where
   pub below : top ≤ length l
   pub few : length l ≤ mainMost
-
--- of two codes, the one that a test has left
-pub other : {A B : Type 0} → A ⊎ B → (A → ⊥) → B
-other (inl a) n = absurd (n a)
-other (inr b) n = b

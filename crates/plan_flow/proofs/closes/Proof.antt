@@ -1,6 +1,6 @@
 -- `plan_flow::closes`: at each of the two codes by what the function called ensures.
 use Rattle.model.specs.Control.{setCtl}
-use Rattle.plan_meaning.specs.Asked.{other}
+use Rattle.laws_file.specs.Kinds.{other}
 use borrow.Author.Needs.{needs}
 use Rattle.plan_flow.proofs.closes.Statement.{statement}
 use Rattle.plan_flow.proofs.closes.Tie as tie

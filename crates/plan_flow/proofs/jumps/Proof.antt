@@ -1,7 +1,7 @@
 -- `plan_flow::jumps`: at each of the two codes the definition computes.
 use Rattle.model.specs.File.{insOf}
 use Rattle.plan_meaning.specs.Planned.{planOf, planned}
-use Rattle.plan_meaning.specs.Asked.{other}
+use Rattle.laws_file.specs.Kinds.{other}
 use borrow.Author.Needs.{needs}
 use Rattle.plan_flow.proofs.jumps.Statement.{statement}
 use Rattle.plan_flow.proofs.jumps.Tie as tie

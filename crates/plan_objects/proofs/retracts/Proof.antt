@@ -3,7 +3,7 @@ use native.Mathlib.Omega.{arith}
 use borrow.Author.Needs.{needs}
 use Rattle.model.specs.File.{insOf}
 use Rattle.plan_meaning.specs.Planned.{basicPlan, planOf, planned}
-use Rattle.plan_meaning.specs.Asked.{other}
+use Rattle.laws_file.specs.Kinds.{other}
 use Rattle.plan_objects.proofs.retracts.Statement.{statement}
 use Rattle.plan_objects.proofs.retracts.Tie as tie
 

@@ -3,7 +3,7 @@ use mathlib.Core.Logic.{inl, inr}
 use mathlib.Core.Path.{refl}
 use native.Mathlib.Omega.{arith}
 use Rattle.model.specs.Control.{setMain, setPtr, setHeap}
-use Rattle.plan_meaning.specs.Asked.{other}
+use Rattle.laws_file.specs.Kinds.{other}
 use borrow.Author.Needs.{needs}
 use Rattle.plan_objects.proofs.takes.Statement.{statement}
 use Rattle.plan_objects.proofs.takes.Tie as tie

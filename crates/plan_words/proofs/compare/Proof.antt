@@ -2,7 +2,7 @@
 use borrow.Author.Needs.{needs}
 use Rattle.model.specs.File.{insOf}
 use Rattle.plan_meaning.specs.Planned.{basicPlan, planOf}
-use Rattle.plan_meaning.specs.Asked.{other}
+use Rattle.laws_file.specs.Kinds.{other}
 use Rattle.plan_words.specs.Given.{Binary}
 use Rattle.plan_words.proofs.compare.Statement.{statement}
 use Rattle.plan_words.proofs.compare.Tie as tie

@@ -2,7 +2,7 @@
 use native.Mathlib.Omega.{arith}
 use Rattle.model.specs.File.{codes, bodies, bodyOf, insOf}
 use Rattle.plan_meaning.specs.Planned.{basicPlan, planOf, planned}
-use Rattle.plan_meaning.specs.Asked.{other}
+use Rattle.laws_file.specs.Kinds.{other}
 use borrow.Author.Needs.{needs}
 use Rattle.plan_words.proofs.literals.Statement.{statement}
 use Rattle.plan_words.proofs.literals.Tie as tie

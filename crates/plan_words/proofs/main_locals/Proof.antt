@@ -1,7 +1,7 @@
 -- `plan_words::main_locals`: at each of the two codes the definition computes; the frame's main base is read from its record.
 use Rattle.model.specs.File.{insOf}
 use Rattle.plan_meaning.specs.Planned.{basicPlan, planOf, planned}
-use Rattle.plan_meaning.specs.Asked.{other}
+use Rattle.laws_file.specs.Kinds.{other}
 use borrow.Author.Needs.{needs}
 use Rattle.plan_words.proofs.main_locals.Statement.{statement}
 use Rattle.plan_words.proofs.main_locals.Tie as tie

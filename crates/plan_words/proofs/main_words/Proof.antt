@@ -4,7 +4,7 @@ use mathlib.Core.Path.{refl}
 use native.Mathlib.Omega.{arith}
 use Rattle.model.specs.File.{codes, bodies, bodyOf}
 use Rattle.model.specs.Control.{setMain, setCtl}
-use Rattle.plan_meaning.specs.Asked.{other}
+use Rattle.laws_file.specs.Kinds.{other}
 use Rattle.plan_words.proofs.main_words.Statement.{statement}
 use Rattle.plan_words.proofs.main_words.Tie as tie
 

@@ -4,7 +4,7 @@ use borrow.Author.Tests.{not-true, not-false}
 use Rattle.model.specs.File.{insOf}
 use Rattle.model.specs.Words.{valueOf, operate1}
 use Rattle.plan_meaning.specs.Planned.{basicPlan, planOf, planned}
-use Rattle.plan_meaning.specs.Asked.{other}
+use Rattle.laws_file.specs.Kinds.{other}
 use borrow.Author.Needs.{needs}
 use Rattle.plan_words.proofs.unaries.Statement.{statement}
 use Rattle.plan_words.proofs.unaries.Tie as tie
