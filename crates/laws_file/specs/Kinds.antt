@@ -1,5 +1,5 @@
 -- A number that a match has found to be one of a list, or none of several: what holds at each code of the list holds at it, and a number
--- that is no other instruction's code stands for raise, and has raise's body if it has any; a code in none of the lists is the one that they leave out.
+-- that is no other instruction's code stands for raise, and has raise's body if it has any; a code in none of the lists is one of those that they leave out.
 use Prim.Native.Nat.{ℕ}
 use mathlib.Core.Bool.{Bool, true, false, true≢false}
 use mathlib.Core.List.{List, [], _∷_}
@@ -161,16 +161,27 @@ body-other nss t k h some = go (ℕ-discrete k 162)
     go (yes e) = rw e
     go (no e) = absurd (some (find-none ((162 ∷ []) ∷ nss) k (h, e) bodies t))
 
--- a code that is in none of the lists is the one that is left
+-- whether k is one of the numbers
+pub one-of? : (ns : List ℕ) (k : ℕ) → Dec (OneOf ns k)
+one-of? [] k = no (λ e. e)
+one-of? (n ∷ []) k = ℕ-discrete k n
+one-of? (n ∷ m ∷ ns) k = either (ℕ-discrete k n) (one-of? (m ∷ ns) k)
+  where
+    either : Dec (k ≡ n) → Dec (OneOf (m ∷ ns) k) → Dec (OneOf (n ∷ m ∷ ns) k)
+    either (yes e) d = yes (inl e)
+    either (no u) (yes e) = yes (inr e)
+    either (no u) (no v) = no (λ o. v (other o u))
+
+-- a code that is in none of the lists is one of those that they leave out
 listed-none : (nss : List (List ℕ)) (k : ℕ) → NoneOf nss k → (rs : List (ℕ × ℕ)) → T (keysAmong nss rs) → listed rs k ≡ false
 listed-none nss k h [] t = refl
 listed-none nss k h (r ∷ rs) t =
     let g = and-both (among nss (r .0)) (keysAmong nss rs) t in
     rw (ne-eqb k (r .0) (none-of nss k h (r .0) (g .0))) (listed-none nss k h rs (g .1))
 
-pub last-code : (nss : List (List ℕ)) (n : ℕ) → T (keysAmong ((n ∷ []) ∷ nss) model.codes) → (k : ℕ) → NoneOf nss k → listed model.codes k ≡ true → k ≡ n
-last-code nss n t k h is = go (ℕ-discrete k n)
+pub last-code : (nss : List (List ℕ)) (ns : List ℕ) → T (keysAmong (ns ∷ nss) model.codes) → (k : ℕ) → NoneOf nss k → listed model.codes k ≡ true → OneOf ns k
+last-code nss ns t k h is = go (one-of? ns k)
   where
-    go : Dec (k ≡ n) → k ≡ n
+    go : Dec (OneOf ns k) → OneOf ns k
     go (yes e) = e
-    go (no u) = absurd (true≢false (sym is ∙ listed-none ((n ∷ []) ∷ nss) k (h, u) model.codes t))
+    go (no u) = absurd (true≢false (sym is ∙ listed-none (ns ∷ nss) k (h, u) model.codes t))

@@ -16,8 +16,8 @@ use Rattle.laws.specs.Choices.{both-true}
 use Rattle.laws.specs.Cuts.{cut-same}
 use Rattle.model.specs.Words.{signed, wordAt, truth, operate, operate1, cut}
 use Rattle.model.specs.File.{Side, onMain, onPtr, keepMain, keepPtr, keepNone, Maker, Basic, local, assign, field, setField, make, form, vector}
-use Rattle.model.specs.File.{makerPops, literal, nil, root, setRoot, retract, binary, samePtr, unary, element, setElement, Ins, basic, jump, branch}
-use Rattle.model.specs.File.{branchKeep, call, return, enter, exit, raise, after, insAt}
+use Rattle.model.specs.File.{makerPops, literal, nil, root, setRoot, retract, binary, samePtr, unary, element, setElement, realLiteral, real, realLess, hoop}
+use Rattle.model.specs.File.{Ins, basic, jump, branch, branchKeep, call, return, enter, exit, raise, after, insAt}
 use Rattle.model.specs.Checker.{basicEffect, effectOf}
 use Rattle.model.specs.Heap.{markOf, viewKind, wordVectorKind, ptrVectorKind, kindOf, ptrsAt, inPtrs, inPlain, maySetPlain, maySetPtr, made}
 use Rattle.model.specs.Vectors.{Element, found, ofNil, nowhere, elementOf}
@@ -28,12 +28,12 @@ use Rattle.model.specs.Instructions.{New, object, ofLength, newOf, onNew, makes
 use Rattle.model.specs.Step.{next, outcome, instruct, step}
 use Rattle.model.specs.declared.Value.{Value}
 use Rattle.model.specs.declared.Value.the-variants.{Word, Outside}
-use Rattle.laws_file.specs.Codes.{call-byte, callee-is, call-after}
+use Rattle.laws_file.specs.Codes.{onReals?, isReal?, call-byte, callee-is, call-after}
 use Rattle.plan_meaning.specs.declared.Into.the-variants.{Nothing, Pop, View, WordVector, PtrVector}
 use Rattle.plan_meaning.specs.declared.Into.{Into}
 use Rattle.plan_meaning.specs.declared.Put.{Put}
 use Rattle.plan_meaning.specs.declared.Plan.{Plan}
-use Rattle.plan_meaning.specs.declared.Plan.the-variants.{NilObject, NoSuchWord, HeapFull, VectorFault}
+use Rattle.plan_meaning.specs.declared.Plan.the-variants.{NilObject, NoSuchWord, HeapFull, VectorFault, Real}
 use Rattle.plan_meaning.specs.Planned.{basicPlan, planOf, planAt}
 use Rattle.plan_meaning.specs.Planned as plan
 use Rattle.plan_meaning.specs.Settled.{newSet, popRec, returned, applyInto, applied, settle}
@@ -223,109 +223,121 @@ module _ (f : List ℕ) (m : Machine) (q : ℕ) where
       (omega (arith, length-replicate n (ptrWord m 1))) refl
       (λ r. record { words = a; pointers = b; below = omega arith; room = r }))
 
-  basic-comes : (b : Basic) → Apt f m (basic b) → Comes (basicPlan m q b) (andGo q (basicRule m b))
+  -- an instruction on reals: what it comes to is the rule itself
+  real-comes : (b : Basic) → onReals? b ≡ true → after f (m .regs .place) ≡ q → insAt f (m .regs .place) ≡ basic b → Apt f m (basic b) →
+      Comes (Real q) (andGo q (basicRule m b))
+  unfolding settle rule
+  real-comes b r d e A =
+      comes (ap (λ i. outcome f m (rule f m q i)) e)
+      (record { real = ap isReal? e ∙ r; next = d; inside = A .in-file; pops = rw e (A .pop-main); pushes = rw e (A .push-main) })
+
+  basic-comes : (b : Basic) → after f (m .regs .place) ≡ q → insAt f (m .regs .place) ≡ basic b → Apt f m (basic b) → Comes (basicPlan m q b) (andGo q (basicRule m b))
   unfolding basicPlan basicRule settle applied applyInto basicEffect effectOf
-  basic-comes (local onMain s) A =
+  basic-comes (local onMain s) d e A =
       let h = A .push-main in
       comes (same refl refl (main-push _ A _) (ptr-same _ A)) (omega arith, gone (omega arith) (omega arith))
-  basic-comes (local onPtr s) A =
+  basic-comes (local onPtr s) d e A =
       let h = A .push-ptr in
       comes (same refl refl (main-same _ A) (ptr-push _ A _)) (omega arith, gone (omega arith) (omega arith))
-  basic-comes (assign onMain s) A =
+  basic-comes (assign onMain s) d e A =
       let b = A .pop-main in
       let h = A .assign-main s refl in
       let l = A .main-fits in
       comes (same refl refl refl (ptr-same _ A)) (omega arith, omega arith, gone (omega arith) (omega arith))
-  basic-comes (assign onPtr s) A =
+  basic-comes (assign onPtr s) d e A =
       let h = A .assign-ptr s refl in
       let l = A .ptr-fits in
       comes (same refl refl (main-same _ A) refl) (omega arith, gone (omega arith) (omega arith))
-  basic-comes (field onMain s) A =
+  basic-comes (field onMain s) d e A =
       let b = A .pop-ptr in
       let h = A .push-main in
       on-object (ptrWord m 1) (inPlain (m .heap) (ptrWord m 1) s) _ _ _ (λ u. refl)
       (λ u v. comes (same refl refl (main-push _ A _) refl) (omega arith, omega arith, gone (omega arith) (omega arith)))
-  basic-comes (field onPtr s) A =
+  basic-comes (field onPtr s) d e A =
       let k = A .pop-ptr in
       let l = A .ptr-fits in
       on-object (ptrWord m 1) (inPtrs (m .heap) (ptrWord m 1) s) _ _ _ (λ u. refl)
       (λ u v. comes (same refl (omega arith) (main-same _ A) (set-over (m .ptr) _ _ _ _ refl (omega arith)))
       (omega arith, gone (omega arith) (omega arith)))
-  basic-comes (setField onMain s) A =
+  basic-comes (setField onMain s) d e A =
       let h = A .pop-main in
       let k = A .pop-ptr in
       on-object (ptrWord m 1) (maySetPlain (m .heap) (ptrWord m 1) s) _ _ _ (λ u. refl)
       (λ u v. comes refl (A .plain-in s u (plain-set (m .heap) (ptrWord m 1) s v), omega arith, omega arith, gone (omega arith) (omega arith)))
-  basic-comes (setField onPtr s) A =
+  basic-comes (setField onPtr s) d e A =
       let h = A .pop-main in
       let k = A .pop-ptr in
       on-object (ptrWord m 1) (inPtrs (m .heap) (ptrWord m 1) s) _ _ _ (A .may-ptr s)
       (λ u v. comes (same refl refl (main-same _ A) refl) (A .ptr-in s u v, omega arith, gone (omega arith) (omega arith)))
-  basic-comes (make (form k n)) A = form-comes k n A
-  basic-comes (make (vector d)) A = vector-comes d A
-  basic-comes (literal w) A =
+  basic-comes (make (form k n)) d e A = form-comes k n A
+  basic-comes (make (vector v)) d e A = vector-comes v A
+  basic-comes (literal w) d e A =
       let h = A .push-main in
       comes (same refl refl (main-push _ A _) (ptr-same _ A)) (omega arith, gone (omega arith) (omega arith))
-  basic-comes nil A =
+  basic-comes nil d e A =
       let h = A .push-ptr in
       comes (same refl refl (main-same _ A) (ptr-push _ A _)) (omega arith, gone (omega arith) (omega arith))
-  basic-comes root A =
+  basic-comes root d e A =
       let h = A .push-ptr in
       comes (same refl refl (main-same _ A) (ptr-push _ A _)) (omega arith, gone (omega arith) (omega arith))
-  basic-comes setRoot A =
+  basic-comes setRoot d e A =
       let b = A .pop-ptr in
       let h = A .root-in in
       comes (same refl refl (main-same _ A) refl) (omega arith, omega arith, gone (omega arith) (omega arith))
-  basic-comes (retract keepMain k n) A =
+  basic-comes (retract keepMain k n) d e A =
       let h = A .pop-main in
       let l = A .main-fits in
       comes (same (omega arith) refl (set-over (m .main) _ _ _ _ (omega arith) (omega arith)) refl)
       (omega arith, record { main = omega arith; ptr = omega arith })
-  basic-comes (retract keepPtr k n) A =
+  basic-comes (retract keepPtr k n) d e A =
       let h = A .pop-ptr in
       let l = A .ptr-fits in
       comes (same refl (omega arith) refl (set-over (m .ptr) _ _ _ _ (omega arith) (omega arith)))
       (omega arith, record { main = omega arith; ptr = omega arith })
-  basic-comes (retract keepNone k n) A = comes refl (record { main = omega arith; ptr = omega arith })
-  basic-comes (binary o) A =
+  basic-comes (retract keepNone k n) d e A = comes refl (record { main = omega arith; ptr = omega arith })
+  basic-comes (binary o) d e A =
       let h = A .pop-main in
       let l = A .main-fits in
       on-value (operate o (mainWord m 2) (mainWord m 1)) _ _
       (λ w. comes (same (omega arith) refl (set-over (m .main) _ _ _ _ refl (omega arith)) (ptr-same _ A))
       (omega arith, omega arith, gone (omega arith) (omega arith)))
-  basic-comes samePtr A =
+  basic-comes samePtr d e A =
       let b = A .pop-ptr in
       let h = A .push-main in
       comes (same refl refl (main-push _ A _) refl) (omega arith, omega arith, gone (omega arith) (omega arith))
-  basic-comes (unary o) A =
+  basic-comes (unary o) d e A =
       let h = A .pop-main in
       let l = A .main-fits in
       on-value (operate1 o (mainWord m 1)) _ _
       (λ w. comes (same (omega arith) refl (set-over (m .main) _ _ _ _ refl (omega arith)) (ptr-same _ A))
       (omega arith, gone (omega arith) (omega arith)))
-  basic-comes (element onMain) A =
+  basic-comes (element onMain) d e A =
       let b = A .pop-ptr in
       let h = A .pop-main in
       let k = A .main-fits in
       element-comes (elementOf onMain (m .heap) (ptrWord m 1) (mainWord m 1)) _ _
       (λ a e. comes (same (omega arith) refl (set-over (m .main) _ _ _ _ refl (omega arith)) refl) (omega arith, omega arith, gone (omega arith) (omega arith)))
-  basic-comes (element onPtr) A =
+  basic-comes (element onPtr) d e A =
       let h = A .pop-main in
       let k = A .pop-ptr in
       let l = A .ptr-fits in
       element-comes (elementOf onPtr (m .heap) (ptrWord m 1) (mainWord m 1)) _ _
       (λ a e. comes (same refl (omega arith) refl (set-over (m .ptr) _ _ _ _ refl (omega arith)))
       (omega arith, omega arith, gone (omega arith) (omega arith)))
-  basic-comes (setElement onMain) A =
+  basic-comes (setElement onMain) d e A =
       let h = A .pop-main in
       let k = A .pop-ptr in
       element-comes (elementOf onMain (m .heap) (ptrWord m 1) (mainWord m 1)) _ _
       (λ a e. comes refl (A .element-within onMain a e, omega arith, omega arith, gone (omega arith) (omega arith)))
-  basic-comes (setElement onPtr) A =
+  basic-comes (setElement onPtr) d e A =
       let h = A .pop-main in
       let k = A .pop-ptr in
       element-comes (elementOf onPtr (m .heap) (ptrWord m 1) (mainWord m 1)) _ _
       (λ a e. comes refl (A .element-within onPtr a e, omega arith, omega arith, gone (omega arith) (omega arith)))
+  basic-comes (realLiteral h l) d e A = real-comes (realLiteral h l) refl d e A
+  basic-comes (real o) d e A = real-comes (real o) refl d e A
+  basic-comes realLess d e A = real-comes realLess refl d e A
+  basic-comes hoop d e A = real-comes hoop refl d e A
 
   both : (g : Bool → Plan) (r : Bool → Machine) → Comes (g true) (done (r true)) → Comes (g false) (done (r false)) →
       (t : Bool) → Comes (g t) (done (r t))
@@ -344,7 +356,7 @@ module _ (f : List ℕ) (m : Machine) (q : ℕ) where
 
   agrees : (x : Ins) → (after f (m .regs .place) ≡ q) → insAt f (m .regs .place) ≡ x → Apt f m x → Comes (planOf f m q x) (rule f m q x)
   unfolding planOf rule settle applied applyInto effectOf
-  agrees (basic b) d e A = basic-comes b A
+  agrees (basic b) d e A = basic-comes b d e A
   agrees (jump t) d e A = stayed _ A t
   agrees (branch false t) d e A = popped _ A _ (A .pop-main)
   agrees (branch true t) d e A = popped _ A _ (A .pop-main)

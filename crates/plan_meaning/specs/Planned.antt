@@ -7,8 +7,8 @@ use lib.ListN.{length}
 use Rattle.model.specs.Choice.{if_then_else_, all}
 use Rattle.model.specs.Words.{wordAt, truth, bit, operate, operate1}
 use Rattle.model.specs.File.{onMain, onPtr, keepMain, keepPtr, keepNone, Basic, local, assign, field, setField, make, form, vector, literal, nil, root}
-use Rattle.model.specs.File.{setRoot, retract, binary, samePtr, unary, element, setElement, Ins, basic, jump, branch, branchKeep, call, return, enter}
-use Rattle.model.specs.File.{exit, raise, after, entry, insOf, insAt, paramsMain, paramsPtr}
+use Rattle.model.specs.File.{setRoot, retract, binary, samePtr, unary, element, setElement, realLiteral, real, realLess, hoop}
+use Rattle.model.specs.File.{Ins, basic, jump, branch, branchKeep, call, return, enter, exit, raise, after, entry, insOf, insAt, paramsMain, paramsPtr}
 use Rattle.model.specs.Heap.{markOf, rootOf, inPtrs, inPlain, maySetPlain}
 use Rattle.model.specs.Vectors.{Element, found, ofNil, nowhere, elementOf}
 use Rattle.model.specs.Control.{Machine, running, recordWords}
@@ -21,7 +21,7 @@ use Rattle.plan_meaning.specs.declared.Into.the-variants.{Nothing, Pop, 
 use Rattle.plan_meaning.specs.declared.Into.the-variants.{ReadPointer, Store, WordVector, PtrVector, StoreWord, StorePointer}
 use Rattle.plan_meaning.specs.declared.Put.{Put}
 use Rattle.plan_meaning.specs.declared.Plan.{Plan}
-use Rattle.plan_meaning.specs.declared.Plan.the-variants.{Write, OutOfRange, NilObject, NoSuchWord, HeapFull, NoRoom, VectorFault, Thrown}
+use Rattle.plan_meaning.specs.declared.Plan.the-variants.{Write, OutOfRange, NilObject, NoSuchWord, HeapFull, NoRoom, VectorFault, Thrown, Real}
 
 -- the next place, the tops of the main and the pointer stack, and the word that is written into a list at an index
 abbrev pub write : Into → ℕ → ℕ → ℕ → ℕ → ℕ → Plan
@@ -96,6 +96,10 @@ basicPlan m q (setElement onMain) =
     planElement (elementOf onMain (m .heap) (ptrWord m 1) (mainWord m 1)) (λ a. write StoreWord q (mtop m - 2) (ptop m - 1) a (mainWord m 2))
 basicPlan m q (setElement onPtr) =
     planElement (elementOf onPtr (m .heap) (ptrWord m 1) (mainWord m 1)) (λ a. write StorePointer q (mtop m - 1) (ptop m - 2) a (ptrWord m 2))
+basicPlan m q (realLiteral h l) = Real q
+basicPlan m q (real o) = Real q
+basicPlan m q realLess = Real q
+basicPlan m q hoop = Real q
 
 -- q is the next place. 1 to 6: jumps; 72: the word and the index written are the new frame's bases; 73: back to the return place;
 -- 160, 161: the handler's record; 162: its word is raised

@@ -6,18 +6,18 @@ use lib.ListN.{set, replicate}
 use lib.Seq.{slice}
 use Rattle.model.specs.Choice.{if_then_else_}
 use Rattle.model.specs.Words.{cut}
-use Rattle.model.specs.File.{operand, after}
+use Rattle.model.specs.File.{operand, after, insAt}
 use Rattle.model.specs.Heap.{viewKind, wordVectorKind, ptrVectorKind, made}
 use Rattle.model.specs.Control.{Machine, handlerOf, running, recordWords, mtopReg, ptopReg, ctopReg, setReg, setMain, setPtr, setCtl, setHeap}
 use Rattle.model.specs.Moves.{mtop, ptop, mainWord, ptrWord, goTo, inFrame, inHandler, cutMain, cutPtr, openFrame, openHandler, finished}
-use Rattle.model.specs.Instructions.{codeOf, outOfRange, nilObject, noSuchWord, heapFull, noRoom, vectorFault}
-use Rattle.model.specs.Step.{Stepped, next, raised}
+use Rattle.model.specs.Instructions.{codeOf, outOfRange, nilObject, noSuchWord, heapFull, noRoom, vectorFault, rule}
+use Rattle.model.specs.Step.{Stepped, next, raised, outcome}
 use Rattle.plan_meaning.specs.declared.Into.{Into}
 use Rattle.plan_meaning.specs.declared.Into.the-variants.{Nothing, Pop, Push, Main, Pointer, Heap, Read, Drop, DropMain, DropPointer, View, Frame, Return, Handler, Close}
 use Rattle.plan_meaning.specs.declared.Into.the-variants.{ReadPointer, Store, WordVector, PtrVector, StoreWord, StorePointer}
 use Rattle.plan_meaning.specs.declared.Put.{Put}
 use Rattle.plan_meaning.specs.declared.Plan.{Plan}
-use Rattle.plan_meaning.specs.declared.Plan.the-variants.{Write, OutOfRange, NilObject, NoSuchWord, HeapFull, NoRoom, VectorFault, Thrown}
+use Rattle.plan_meaning.specs.declared.Plan.the-variants.{Write, OutOfRange, NilObject, NoSuchWord, HeapFull, NoRoom, VectorFault, Thrown, Real}
 
 -- the stacks are cut, and the place is the next one
 abbrev pub cutOnly : Put → Machine → Machine
@@ -115,7 +115,7 @@ applyInto f StorePointer p m = heapSet p m
 unfoldable pub applied : List ℕ → Put → Machine → Machine
 applied f p m = applyInto f (p .into) p m
 
--- the exceptions; 162 raises the word that it pops
+-- the exceptions; 162 raises the word that it pops. What an instruction on reals comes to is not split into a plan and its writes
 unfoldable pub settle : List ℕ → Machine → Plan → Stepped
 settle f m (Write p) = next (applied f p m)
 settle f m OutOfRange = raised f m (codeOf outOfRange)
@@ -125,3 +125,4 @@ settle f m HeapFull = raised f m (codeOf heapFull)
 settle f m NoRoom = raised f m (codeOf noRoom)
 settle f m VectorFault = raised f m (codeOf vectorFault)
 settle f m Thrown = raised f m (mainWord m 1)
+settle f m (Real q) = outcome f m (rule f m q (insAt f (m .regs .place)))

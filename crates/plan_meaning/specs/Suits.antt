@@ -1,9 +1,12 @@
 -- What a plan's writes ask of the lists that they go to: the word written lies in its list, and no more words go than its case lets go.
 use Prim.Native.Nat.{ℕ, _+_, _-_, _<_, _≤_}
+use mathlib.Core.Bool.{true}
 use mathlib.Core.Path.{_≡_}
 use mathlib.Core.List.{List}
 use lib.ListN.{length}
-use Rattle.model.specs.File.{after}
+use Rattle.model.specs.File.{after, insAt}
+use Rattle.model.specs.Checker.{effectOf}
+use Rattle.laws_file.specs.Codes.{isReal?}
 use Rattle.model.specs.Heap.{markOf}
 use Rattle.model.specs.Control.{Machine, recordWords, records}
 use Rattle.model.specs.Moves.{mtop, ptop, mainWord}
@@ -13,7 +16,7 @@ use Rattle.plan_meaning.specs.declared.Into.the-variants.{Nothing, Pop, 
 use Rattle.plan_meaning.specs.declared.Into.the-variants.{ReadPointer, Store, WordVector, PtrVector, StoreWord, StorePointer}
 use Rattle.plan_meaning.specs.declared.Put.{Put}
 use Rattle.plan_meaning.specs.declared.Plan.{Plan}
-use Rattle.plan_meaning.specs.declared.Plan.the-variants.{Write, OutOfRange, NilObject, NoSuchWord, HeapFull, NoRoom, VectorFault, Thrown}
+use Rattle.plan_meaning.specs.declared.Plan.the-variants.{Write, OutOfRange, NilObject, NoSuchWord, HeapFull, NoRoom, VectorFault, Thrown, Real}
 
 -- at most a words of the main stack go, and b of the pointer stack
 pub record Pops (a b : ℕ) (r : Regs) (put : Put) : Type 0 where
@@ -98,6 +101,14 @@ Suits f PtrVector put m = VectorFits 2 1 (mainWord m 1) put m
 Suits f StoreWord put m = FitsIn StoreWord put m
 Suits f StorePointer put m = FitsIn StorePointer put m
 
+-- 53, 150 to 153, 155, 156: the record is in the file, and q is the place behind it; the words popped are there, and those pushed fit
+pub record RealSuits (f : List ℕ) (q : ℕ) (m : Machine) : Type 0 where
+  pub real : isReal? (insAt f (m .regs .place)) ≡ true
+  pub next : after f (m .regs .place) ≡ q
+  pub inside : after f (m .regs .place) ≤ length f
+  pub pops : effectOf f (insAt f (m .regs .place)) .popMain ≤ mtop m
+  pub pushes : mtop m - effectOf f (insAt f (m .regs .place)) .popMain + effectOf f (insAt f (m .regs .place)) .pushMain ≤ length (m .main)
+
 -- any plan; 162 has a word to pop
 abbrev pub Suited : List ℕ → Machine → Plan → Type 0
 Suited f m (Write put) = Suits f (put .into) put m
@@ -108,3 +119,4 @@ Suited f m HeapFull = Unit {0}
 Suited f m NoRoom = Unit {0}
 Suited f m VectorFault = Unit {0}
 Suited f m Thrown = 1 ≤ mtop m
+Suited f m (Real q) = RealSuits f q m

@@ -1,4 +1,4 @@
--- `plan::plan_at`: each arm by its function's contract, which asks for what `Arms` draws from `StepReady`; of the codes only 85 is in no arm before the last.
+-- `plan::plan_at`: each arm by its function's contract, which asks for what `Arms` draws from `StepReady`; of the codes only those of the operations on reals are in no arm before the last.
 use mathlib.Core.List.{[], _∷_}
 use mathlib.Core.Logic.{inl, inr}
 use mathlib.Core.Path.{_≡_, refl}
@@ -7,10 +7,10 @@ use denote.Ref.{now}
 use Rattle.model.specs.Checker.{basicEffect, effectOf}
 use Rattle.model.specs.File.{codes, bodies, bodyOf, makerPops, insOf}
 use Rattle.laws_file.specs.Kinds.{at-each}
-use Rattle.plan_meaning.specs.Planned.{planOf, planned}
+use Rattle.plan_meaning.specs.Planned.{basicPlan, planOf, planned}
 use Rattle.plan.specs.Arms.{place-in, place-small, main-within, ptr-within, record-in, body-here, body, pops-main, pops-ptr, on-words, jump-on}
 use Rattle.plan.specs.Arms.{main-word, ptr-word, taken-main, taken-ptr, points, callee, subject, plan-of, plan-here}
-use Rattle.plan.specs.Kinds.{last-arm}
+use Rattle.plan.specs.Kinds.{last-arm, last-body, last-planned}
 use Rattle.plan.specs.Ready.{StepReady}
 use Rattle.plan.proofs.plan_at.Statement.{statement}
 use Rattle.plan.proofs.plan_at.Tie as tie
@@ -222,8 +222,14 @@ ptr-elements-requires-2 : tie.Need-ptr-elements-requires-2
 unfolding insOf effectOf basicEffect
 ptr-elements-requires-2 c κs =
     let R = ready (c .before) in
-    let e = last-arm _ _ (R .code) (c .match .rest) in
+    let e = c .match .keys38 in
     (place-small R, main-within R, ptr-within R, omega (arith, pops-main R e), omega (arith, pops-ptr R e), points R _, λ z. pops-ptr R e, inr refl)
+
+add-t13 : tie.Need-add-t13
+add-t13 c = omega (arith, place-small (ready (c .before)))
+
+add-t14 : tie.Need-add-t14
+add-t14 c = omega (arith, place-small (ready (c .before)))
 
 returns : tie.Need-returns
 unfolding bodyOf bodies codes
@@ -382,14 +388,22 @@ unfolding bodyOf bodies codes
 returns-37 c = let R = ready (c .before .before) in plan-here R (c .before .match .keys37) (c .ptr-elements .ensures _ (subject R))
 
 returns-38 : tie.Need-returns-38
-unfolding planned planOf insOf bodyOf bodies codes
-returns-38 c = plan-here (ready (c .before)) (c .match .keys38) refl
+unfolding bodyOf bodies codes
+returns-38 c = let R = ready (c .before .before) in plan-here R (c .before .match .keys38) (c .ptr-elements2 .ensures _ (subject R))
 
 returns-39 : tie.Need-returns-39
-unfolding bodyOf bodies codes
-returns-39 c =
-    let R = ready (c .before .before) in
-    plan-here R (last-arm _ _ (R .code) (c .before .match .rest)) (c .ptr-elements2 .ensures _ (subject R))
+unfolding planned planOf insOf bodyOf bodies codes
+returns-39 c = plan-here (ready (c .before)) (c .match .keys39) refl
+
+returns-40 : tie.Need-returns-40
+unfolding planned planOf basicPlan insOf bodyOf bodies codes
+returns-40 c = plan-here (ready (c .before)) (c .match .keys40) refl
+
+returns-41 : tie.Need-returns-41
+returns-41 c =
+    let R = ready (c .before) in
+    let o = last-arm _ _ (R .code) (c .match .rest) in
+    plan-of R 0 (last-body _ o) (last-planned _ (subject R) _ o)
 
 pub plan-at-spec : {M : Type 1} → statement M
 plan-at-spec =
@@ -434,6 +448,8 @@ plan-at-spec =
     word-elements-requires-2
     ptr-elements-requires
     ptr-elements-requires-2
+    add-t13
+    add-t14
     returns
     returns-2
     returns-3
@@ -472,4 +488,6 @@ plan-at-spec =
     returns-36
     returns-37
     returns-38
-    returns-39)
+    returns-39
+    returns-40
+    returns-41)

@@ -11,7 +11,7 @@ use Rattle.model.specs.Heap.{ptrsAt, sizeAt}
 use Rattle.model.specs.Vectors.{boundAt, elementsAt, found, ofNil, nowhere, elementOf}
 use Rattle.heap.specs.Stores.{Lies, lies}
 use Rattle.plan_meaning.specs.Planned.{basicPlan, planOf, planned}
-use Rattle.plan_meaning.specs.Asked as asked
+use Rattle.laws_file.specs.Kinds as kinds
 use Rattle.plan_vectors.specs.Sought.{heapFrom, length-heap-from, word-heap-from, bound-behind, nil-sought, other-kind, under-sought, past-sought, found-sought}
 use borrow.Author.Needs.{needs}
 use Rattle.plan_vectors.proofs.ptr_elements.Statement.{statement}
@@ -222,7 +222,7 @@ sub-value : tie.Need-sub-value
 sub-value c =
     let far11 = c .before .before .before .before .before .before .before .before .before .before .before in
     let S = far11 .before .before .before .before .before .before .before .before .before .before .before in
-    omega (arith, S .pre .6 (asked.other (S .pre .7) (c .before .match .rest .1)))
+    omega (arith, S .pre .6 (kinds.other (S .pre .7) (c .before .match .rest .1)))
 
 add-writes-2 : tie.Need-add-writes-2
 add-writes-2 c = search needs
@@ -234,13 +234,13 @@ mul-writes-2 : tie.Need-mul-writes-2
 mul-writes-2 c =
     let far12 = c .before .before .before .before .before .before .before .before .before .before .before .before in
     let S = far12 .before .before .before .before .before .before .before .before .before .before .before in
-    omega (arith, S .pre .6 (asked.other (S .pre .7) (c .before .before .match .rest .1)), S .pre .2)
+    omega (arith, S .pre .6 (kinds.other (S .pre .7) (c .before .before .match .rest .1)), S .pre .2)
 
 shared-slice-read-writes-2 : tie.Need-shared-slice-read-writes-2
 shared-slice-read-writes-2 c =
     let far12 = c .before .before .before .before .before .before .before .before .before .before .before .before in
     let S = far12 .before .before .before .before .before .before .before .before .before .before .before .before in
-    omega (arith, S .pre .6 (asked.other (S .pre .7) (c .before .before .before .match .rest .1)))
+    omega (arith, S .pre .6 (kinds.other (S .pre .7) (c .before .before .before .match .rest .1)))
 
 writes-requires-2 : tie.Need-writes-requires-2
 writes-requires-2 c κs = search needs
@@ -259,7 +259,7 @@ unfolding planned planOf basicPlan insOf
 returns-6 c =
     let back5 = c .before .before .before .before .before in
     let entry = back5 .before .before .before .before .before .before .before .before .before .before .before .before .before .before .before .before .before .before .before .before in
-    λ f m. rw (c .writes2 .ensures, asked.other (entry .pre .7) (c .before .before .before .before .match .rest .1)) (rw (at back5))
+    λ f m. rw (c .writes2 .ensures, kinds.other (entry .pre .7) (c .before .before .before .before .match .rest .1)) (rw (at back5))
 
 pub ptr-elements-spec : {M : Type 1} → statement M
 ptr-elements-spec =

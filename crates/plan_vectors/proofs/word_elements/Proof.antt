@@ -10,7 +10,7 @@ use Rattle.model.specs.Heap.{ptrsAt, sizeAt}
 use Rattle.model.specs.Vectors.{boundAt, elementsAt, found, ofNil, nowhere, elementOf}
 use Rattle.heap.specs.Stores.{Lies, lies}
 use Rattle.plan_meaning.specs.Planned.{basicPlan, planOf, planned}
-use Rattle.plan_meaning.specs.Asked as asked
+use Rattle.laws_file.specs.Kinds as kinds
 use Rattle.plan_vectors.specs.Sought.{nil-sought, other-kind, under-sought, past-sought, found-sought}
 use borrow.Author.Needs.{needs}
 use Rattle.plan_vectors.proofs.word_elements.Statement.{statement}
@@ -201,7 +201,7 @@ sub-value : tie.Need-sub-value
 sub-value c =
     let far18 = c .before .before .before .before .before .before .before .before .before .before .before .before .before .before .before .before .before .before in
     let back21 = far18 .before .before .before in
-    let S = back21 in omega (arith, S .pre .6 (asked.other (S .pre .7) (c .before .match .rest .1)))
+    let S = back21 in omega (arith, S .pre .6 (kinds.other (S .pre .7) (c .before .match .rest .1)))
 
 add-writes-2 : tie.Need-add-writes-2
 add-writes-2 c = search needs
@@ -225,7 +225,7 @@ returns-6 c =
     let back5 = c .before .before .before .before .before in
     let far23 = back5 .before .before .before .before .before .before .before .before .before .before .before .before .before .before .before .before .before .before in
     let entry = far23 .before in
-    λ f m. rw (c .writes2 .ensures, asked.other (entry .pre .7) (c .before .before .before .before .match .rest .1)) (rw (at (back5)))
+    λ f m. rw (c .writes2 .ensures, kinds.other (entry .pre .7) (c .before .before .before .before .match .rest .1)) (rw (at (back5)))
 
 pub word-elements-spec : {M : Type 1} → statement M
 word-elements-spec =
