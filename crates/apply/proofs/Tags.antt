@@ -100,7 +100,7 @@ module _ {put : Put} {m : Machine} (L : Lately put m) where
 
 -- all plans but writes
 abbrev raising : List ℕ
-raising = 1 ∷ 2 ∷ 3 ∷ 4 ∷ 5 ∷ 6 ∷ 7 ∷ []
+raising = 1 ∷ 2 ∷ 3 ∷ 4 ∷ 5 ∷ 6 ∷ 7 ∷ 8 ∷ []
 
 pub no-write : (plan : Plan) → OneOf raising (tagOf planned.the-type plan) → (put : Put) → plan ≡ Write put → ⊥
 no-write plan k put e = miss raising 0 tt (rw e at k)

@@ -13,10 +13,11 @@ use Rattle.model.specs.Moves.{mtop}
 use Rattle.model.specs.Instructions.{codeOf, outOfRange, nilObject, noSuchWord, heapFull, noRoom, vectorFault}
 use Rattle.model.specs.Step.{Stepped, next, uncaught, caught, raised}
 use Rattle.plan_meaning.specs.Settled.{settle}
+use Rattle.plan_meaning.specs.Suits.{RealSuits}
 use Rattle.model.specs.declared.Regs.{Regs}
 use Rattle.plan_meaning.specs.declared.Put.{Put}
 use Rattle.plan_meaning.specs.declared.Plan.{Plan}
-use Rattle.plan_meaning.specs.declared.Plan.the-variants.{Write, OutOfRange, NilObject, NoSuchWord, HeapFull, NoRoom, VectorFault, Thrown}
+use Rattle.plan_meaning.specs.declared.Plan.the-variants.{Write, OutOfRange, NilObject, NoSuchWord, HeapFull, NoRoom, VectorFault, Thrown, Real}
 use Rattle.apply.specs.declared.Outcome.{Outcome}
 use Rattle.control_stack.specs.declared.Handler.{Handler}
 use Rattle.control_stack.specs.Layout.{theHandler}
@@ -58,18 +59,24 @@ raisedBy main t HeapFull = codeOf heapFull
 raisedBy main t NoRoom = codeOf noRoom
 raisedBy main t VectorFault = codeOf vectorFault
 raisedBy main t Thrown = wordAt main (t - 1)
+raisedBy main t (Real q) = 0
 
-settle-raised : (f : List ℕ) (m : Machine) (plan : Plan) → ((put : Put) → plan ≡ Write put → ⊥) →
+-- no instruction on reals, which is done by itself
+abbrev pub NotReal : Plan → Type 0
+NotReal plan = (q : ℕ) → plan ≡ Real q → ⊥
+
+settle-raised : (f : List ℕ) (m : Machine) (plan : Plan) → ((put : Put) → plan ≡ Write put → ⊥) → NotReal plan →
     settle f m plan ≡ raised f m (raisedBy (m .main) (mtop m) plan)
 unfolding settle raisedBy
-settle-raised f m (Write put) never = absurd (never put refl)
-settle-raised f m OutOfRange never = refl
-settle-raised f m NilObject never = refl
-settle-raised f m NoSuchWord never = refl
-settle-raised f m HeapFull never = refl
-settle-raised f m NoRoom never = refl
-settle-raised f m VectorFault never = refl
-settle-raised f m Thrown never = refl
+settle-raised f m (Write put) never n = absurd (never put refl)
+settle-raised f m OutOfRange never n = refl
+settle-raised f m NilObject never n = refl
+settle-raised f m NoSuchWord never n = refl
+settle-raised f m HeapFull never n = refl
+settle-raised f m NoRoom never n = refl
+settle-raised f m VectorFault never n = refl
+settle-raised f m Thrown never n = refl
+settle-raised f m (Real q) never n = absurd (n q refl)
 
 -- the registers in the handler
 abbrev pub resumed : Handler → ℕ → ℕ → ℕ → Regs
@@ -174,8 +181,10 @@ pub record Settles (f table : List ℕ) (m : Machine) (plan : Plan) : Type 0 whe
   pub raises : ((put : Put) → plan ≡ Write put → ⊥) → Raises f table (m .regs) (m .main) (m .ptr) (m .ctl)
   -- 162 pops a word
   pub thrown : plan ≡ Thrown → 1 ≤ mtop m
+  -- an instruction on reals is in the file, its words are there, and what it pushes fits
+  pub reals : (q : ℕ) → plan ≡ Real q → RealSuits f q m
 
--- a plan that does not write: its exception is raised
-pub ends-raised : {f table : List ℕ} {m : Machine} {plan : Plan} {code : ℕ} {x : Ended} → Settles f table m plan → ((put : Put) → plan ≡ Write put → ⊥) →
+-- a plan that neither writes nor is done by itself: its exception is raised
+pub ends-raised : {f table : List ℕ} {m : Machine} {plan : Plan} {code : ℕ} {x : Ended} → Settles f table m plan → ((put : Put) → plan ≡ Write put → ⊥) → NotReal plan →
     code ≡ raisedBy (m .main) (mtop m) plan → x ≡ endedOf (raised f m code) → x ≡ endedOf (settle f m plan)
-ends-raised {f = f} {m = m} {plan = plan} S never e d = rw (settle-raised f m plan never, ← e) d
+ends-raised {f = f} {m = m} {plan = plan} S never n e d = rw (settle-raised f m plan never n, ← e) d

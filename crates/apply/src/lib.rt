@@ -12,7 +12,7 @@ ghost use Rattle.plan_meaning.specs.Settled.{applied, settle};
 ghost use Rattle.laws.specs.Cuts.{Topped};
 ghost use Rattle.apply_words.specs.Asks.{onwards};
 ghost use Rattle.apply.specs.Applies.{Applies, Late, PutsNew, Lately, Later, tried, appliedIf};
-ghost use Rattle.apply.specs.Ended.{Targets, Raises, Settles, endedOf, resumed, raisedBy};
+ghost use Rattle.apply.specs.Ended.{Targets, Raises, NotReal, Settles, endedOf, resumed, raisedBy};
 use control_stack::Handler;
 use model::PROCS_MOST;
 use model::RECORD;
@@ -252,6 +252,7 @@ pub fn code_of(plan: Plan, main: &[u32], mtop: usize) -> u32
         Plan::NoRoom => 5,
         Plan::VectorFault => 6,
         Plan::Thrown => main[mtop - 1],
+        Plan::Real(_) => 0,
     }
 }
 
@@ -266,7 +267,7 @@ pub fn step_with(
     regs: Regs,
     plan: Plan,
 ) -> Outcome
-    requires { ⌜ Settles (now file) (now table) (record { regs = regs; main = now main; ptr = now ptr; ctl = now ctl; heap = now heap }) plan × Later regs plan ⌝ }
+    requires { ⌜ Settles (now file) (now table) (record { regs = regs; main = now main; ptr = now ptr; ctl = now ctl; heap = now heap }) plan × Later regs plan × NotReal plan ⌝ }
     ensures { λ r. ⌜ record {
       on = r .on;
       code = r .code;

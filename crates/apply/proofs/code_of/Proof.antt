@@ -29,6 +29,9 @@ enum-told-7 c = search needs
 enum-told-8 : tie.Need-enum-told-8
 enum-told-8 c = search needs
 
+enum-told-9 : tie.Need-enum-told-9
+enum-told-9 c = search needs
+
 sub-result : tie.Need-sub-result
 sub-result c = c .before .before .pre .1 (c .enum-told8 .given .1)
 
@@ -70,6 +73,10 @@ returns-8 : tie.Need-returns-8
 unfolding raisedBy
 returns-8 c = rw (c .before .enum-told8 .given .1)
 
+returns-9 : tie.Need-returns-9
+unfolding raisedBy
+returns-9 c = rw (c .enum-told9 .given .1)
+
 pub code-of-spec : {M : Type 1} → statement M
 code-of-spec =
     tie.close
@@ -85,6 +92,7 @@ code-of-spec =
     sub-result
     mul-result
     shared-slice-read-result
+    enum-told-9
     returns
     returns-2
     returns-3
@@ -92,4 +100,5 @@ code-of-spec =
     returns-5
     returns-6
     returns-7
-    returns-8)
+    returns-8
+    returns-9)

@@ -34,7 +34,8 @@ returns c =
     let at-raise = c .before .before .before .before .before .before in
     let at-code-of = at-raise .before .before .before .before in
     let at-match = at-code-of .before .before in
-    ends-raised (at-match .before .before .before .before .before .before .pre .0) (no-write _ (at-match .match .keys2)) (at-code-of .code-of .ensures) (at-raise .raise .ensures _)
+    let pre = at-match .before .before .before .before .before .before .pre in
+    ends-raised (pre .0) (no-write _ (at-match .match .keys2)) (pre .2) (at-code-of .code-of .ensures) (at-raise .raise .ensures _)
 
 apply-late-requires : tie.Need-apply-late-requires
 apply-late-requires c κs =
