@@ -312,9 +312,9 @@ pub fn operand4(file: &[u8], p: usize) -> u32
 }
 
 // The four bytes behind those as a word: the low word of 53.
-pub fn operand8(file: &[u8], p: usize) -> u32
+pub fn operand_low(file: &[u8], p: usize) -> u32
     requires { ⌜ p + 8 < length (now file) ⌝ }
-    ensures { λ r. ⌜ Small 4294967296 (model.operand8 (now (file .entry)) p) r ⌝ }
+    ensures { λ r. ⌜ Small 4294967296 (model.operandLow (now (file .entry)) p) r ⌝ }
 {
     operand4(file, p + 4)
 }

@@ -2,10 +2,10 @@
 use Prim.Native.Nat.{ℕ, _+_, _*_, _/_, _%_}
 use mathlib.Core.Bool.{Bool, true, _&&_}
 use mathlib.Core.List.{List, [], _∷_}
-use lib.Ieee.{Float, binary64, ofBits, toBits, add, sub, mul, div}
+use lib.Ieee.{Float, binary64, ofBits, toBits, add, sub, mul, div, lt}
 use lib.Ieee.Scale.{finite}
 
--- Manual 2.1: how many words there are, 2^32
+-- Manual 2.1: how many values a word has, 2^32
 abbrev pub wordsMany : ℕ
 wordsMany = 4294967296
 
@@ -33,6 +33,10 @@ operateReals fPlus a b = add binary64 a b
 operateReals fTimes a b = mul binary64 a b
 operateReals fMinus a b = sub binary64 a b
 operateReals fDivide a b = div binary64 a b
+
+-- Manual 4.33: A is less than B; where either is a NaN, it is not
+unfoldable pub lessReals : Float → Float → Bool
+lessReals a b = lt a b
 
 -- Manual 2.18: a hoop point is two reals
 pub record Point : Type 0 where

@@ -7,22 +7,24 @@ use mathlib.Core.Bool.{Bool, true, false, true≢false}
 use mathlib.Core.List.{List, [], _∷_}
 use mathlib.Core.Logic.{inl, inr, _≢_}
 use native.Mathlib.Omega.{arith}
+use lib.Ieee.{Float}
 use lib.IntN.{ℤ, pos, negsuc}
 use lib.ListN.{length, set, length-set, replicate}
 use lib.Dec.{leb, eqb}
 use borrow.Author.Tests.{eq-eqb, eqb-false, leb-true, le-leb, ltb-true}
 use Rattle.model.specs.Choice.{if_then_else_, all, All, all-true, Mem}
+use Rattle.model.specs.Reals.{wordsOf, allFinite, operateReals, realsOf, scaled, shifted}
 use Rattle.model.specs.Words.{signed, wordAt, truth, operate, operate1}
 use Rattle.model.specs.File.{Side, onMain, onPtr, keepMain, keepPtr, keepNone, Basic, local, assign, field, setField, Maker, form, vector, makerPops, make}
-use Rattle.model.specs.File.{literal, nil, root, setRoot, retract, binary, samePtr, unary, element, setElement, Ins, basic, jump, branch, branchKeep}
-use Rattle.model.specs.File.{call, return, enter, exit, raise, after, insAt}
+use Rattle.model.specs.File.{literal, nil, root, setRoot, retract, binary, samePtr, unary, element, setElement, realLiteral, real, realLess, hoop}
+use Rattle.model.specs.File.{Ins, basic, jump, branch, branchKeep, call, return, enter, exit, raise, after, insAt}
 use Rattle.model.specs.Checker.{State, effect, basicEffect, effectOf, moved, innermost, passes, wordTests, depthTests}
 use Rattle.model.specs.Vectors.{Element, found, ofNil, nowhere, elementOf}
 use Rattle.model.specs.Heap.{Heap, Pointer, markOf, viewKind, wordVectorKind, ptrVectorKind, kinds, kindIn, inPtrs, inPlain, maySetPlain, maySetPtr, made, clean, heapOf}
 use Rattle.model.specs.Control.{Machine, handlerOf, running, records, recordWords, placeReg, mtopReg, ptopReg, setReg, setMain, setPtr, setHeap}
-use Rattle.model.specs.Moves.{mtop, ptop, mainWord, ptrWord, mainWords, ptrWords, goTo, popMain, popPtr, pushMain, pushPtr, storeMain, storePtr}
+use Rattle.model.specs.Moves.{mtop, ptop, mainWord, ptrWord, mainWords, ptrWords, mainReal, mainPoint, goTo, popMain, popPtr, pushMain, pushWords, pushPtr, storeMain, storePtr}
 use Rattle.model.specs.Moves.{storeHeap, pushNew, closeFrame, finished}
-use Rattle.model.specs.Instructions.{nilObject, noSuchWord, heapFull, Result, done, throws, fails, andGo, onObject, onElement, onValue, onRoom, New, object}
+use Rattle.model.specs.Instructions.{outOfRange, nilObject, noSuchWord, heapFull, Result, done, throws, fails, andGo, onObject, onElement, onValue, onReals, onRoom, New, object}
 use Rattle.model.specs.Instructions.{ofLength, newOf, onNew, makes, calleeTests, basicRule, rule}
 use Rattle.model.specs.Step.{next, uncaught, outcome, raised, caught, instruct, step}
 use Rattle.model.specs.Sound.{mainAt, innerAt, isIns}
@@ -177,6 +179,10 @@ module _ {m : Machine} {os : List ℕ} {m′ : Machine} (O : Order m os m′) wh
   store-heap : (a w : ℕ) → Heap (set (m′ .heap) a w) os → Order m os (storeHeap a w m′)
   store-heap a w K = other-heap os _ K (length-set (m′ .heap) a w) (λ v p. p)
 
+push-words : {m : Machine} {os : List ℕ} {m′ : Machine} → Order m os m′ → (ws : List ℕ) → Order m os (pushWords ws m′)
+push-words O [] = O
+push-words O (w ∷ ws) = push-words (push-main O w) ws
+
 push-new : {m : Machine} {os : List ℕ} {m′ : Machine} (kind : ℕ) (ps ws : List ℕ) → Order m os m′ →
     (F : Formed (m′ .heap) os (made kind ps ws (m′ .heap))) → Order m (F .objects) (pushNew kind ps ws m′)
 push-new {m′ = m′} kind ps ws O F =
@@ -213,6 +219,14 @@ module _ (f map : List ℕ) (m : Machine) (os : List ℕ) (i j : ℕ) where
   on-value : (q : ℕ) (v : Value) (r : ℕ → Result) → ((w : ℕ) → Fine (andGo q (r w))) → Fine (andGo q (onValue v r))
   on-value q (Word w) r k = k w
   on-value q Outside r k = tt
+
+  -- of reals only the words that they come to matter
+  on-reals : (q : ℕ) (xs : List Float) (r : List ℕ → Result) → Fine (andGo q (r (wordsOf xs))) → Fine (andGo q (onReals xs r))
+  on-reals q xs r k = go (allFinite xs)
+    where
+      go : (t : Bool) → Fine (andGo q (if t then r (wordsOf xs) else fails outOfRange))
+      go true = k
+      go false = tt
 
   on-room : (t : Bool) (m′ : Machine) → (t ≡ true → Fine (done m′)) → Fine (onRoom t m′)
   on-room true m′ k = k refl
@@ -347,7 +361,7 @@ module _ (f map : List ℕ) (m : Machine) (os : List ℕ) (i j : ℕ) where
     vector-here F = is-object os _ (pointer _) (F .some)
 
     basic-fine : (b : Basic) → At (basic b) → Fine (andGo ahead (basicRule m b))
-    unfolding basicRule basicEffect effectOf inPtrs
+    unfolding basicRule basicEffect effectOf inPtrs wordsOf
     basic-fine (local onMain s) e = on (local onMain s) _ e (push-main start _) (omega arith) (omega arith)
     basic-fine (local onPtr s) e = on (local onPtr s) _ e (push-ptr start _ (pointer _)) (omega arith) (omega arith)
     basic-fine (assign onMain s) e =
@@ -406,6 +420,14 @@ module _ (f map : List ℕ) (m : Machine) (os : List ℕ) (i j : ℕ) where
         let h = H .ptr-store (m .heap) os (ptrWord m 1) (2 + F .n) (ptrWord m 2) K (vector-here F) (ptr-set K _ a (vector-here F) F) (pointer _) in
         let i : ptrWord m 1 + (2 + F .n) ≡ a = omega (arith, F .is) in
         on (setElement onPtr) _ e (store-heap (pop-main (pop-ptr start 2) 1) _ _ (rw i at h)) (omega arith) (omega arith))
+    basic-fine (realLiteral h l) e = on (realLiteral h l) _ e (push-words start (h ∷ l ∷ [])) (omega arith) (omega arith)
+    basic-fine (real o) e =
+        let xs = operateReals o (mainReal m 4) (mainReal m 2) ∷ [] in
+        on-reals ahead xs (λ ws. done (pushWords ws (popMain 4 m))) (on (real o) _ e (push-words (pop-main start 4) (wordsOf xs)) (omega arith) (omega arith))
+    basic-fine realLess e = on realLess _ e (push-main (pop-main start 4) _) (omega arith) (omega arith)
+    basic-fine hoop e =
+        let xs = realsOf (shifted (mainPoint m 6) (scaled (mainReal m 2) (mainPoint m 10))) in
+        on-reals ahead xs (λ ws. done (pushWords ws (popMain 10 m))) (on hoop _ e (push-words (pop-main start 10) (wordsOf xs)) (omega arith) (omega arith))
 
     -- a jump that pops a word, and one that does not
     popped : (x : Ins) (q : ℕ) → At x → 1 ≤ mainAt map (m .regs .place) → Mem (q, moved (effect 1 0 0 0) now) (passed x) →
