@@ -2,20 +2,23 @@
 use Prim.Native.Nat.{ℕ, _+_, _-_, _/_, _%_, _<_, _≤_}
 use mathlib.Core.Bool.{Bool, true, false}
 use mathlib.Core.List.{List, [], _∷_}
-use mathlib.Core.Path.{_≡_, refl, ap, _∙_}
+use mathlib.Core.Logic.{inl, inr}
+use mathlib.Core.Path.{_≡_, refl}
 use native.Mathlib.Omega.{arith}
 use lib.Ieee.{Float, binary64, toBits}
 use lib.ListN.{length, set}
-use Rattle.model.specs.Words.{wordAt, cut}
-use Rattle.model.specs.Reals.{wordsMany, realOf, wordsOf, Point, point}
-use Rattle.model.specs.File.{Ins, after, insAt}
-use Rattle.model.specs.Checker.{effectOf}
+use Rattle.model.specs.Words.{wordAt}
+use Rattle.model.specs.Reals.{wordsMany, realOf, Point, point}
+use Rattle.model.specs.File.{Ins, byteAt, codes, bodies, bodyOf, after, insOf, insAt}
+use Rattle.model.specs.Checker.{basicEffect, effectOf}
 use Rattle.model.specs.Control.{Machine}
-use Rattle.model.specs.Moves.{mtop, popMain, pushWords}
+use Rattle.model.specs.Calls.{mainMost}
 use Rattle.model.specs.Instructions.{Result, done, fails, outOfRange, rule}
 use Rattle.model.specs.declared.Regs.{Regs}
 use Rattle.laws.specs.Cuts.{Topped}
-use Rattle.laws_file.specs.Codes.{isReal?}
+use Rattle.laws_file.specs.Codes.{isReal?, realCodes, real-code}
+use Rattle.laws_file.specs.Kinds.{OneOf, at-each}
+use Rattle.laws_file.specs.Walk.{after-above}
 
 -- the real whose high word is number i of a list, and the point whose lower real that is
 abbrev pub realAt : List ℕ → ℕ → Float
@@ -52,3 +55,48 @@ pub record Ready (f l : List ℕ) (r : Regs) : Type 0 where
   pub pops : effectOf f (insAt f (r .place)) .popMain ≤ r .mtop
   pub pushes : r .mtop - effectOf f (insAt f (r .place)) .popMain + effectOf f (insAt f (r .place)) .pushMain ≤ length l
   pub topped : Topped (r .mtop) l
+  pub few : length l ≤ mainMost
+
+-- what that gives where the code is known
+module _ {f l : List ℕ} {r : Regs} (R : Ready f l r) where
+  pub place-in : r .place < length f
+  place-in = omega (arith, R .inside, after-above f (r .place))
+
+  pub literal-ready : byteAt f (r .place) ≡ 53 → (r .place + 8 < length f) × (r .mtop + 1 < length l)
+  unfolding after insAt insOf bodyOf bodies codes effectOf basicEffect
+  literal-ready e = let i = rw e at (R .inside) in let p = rw e at (R .pushes) in (omega arith, omega arith)
+
+  pops-four : (k : ℕ) → OneOf (150 ∷ 151 ∷ 152 ∷ 153 ∷ 155 ∷ []) k → effectOf f (insOf f (r .place) k) .popMain ≡ 4
+  unfolding insOf effectOf basicEffect
+  pops-four k o =
+      at-each (λ n. effectOf f (insOf f (r .place) n) .popMain ≡ 4) (150 ∷ 151 ∷ 152 ∷ 153 ∷ 155 ∷ []) k (refl, (refl, (refl, (refl, (refl, tt))))) o
+
+  -- of the operations on two reals the first four
+  pub operation-four : {k : ℕ} → OneOf (150 ∷ 151 ∷ 152 ∷ 153 ∷ []) k → OneOf (150 ∷ 151 ∷ 152 ∷ 153 ∷ 155 ∷ []) k
+  operation-four (inl z) = inl z
+  operation-four (inr (inl z)) = inr (inl z)
+  operation-four (inr (inr (inl z))) = inr (inr (inl z))
+  operation-four (inr (inr (inr z))) = inr (inr (inr (inl z)))
+
+  pub four-ready : (k : ℕ) → OneOf (150 ∷ 151 ∷ 152 ∷ 153 ∷ 155 ∷ []) k → byteAt f (r .place) ≡ k → 4 ≤ r .mtop
+  unfolding insAt
+  four-ready k o e = let p = rw e at (R .pops) in rw (pops-four k o) at p
+
+  pub ten-ready : byteAt f (r .place) ≡ 156 → 10 ≤ r .mtop
+  unfolding insAt insOf effectOf basicEffect
+  ten-ready e = rw e at (R .pops)
+
+  -- a code that is none of the three others is an operation's
+  pub operation-ready : (k : ℕ) → byteAt f (r .place) ≡ k → (k ≡ 53 → ⊥) → (k ≡ 155 → ⊥) → (k ≡ 156 → ⊥) →
+      OneOf (150 ∷ 151 ∷ 152 ∷ 153 ∷ []) k
+  unfolding insAt
+  operation-ready k e a b c = go (real-code f (r .place) k (rw e at (R .real)))
+    where
+      go : OneOf realCodes k → OneOf (150 ∷ 151 ∷ 152 ∷ 153 ∷ []) k
+      go (inl z) = absurd (a z)
+      go (inr (inl z)) = inl z
+      go (inr (inr (inl z))) = inr (inl z)
+      go (inr (inr (inr (inl z)))) = inr (inr (inl z))
+      go (inr (inr (inr (inr (inl z))))) = inr (inr (inr z))
+      go (inr (inr (inr (inr (inr (inl z)))))) = absurd (b z)
+      go (inr (inr (inr (inr (inr (inr z)))))) = absurd (c z)

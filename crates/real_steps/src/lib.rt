@@ -77,7 +77,8 @@ fn put_real(main: &mut [u32], i: usize, x: f64)
 // 53: no f64 is made of its words, so that every pattern stays as it is.
 fn literal(file: &[u8], main: &mut [u32], regs: Regs, next: usize) -> Moved
     requires { ⌜ (regs .place + 8 < length (now file)) × (regs .mtop + 1 < length (now main)) ⌝ }
-    ensures { λ r. ⌜ Does (now (main .entry)) regs next (r .done) (r .regs) (now (main .exit)) (model.insOf (now (file .entry)) (regs .place) 53) ⌝ }
+    ensures does { λ r. ⌜ Does (now (main .entry)) regs next (r .done) (r .regs) (now (main .exit)) (model.insOf (now (file .entry)) (regs .place) 53) ⌝ }
+    ensures kept { λ r. ⌜ (r .done ≡ false → now (main .exit) ≡ now (main .entry)) ⌝ }
 {
     let top = regs.mtop;
     main[top] = code_file::operand4(file, regs.place);
@@ -104,10 +105,11 @@ fn operation(main: &mut [u32], regs: Regs, next: usize, kind: u8) -> Moved
 // 155.
 fn less(main: &mut [u32], regs: Regs, next: usize) -> Moved
     requires { ⌜ Topped (regs .mtop) (now main) × (4 ≤ regs .mtop) ⌝ }
-    ensures { λ r. ⌜ Does (now (main .entry)) regs next (r .done) (r .regs) (now (main .exit)) (model.basic model.realLess) ⌝ }
+    ensures does { λ r. ⌜ Does (now (main .entry)) regs next (r .done) (r .regs) (now (main .exit)) (model.basic model.realLess) ⌝ }
+    ensures kept { λ r. ⌜ (r .done ≡ false → now (main .exit) ≡ now (main .entry)) ⌝ }
 {
     let at = regs.mtop - 4;
-    let word = if real_at(main, at) < real_at(main, at + 2) { 1 } else { 0 };
+    let word = reals::less(real_at(main, at), real_at(main, at + 2));
     apply_words::cut_to(main, at, regs.mtop);
     main[at] = word;
     goes_on(regs, next, at + 1)
@@ -115,7 +117,7 @@ fn less(main: &mut [u32], regs: Regs, next: usize) -> Moved
 
 // 156.
 fn hoop(main: &mut [u32], regs: Regs, next: usize) -> Moved
-    requires { ⌜ Topped (regs .mtop) (now main) × (10 ≤ regs .mtop) ⌝ }
+    requires { ⌜ Topped (regs .mtop) (now main) × (10 ≤ regs .mtop) × (length (now main) ≤ mainMost) ⌝ }
     ensures does { λ r. ⌜ Does (now (main .entry)) regs next (r .done) (r .regs) (now (main .exit)) (model.basic model.hoop) ⌝ }
     ensures kept { λ r. ⌜ (r .done ≡ false → now (main .exit) ≡ now (main .entry)) ⌝ }
 {

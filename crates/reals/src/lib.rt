@@ -5,7 +5,8 @@ ghost use mathlib.Core.Logic.{_⊎_};
 ghost use Prim.Native.Nat.{_+_, _*_, _/_, _%_};
 ghost use lib.Ieee.{binary64, toBits};
 ghost use lib.Ieee.Scale.{finite};
-ghost use Rattle.model.specs.Reals.{wordsMany, realOf, scaled, shifted};
+ghost use Rattle.model.specs.Words.{bit};
+ghost use Rattle.model.specs.Reals.{wordsMany, realOf, lessReals, scaled, shifted};
 ghost use Rattle.reals.specs.Given.{Operates, asPoint};
 
 // A hoop point: two reals.
@@ -66,6 +67,13 @@ pub fn operate(kind: u8, a: f64, b: f64) -> f64
         152 => a - b,
         _ => a / b,
     }
+}
+
+// 155.
+pub fn less(a: f64, b: f64) -> u32
+    ensures { λ r. ⌜ r ≡ bit (lessReals a b) ⌝ }
+{
+    if a < b { 1 } else { 0 }
 }
 
 impl Point {

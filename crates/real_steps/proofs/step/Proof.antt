@@ -1,64 +1,68 @@
+-- `real_steps::step`: each code by its function; what that asks follows from what is asked here.
+use Rattle.model.specs.File.{insOf, insAt}
+use mathlib.Core.Logic.{inl, inr}
+use mathlib.Core.Path.{refl}
+use Rattle.real_steps.specs.Does.{place-in, literal-ready, operation-four, four-ready, ten-ready, operation-ready}
 use borrow.Author.Needs.{needs}
 use Rattle.real_steps.proofs.step.Statement.{statement}
 use Rattle.real_steps.proofs.step.Tie as tie
-use Rattle.real_steps.proofs.step.Reads as reads
-use Rattle.real_steps.proofs.step.Lts as lts
-use Rattle.real_steps.proofs.hoop.Reads as hoop-reads
-use Rattle.real_steps.proofs.less.Reads as less-reads
-use Rattle.real_steps.proofs.literal.Reads as literal-reads
-use Rattle.real_steps.proofs.operation.Reads as operation-reads
 
--- src/lib.rt:142:16
 shared-slice-read-kind : tie.Need-shared-slice-read-kind
-shared-slice-read-kind c = ?
+shared-slice-read-kind c = place-in (c .before .before .before .pre)
 
--- src/lib.rt:144:15
 literal-requires : tie.Need-literal-requires
-literal-requires c κs = ?
+literal-requires c κs = literal-ready (c .before .before .before .before .before .pre) (c .before .match .keys1)
 
--- src/lib.rt:145:16
 less-requires : tie.Need-less-requires
-less-requires c κs = ?
+less-requires c κs =
+    let R = c .before .before .before .before .before .pre in
+    (R .topped, four-ready R _ (inr (inr (inr (inr refl)))) (c .before .match .keys2))
 
--- src/lib.rt:146:16
 hoop-requires : tie.Need-hoop-requires
-hoop-requires c κs = ?
+hoop-requires c κs =
+    let R = c .before .before .before .before .before .pre in
+    (R .topped, ten-ready R (c .before .match .keys3), R .few)
 
--- src/lib.rt:147:14
 operation-requires : tie.Need-operation-requires
-operation-requires c κs = ?
+operation-requires c κs =
+    let R = c .before .before .before .before .before .pre in
+    let n = c .before .match .rest in
+    let o = operation-ready R _ refl (n .0 .0 .1) (n .0 .1) (n .1) in
+    (R .topped, four-ready R _ (operation-four R o) refl, o)
 
--- src/lib.rt:136:1
 same-length : tie.Need-same-length
 same-length c = search needs
 
--- src/lib.rt:136:1
 returns : tie.Need-returns
-returns c = ?
+unfolding insAt
+returns c =
+    let e = c .before .before .before .before .match .keys1 in
+    (rw e (c .before .before .literal .ensures .0), c .before .before .literal .ensures .1)
 
--- src/lib.rt:136:1
 same-length-2 : tie.Need-same-length-2
 same-length-2 c = search needs
 
--- src/lib.rt:136:1
 returns-2 : tie.Need-returns-2
-returns-2 c = ?
+unfolding insAt insOf
+returns-2 c =
+    let e = c .before .before .before .before .match .keys2 in
+    (rw e (c .before .before .less .ensures .0), c .before .before .less .ensures .1)
 
--- src/lib.rt:136:1
 same-length-3 : tie.Need-same-length-3
 same-length-3 c = search needs
 
--- src/lib.rt:136:1
 returns-3 : tie.Need-returns-3
-returns-3 c = ?
+unfolding insAt insOf
+returns-3 c =
+    let e = c .before .before .before .before .match .keys3 in
+    (rw e (c .before .before .hoop .ensures .0), c .before .before .hoop .ensures .1)
 
--- src/lib.rt:136:1
 same-length-4 : tie.Need-same-length-4
 same-length-4 c = search needs
 
--- src/lib.rt:136:1
 returns-4 : tie.Need-returns-4
-returns-4 c = ?
+unfolding insAt
+returns-4 c = (c .before .before .operation .ensures .0 _ _, c .before .before .operation .ensures .1)
 
 pub step-spec : {M : Type 1} → statement M
 step-spec =
