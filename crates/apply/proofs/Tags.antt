@@ -19,6 +19,7 @@ use Rattle.apply_words.specs.Asks.{Retract, plainWrite}
 use Rattle.apply_objects.specs.Asks.{MakesNew}
 use Rattle.plan_meaning.specs.Suits.{FitsIn, Suits}
 use Rattle.apply.specs.Applies.{Applies, Late, Lately}
+use Rattle.apply.specs.Ended.{NotReal}
 
 -- no position is another's
 apart : (i j : Into) → (tagOf made.the-type i ≡ tagOf made.the-type j → ⊥) → i ≡ j → ⊥
@@ -97,6 +98,13 @@ module _ {put : Put} {m : Machine} (L : Lately put m) where
       some (inr (inl (inr (inl e)))) = absurd (miss noReturn 17 tt (rw e at k))
       some (inr (inl (inr (inr e)))) = absurd (miss noReturn 18 tt (rw e at k))
       some (inr (inr e)) = absurd (miss noReturn 12 tt (rw (e .0) at k))
+
+-- all plans but instructions on reals
+abbrev others : List ℕ
+others = 0 ∷ 1 ∷ 2 ∷ 3 ∷ 4 ∷ 5 ∷ 6 ∷ 7 ∷ []
+
+pub not-real : (plan : Plan) → OneOf others (tagOf planned.the-type plan) → NotReal plan
+not-real plan k q e = miss others 8 tt (rw e at k)
 
 -- all plans but writes
 abbrev raising : List ℕ

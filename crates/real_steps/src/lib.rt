@@ -79,6 +79,7 @@ fn literal(file: &[u8], main: &mut [u32], regs: Regs, next: usize) -> Moved
     requires { ⌜ (regs .place + 8 < length (now file)) × (regs .mtop + 1 < length (now main)) ⌝ }
     ensures does { λ r. ⌜ Does (now (main .entry)) regs next (r .done) (r .regs) (now (main .exit)) (model.insOf (now (file .entry)) (regs .place) 53) ⌝ }
     ensures kept { λ r. ⌜ (r .done ≡ false → now (main .exit) ≡ now (main .entry)) ⌝ }
+    ensures running { λ r. ⌜ r .regs .state ≡ regs .state ⌝ }
 {
     let top = regs.mtop;
     main[top] = code_file::operand4(file, regs.place);
@@ -91,6 +92,7 @@ fn operation(main: &mut [u32], regs: Regs, next: usize, kind: u8) -> Moved
     requires { ⌜ Topped (regs .mtop) (now main) × (4 ≤ regs .mtop) × ((kind ≡ 150) ⊎ ((kind ≡ 151) ⊎ ((kind ≡ 152) ⊎ (kind ≡ 153)))) ⌝ }
     ensures does { λ r. ⌜ ((f : List ℕ) (p : ℕ) → Does (now (main .entry)) regs next (r .done) (r .regs) (now (main .exit)) (model.insOf f p kind)) ⌝ }
     ensures kept { λ r. ⌜ (r .done ≡ false → now (main .exit) ≡ now (main .entry)) ⌝ }
+    ensures running { λ r. ⌜ r .regs .state ≡ regs .state ⌝ }
 {
     let at = regs.mtop - 4;
     let x = reals::operate(kind, real_at(main, at), real_at(main, at + 2));
@@ -107,6 +109,7 @@ fn less(main: &mut [u32], regs: Regs, next: usize) -> Moved
     requires { ⌜ Topped (regs .mtop) (now main) × (4 ≤ regs .mtop) ⌝ }
     ensures does { λ r. ⌜ Does (now (main .entry)) regs next (r .done) (r .regs) (now (main .exit)) (model.basic model.realLess) ⌝ }
     ensures kept { λ r. ⌜ (r .done ≡ false → now (main .exit) ≡ now (main .entry)) ⌝ }
+    ensures running { λ r. ⌜ r .regs .state ≡ regs .state ⌝ }
 {
     let at = regs.mtop - 4;
     let word = reals::less(real_at(main, at), real_at(main, at + 2));
@@ -120,6 +123,7 @@ fn hoop(main: &mut [u32], regs: Regs, next: usize) -> Moved
     requires { ⌜ Topped (regs .mtop) (now main) × (10 ≤ regs .mtop) × (length (now main) ≤ mainMost) ⌝ }
     ensures does { λ r. ⌜ Does (now (main .entry)) regs next (r .done) (r .regs) (now (main .exit)) (model.basic model.hoop) ⌝ }
     ensures kept { λ r. ⌜ (r .done ≡ false → now (main .exit) ≡ now (main .entry)) ⌝ }
+    ensures running { λ r. ⌜ r .regs .state ≡ regs .state ⌝ }
 {
     let at = regs.mtop - 10;
     let shift = point_at(main, at + 4);
@@ -139,6 +143,7 @@ pub fn step(file: &[u8], main: &mut [u32], regs: Regs, next: usize) -> Moved
     requires { ⌜ Ready (now file) (now main) regs ⌝ }
     ensures does { λ r. ⌜ Does (now (main .entry)) regs next (r .done) (r .regs) (now (main .exit)) (model.insAt (now (file .entry)) (regs .place)) ⌝ }
     ensures kept { λ r. ⌜ (r .done ≡ false → now (main .exit) ≡ now (main .entry)) ⌝ }
+    ensures running { λ r. ⌜ r .regs .state ≡ regs .state ⌝ }
 {
     let place = regs.place;
     let kind = file[place];

@@ -167,6 +167,7 @@ module _ {f map table : List ℕ} {m : Machine} (A : Alive f map table m) (n i j
         writes = λ put e. record { stands = stands; suits = subst (Suited f m) e (suited f m apt) };
         raises = λ never. stands-raises f table m stands caught;
         thrown = λ e. subst (Suited f m) e (suited f m apt);
+        reals = λ q e. subst (Suited f m) e (suited f m apt);
       }
 
   pub running-plan : settle f m (planAt f m) ≡ step f m

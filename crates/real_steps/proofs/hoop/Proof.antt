@@ -92,7 +92,7 @@ returns c =
     let t = sym (at-finite .is-finite .ensures) ∙ at-cut .before .before .if1 .taken in
     rw (c .goes-on .ensures, c .before .before .before .put-real2 .ensures, at-first .put-real .ensures, at-cut .cut-to .ensures) (
       hoop-done _ _ _ (S .pre .1) (asPoint _) (point-is at-finite) t,
-      λ e. absurd (true≢false e),
+      (λ e. absurd (true≢false e), refl),
     )
 
 not-finite-requires : tie.Need-not-finite-requires
@@ -106,7 +106,7 @@ returns-2 c =
     let at-finite = c .before .before in
     let S = at-finite .before .before .before .before .before .before .before .before .before .before .before in
     let t = sym (at-finite .is-finite .ensures) ∙ c .before .if1 .left in
-    rw (c .not-finite .ensures) (hoop-raises _ _ _ (S .pre .1) (asPoint _) (point-is at-finite) t, λ e. refl)
+    rw (c .not-finite .ensures) (hoop-raises _ _ _ (S .pre .1) (asPoint _) (point-is at-finite) t, (λ e. refl, refl))
 
 pub hoop-spec : {M : Type 1} → statement M
 hoop-spec =

@@ -1,5 +1,5 @@
 -- `real_steps::less`: the word is the rule's, in the place of four.
-use mathlib.Core.Path.{_∙_}
+use mathlib.Core.Path.{refl, _∙_}
 use mathlib.Core.Bool.{true≢false}
 use Rattle.real_steps.specs.Done.{less-done}
 use borrow.Author.Needs.{needs}
@@ -45,7 +45,7 @@ returns c =
     let S = at-less .before .before .before .before .before .before .before in
     rw (c .goes-on .ensures, c .before .before .before .cut-to .ensures) (
       less-done _ _ _ (S .pre .1) _ (at-less .less .ensures ∙ rw (at-less .before .before .before .real-at .ensures, at-less .before .real-at2 .ensures)),
-      λ e. absurd (true≢false e),
+      (λ e. absurd (true≢false e), refl),
     )
 
 pub less-spec : {M : Type 1} → statement M

@@ -1,4 +1,5 @@
 -- `real_steps::literal`: the two words of the body, one above the other, are words pushed.
+use mathlib.Core.Path.{refl}
 use mathlib.Core.Bool.{true≢false}
 use Rattle.real_steps.specs.Done.{literal-done}
 use borrow.Author.Needs.{needs}
@@ -39,7 +40,7 @@ returns : tie.Need-returns
 returns c =
     rw (c .goes-on .ensures) (
       literal-done _ _ _ _ _ _ _ (c .before .before .operand4 .ensures .is) (c .before .operand-low .ensures .is),
-      λ e. absurd (true≢false e),
+      (λ e. absurd (true≢false e), refl),
     )
 
 pub literal-spec : {M : Type 1} → statement M
