@@ -60,7 +60,7 @@ typedef struct {
     uint32_t cap_m, cap_p;
     uint32_t handlers;     /* open here */
     uint32_t check_m;      /* the checker's floor: a loop keeps more */
-    uint32_t spoil;        /* a code to be put where 7 is due, or 0 */
+    uint32_t spoil;        /* a code to be put where it is refused, or 0 */
     size_t spoilt;         /* where it was put, or 0 */
     uint32_t spoilt_x;     /* the head's x that makes it so, or 0 */
     bool spoilt_floor;     /* or the floor of an open handler */
@@ -145,6 +145,8 @@ static void push_pointer(maker *g)
     effect(g, 0, 0, 0, 1);
 }
 
+static void push_pattern(maker *g);
+
 /* Brings both depths to those wanted, which are not below the floor. */
 static void adjust(maker *g, uint32_t m, uint32_t p)
 {
@@ -161,7 +163,10 @@ static void adjust(maker *g, uint32_t m, uint32_t p)
         effect(g, drop_m, drop_p, 0, 0);
     }
     while (g->m < m)
-        push_word(g);
+        if (m - g->m >= 2 && one_in(8))
+            push_pattern(g);
+        else
+            push_word(g);
     while (g->p < p)
         push_pointer(g);
 }
@@ -582,9 +587,9 @@ static void real_pair(uint32_t code, uint64_t v[2])
     case 2: pair_large(code, v); break;
     case 3: pair_small(code, v); break;
     case 4: pair_tie(v); break;
-    case 5: /* zeros */
-        v[0] = some_sign();
-        v[1] = one_in(2) ? some_sign() : v[1];
+    case 5: /* zeros, in half of them so that a sum is -0 */
+        v[0] = one_in(3) ? 0 : SIGN;
+        v[1] = one_in(2) ? code >= 152 ? 0 : SIGN : one_in(2) ? some_sign() : v[1];
         break;
     case 6: v[1] = (one_in(2) ? 0 : INFINITE) ^ some_sign(); break;
     case 7: v[below(2)] = no_number(); break;
@@ -617,9 +622,10 @@ static void coordinate(uint64_t scale, uint64_t *point, uint64_t *shift)
         *point = bits_of(number_of(draw_bits() & ~INFINITE) / k);
         *shift = one_in(2) ? some_sign() : draw_bits() & ~INFINITE;
         break;
-    case 5: /* a product at the end of the range, which a fused operation would bring back */
+    case 5: /* a product at the end of the range, or beyond it, which a fused operation would bring back */
         *point = nudged(bits_of(number_of(LARGEST) / k));
-        *shift = (one_in(2) ? nudged(HALF_LAST) : scaled(1900 + below(146))) ^ some_sign();
+        *point += one_in(2) ? 2 : 0;
+        *shift = one_in(2) ? nudged(HALF_LAST) ^ some_sign() : scaled(1990 + below(56)) | SIGN;
         break;
     case 6:
         *point = one_in(2) ? no_number() : *point;
@@ -638,7 +644,7 @@ static void coordinate(uint64_t scale, uint64_t *point, uint64_t *shift)
 /* From the bottom: point across, along, shift across, along, scale. */
 static void hoop_point(uint64_t v[5])
 {
-    v[4] = one_in(6) ? some_real() : one_in(2) ? decimal() : scaled(1018 + below(10));
+    v[4] = one_in(24) ? no_number() : one_in(6) ? some_real() : one_in(2) ? decimal() : scaled(1018 + below(10));
     coordinate(v[4], &v[0], &v[2]);
     coordinate(v[4], &v[1], &v[3]);
 }
@@ -661,6 +667,20 @@ static bool on_reals(uint32_t code)
 
 /* ---- reals in a file ---- */
 
+static void push_by_53(maker *g, uint64_t v)
+{
+    byte(g, 53);
+    for (uint32_t i = 0; i < 8; i++)
+        byte(g, (uint32_t)(v >> (56 - 8 * i)) & 255);
+    effect(g, 0, 0, 2, 0);
+}
+
+/* By 53, where no instruction on reals takes it: any eight bytes will do. */
+static void push_pattern(maker *g)
+{
+    push_by_53(g, one_in(3) ? no_number() : one_in(2) ? real_of_codes() : odd_real());
+}
+
 /* By 53, as two words, or out of the frame. */
 static void push_real(maker *g, uint64_t v)
 {
@@ -678,10 +698,7 @@ static void push_real(maker *g, uint64_t v)
         }
         return;
     }
-    byte(g, 53);
-    for (uint32_t i = 0; i < 8; i++)
-        byte(g, (uint32_t)(v >> (56 - 8 * i)) & 255);
-    effect(g, 0, 0, 2, 0);
+    push_by_53(g, v);
 }
 
 static void real_code_on(maker *g, uint32_t code)
@@ -757,30 +774,49 @@ static bool real_use(maker *g)
     return true;
 }
 
-/* An instruction on reals a word above what its head or the floor lets it have: the first that is refused. */
+/* 53 where the head's x, which is set later, lets it have a word too few. */
+static bool spoil_depth(maker *g)
+{
+    uint32_t least = g->sig[g->self].r < g->max_m ? g->max_m : g->sig[g->self].r;
+    if (g->m + 6 < least)
+        return false;
+    while (g->m + 1 < least)
+        push_word(g);
+    g->spoilt = g->n;
+    g->spoilt_x = g->m + 1;
+    push_by_53(g, some_real());
+    return true;
+}
+
+/* An instruction that would pop one word from below the floor. */
+static bool spoil_floor(maker *g)
+{
+    uint32_t m = g->check_m + real_pops(g->spoil) - 1;
+    if (m < g->floor_m || m > g->cap_m)
+        return false;
+    adjust(g, m, g->p);
+    g->spoilt = g->n;
+    g->spoilt_floor = g->handlers > 0;
+    real_code_on(g, g->spoil);
+    return true;
+}
+
+/* A jump backwards to a byte of 53's body, where a code would stand. */
+static bool spoil_jump(maker *g)
+{
+    if (g->m + 2 > g->cap_m)
+        return false;
+    push_by_53(g, real_of_codes());
+    g->spoilt = g->n;
+    byte(g, 3);
+    operand(g, 4 + below(8));
+    return true;
+}
+
+/* The first instruction that is refused. */
 static bool spoil_here(maker *g)
 {
-    uint32_t code = g->spoil, least = g->sig[g->self].r;
-    if (code == 53) {
-        if (least < g->max_m)
-            least = g->max_m;
-        if (g->m + 6 < least)
-            return false;
-        while (g->m + 1 < least)
-            push_word(g);
-        g->spoilt_x = g->m + 1;
-    } else {
-        uint32_t m = g->check_m + real_pops(code) - 1;
-        if (m < g->floor_m || m > g->cap_m)
-            return false;
-        adjust(g, m, g->p);
-    }
-    g->spoilt = g->n;
-    g->spoilt_floor = code != 53 && g->handlers > 0;
-    real_code_on(g, code);
-    for (int i = 0; i < 4 && code == 53; i++)
-        operand(g, draw());
-    return true;
+    return g->spoil == 53 ? spoil_depth(g) : g->spoil == 3 ? spoil_jump(g) : spoil_floor(g);
 }
 
 /* Two words that an operation can bear, and the operation. */
@@ -827,7 +863,7 @@ static void simple(maker *g)
     uint32_t k;
     if (g->spoil != 0 && g->spoilt == 0 && one_in(2) && spoil_here(g))
         return;
-    if (one_in(7) && real_use(g))
+    if (one_in(10) && real_use(g))
         return;
     if (one_in(6) && (one_in(6) ? root_use(g) : vector_use(g)))
         return;
@@ -2410,7 +2446,7 @@ static void recode(void)
 
 enum {
     SHORT_PLUS, SHORT_TIMES, SHORT_MINUS, SHORT_DIVIDE, SHORT_LESS, SHORT_POINT, DEEP_PUSH,
-    SHORT_FLOOR, CUT_AT_ONCE, CUT_LATER, CUT_LAST, NO_CODE, NEAR_CODE,
+    INTO_BODY, SHORT_FLOOR, CUT_AT_ONCE, CUT_LATER, CUT_LAST, NO_CODE, NEAR_CODE,
     SPOILT_COUNTERS
 };
 
@@ -2421,8 +2457,9 @@ static counter spoilt_met[SPOILT_COUNTERS] = {
     [SHORT_DIVIDE] = { "153", 0 },
     [SHORT_LESS] = { "155", 0 },
     [SHORT_POINT] = { "156", 0 },
-    [DEEP_PUSH] = { "53 a word above x", 0 },
-    [SHORT_FLOOR] = { "with a handler open", 0 },
+    [DEEP_PUSH] = { "53 a word above x (7)", 0 },
+    [INTO_BODY] = { "a jump into 53's body (5)", 0 },
+    [SHORT_FLOOR] = { "a word short with a handler open (7)", 0 },
     [CUT_AT_ONCE] = { "53 without a body (3)", 0 },
     [CUT_LATER] = { "with one to six bytes", 0 },
     [CUT_LAST] = { "with seven", 0 },
@@ -2448,20 +2485,20 @@ static size_t some_record(void)
     return found;
 }
 
-/* An instruction that breaks 7; or a 53 that the file's end cuts short; or no code. */
+/* An instruction that breaks 7 or 5; or a 53 that the file's end cuts short; or no code. */
 static void spoilt_file(uint32_t procs, size_t total)
 {
-    static const uint8_t codes[] = { 150, 151, 152, 153, 155, 156, 53 };
+    static const uint8_t codes[] = { 150, 151, 152, 153, 155, 156, 53, 3 };
     static const uint8_t unknown[] = { 52, 55, 149, 157 };
-    uint32_t how = below(12);
+    uint32_t how = below(13);
     g.spoil = how < sizeof codes ? codes[how] : 0;
     make_file(&g, procs, total, 0);
     g.spoil = 0;
     size_t n = g.n, at = how < sizeof codes ? g.spoilt : some_record();
-    due.number = at == 0 || n > 4096 ? 0 : how < sizeof codes ? 7 : 3;
+    due.number = at == 0 || n > 4096 ? 0 : how == INTO_BODY ? 5 : how < sizeof codes ? 7 : 3;
     due.place = at;
     due.how = (int)how;
-    if (how >= 10) {
+    if (how >= 11) {
         g.f[at] = one_in(2) ? 154 : unknown[below(sizeof unknown)];
         due.how = g.f[at] == 154 ? NO_CODE : NEAR_CODE;
     } else if (how >= sizeof codes) {
@@ -3303,7 +3340,7 @@ static bool damaged_run(void)
 static void real_runs(void)
 {
     snapshot s = snap_take();
-    for (uint32_t i = 1 + below(3); i > 0; i--) {
+    for (uint32_t i = 6 + below(4); i > 0; i--) {
         damages[16]++;
         damage_reals(real_code());
         both(RUN, 1);
