@@ -477,6 +477,15 @@ static uint64_t scaled(uint32_t exponent)
     return (draw_bits() & ~INFINITE) | (uint64_t)exponent << 52;
 }
 
+/* Few digits: products and quotients at a tie, or just beside one. */
+static uint64_t sparse(void)
+{
+    uint64_t v = (uint64_t)(1013 + below(20)) << 52 ^ some_sign();
+    for (uint32_t i = 1 + below(3); i > 0; i--)
+        v |= (uint64_t)1 << below(52);
+    return v;
+}
+
 static uint64_t no_number(void)
 {
     static const uint64_t some[] = {
@@ -580,7 +589,7 @@ static void real_pair(uint32_t code, uint64_t v[2])
 {
     v[0] = some_real();
     v[1] = some_real();
-    switch (below(12)) {
+    switch (below(13)) {
     case 0: case 1: /* near each other, or opposite */
         v[1] = (one_in(2) ? v[0] : nudged(v[0])) ^ some_sign();
         break;
@@ -596,6 +605,10 @@ static void real_pair(uint32_t code, uint64_t v[2])
     case 8: /* infinities */
         v[0] = INFINITE ^ some_sign();
         v[1] = one_in(2) ? INFINITE ^ some_sign() : v[1];
+        break;
+    case 9: case 10:
+        v[0] = sparse();
+        v[1] = sparse();
         break;
     default: break;
     }
@@ -798,6 +811,8 @@ static bool spoil_floor(maker *g)
     g->spoilt = g->n;
     g->spoilt_floor = g->handlers > 0;
     real_code_on(g, g->spoil);
+    if (g->m < g->floor_m) /* in a loop; what follows is not looked at */
+        g->m = g->floor_m;
     return true;
 }
 
