@@ -8,6 +8,18 @@ bad=0
 mkdir -p "$build"
 ${CC:-gcc} -std=c11 -O2 -ffp-contract=off -w -c -o "$build/fault_compare.o" compare.c || exit 1
 
+build_with() {
+    ${CC:-gcc} -std=c11 -O2 -ffp-contract=off -w -I. -o "$build/fault" "$build/fault_compare.o" "$1" "$library" -lm || exit 1
+}
+
+# Without a fault nothing is found: else a fault below might seem to be.
+build_with reference.c
+if ! "$build/fault" 1 100000 >"$build/fault.txt" 2>&1; then
+    tail -n 3 "$build/fault.txt"
+    echo "found without a fault"
+    exit 1
+fi
+
 # name, the text to be replaced, the text put in its place (sed)
 plant() {
     copy=$build/fault_reference.c
@@ -17,7 +29,7 @@ plant() {
         bad=1
         return
     fi
-    ${CC:-gcc} -std=c11 -O2 -ffp-contract=off -w -I. -o "$build/fault" "$build/fault_compare.o" "$copy" "$library" -lm || exit 1
+    build_with "$copy"
     "$build/fault" 1 100000 >"$build/fault.txt" 2>&1
     case $? in
     0 | 2) # 2: no difference, and something not met
@@ -354,7 +366,6 @@ plant "infinities let pass" '/^static inline bool not_finite/,/^}/s/== 0x7ffu;/=
 plant "NaNs let pass" '/^static inline bool not_finite/,/^}/s/== 0x7ffu;/== 0x7ffu \&\& bits << 12 == 0;/'
 plant "negative infinities let pass" '/^static inline bool not_finite/,/^}/s/bits >> 52 & 0x7ffu/bits >> 52/'
 plant "the largest binade refused" '/^static inline bool not_finite/,/^}/s/== 0x7ffu;/>= 0x7feu;/'
-plant "A tested, too" "$result s/if (not_finite(c))/if (not_finite(c) || not_finite(bits_of(a)))/"
 plant "B tested, too" "$result s/if (not_finite(c))/if (not_finite(c) || not_finite(bits_of(b)))/"
 plant "0 by B raises 1" "$result s/if (not_finite(c))/if (not_finite(c) || (file[place] == RDIV \\&\\& a == 0))/"
 plant "150 to 153 raise 2" "$result s/REF_OUT_OF_RANGE/REF_NIL_OBJECT/"

@@ -58,7 +58,8 @@ enum {
 
 /* The machine exceptions. A routine may raise any word with 162, these too. */
 enum {
-    YALGOVIM_OUT_OF_RANGE = 1,  /* a result outside -2^31 to 2^31-1, or a division by 0 */
+    YALGOVIM_OUT_OF_RANGE = 1,  /* a result outside -2^31 to 2^31-1, or a division by 0;
+                                   150 to 153, 156: a real that is not finite */
     YALGOVIM_NIL_OBJECT = 2,    /* 30 to 33, 82 to 85: the object is nil */
     YALGOVIM_NO_SUCH_WORD = 3,  /* 30 to 33: word s is not in the object's part;
                                    32: it is a vector's lower bound */
