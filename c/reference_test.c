@@ -3542,6 +3542,8 @@ static void test_real_products(void)
     /* 1.5 * (1 + 2^-52), halfway up from 1.5 + 2^-52; 1.5 * (1 + 3 * 2^-52) halfway down to 4 */
     REALS(0x3FF8000000000000u, 151, R1 + 1, 0x3FF8000000000002u);
     REALS(0x3FF8000000000000u, 151, R1 + 3, 0x3FF8000000000004u);
+    /* (1 + 2^-26) * (1 + 2^-27 + 2^-51): 2^-77 above halfway, up though the lower one is even */
+    REALS(0x3FF0000004000000u, 151, 0x3FF0000002000002u, 0x3FF0000006000003u);
 
     REAL(R1, 153, R2, R_HALF);
     REAL(R2, 153, R1, R2);
@@ -3555,6 +3557,8 @@ static void test_real_products(void)
     REAL(R1, 153, R5, R_FIFTH);
     REAL(LARGEST, 153, LARGEST, R1);
     REAL(R5, 153, NEGATIVE(R5), NEG_R1);
+    /* 1 / (1 - 2^-53) = 1 + 2^-53 + 2^-106 + ..., a little above halfway */
+    REAL(R1, 153, R1 - 1, R1 + 1);
 }
 
 /* 2^1024 - 2^970, half a last place above the largest, is the first to go out of range. */
@@ -3857,7 +3861,7 @@ static void test_hoop_points(void)
     HOOP(POINT(POWER(1023), R1), POINT(NEG_LARGEST, R0), R2 - 1, POINT(R0, R2 - 1));
 }
 
-/* Product and sum are rounded one by one: fused, each of these would come out otherwise. */
+/* Product and sum are rounded once each: fused, all but one of these would come out otherwise. */
 static void test_hoop_rounding(void)
 {
     /* the product 1 - 2^-54 is rounded to 1, 1 - 2^-26 + 2^-54 to 1 - 2^-26 */
@@ -3876,6 +3880,9 @@ static void test_hoop_rounding(void)
          POINT(SUBNORMAL(3), SUBNORMAL(1)));
     /* 10 * 0.1 - 1: the product's 2^-54 is lost */
     HOOP(POINT(R_TENTH, R1), POINT(NEG_R1, NEG_R0), R10, POINT(R0, R10));
+    /* once, not to more places first: 2^-77 above halfway */
+    HOOP(POINT(0x3FF0000004000000u, R1), POINT(R0, R0), 0x3FF0000002000002u,
+         POINT(0x3FF0000006000003u, 0x3FF0000002000002u));
     /* the doubled largest is not brought back by the sum */
     HOOP_RAISES(POINT(LARGEST, R1), POINT(NEG_LARGEST, R1), R2);
     /* nor 2^1024 - 2^970, which is rounded to 2^1024 */
