@@ -1926,7 +1926,7 @@ static counter real_met[REAL_COUNTERS] = {
     [BAD_ACROSS] = { "across alone not finite (1)", 0 },
     [BAD_ALONG] = { "along alone not finite (1)", 0 },
     [BAD_BOTH] = { "both not finite (1)", 0 },
-    [BAD_PRODUCT] = { "an infinite product (1)", 0 },
+    [BAD_PRODUCT] = { "a product too large (1)", 0 },
     [POINT_CAUGHT] = { "1 caught", 0 },
     [POINT_MINUS_ZERO] = { "-0", 0 },
     [POINT_SUBNORMAL] = { "subnormal", 0 },
@@ -2046,23 +2046,26 @@ static outcome foresee_point(const moment *t)
 {
     outcome o = { 0, 0, { 0 } };
     double scale = number_of(operand_real(t, 4));
-    bool fine[2];
+    uint64_t r[2], fused[2];
     for (int i = 0; i < 2; i++) {
         double point = number_of(operand_real(t, i)), shift = number_of(operand_real(t, 2 + i));
-        double product = point * scale, sum = product + shift, fused = fma(point, scale, shift);
-        uint64_t r = bits_of(sum);
-        fine[i] = is_finite(r);
-        meet_real(FUSED_ACROSS + i, fine[i] && r != bits_of(fused));
-        meet_real(FUSED_FINITE, !fine[i] && is_finite(bits_of(fused)));
-        meet_real(BAD_PRODUCT, is_infinite(bits_of(product)));
-        meet_real(POINT_MINUS_ZERO, r == SIGN);
-        meet_real(POINT_SUBNORMAL, is_subnormal(r));
-        give(&o, r);
+        double product = point * scale;
+        r[i] = bits_of(product + shift);
+        fused[i] = bits_of(fma(point, scale, shift));
+        meet_real(FUSED_FINITE, !is_finite(r[i]) && is_finite(fused[i]));
+        meet_real(BAD_PRODUCT, is_infinite(bits_of(product)) && is_finite(operand_real(t, i))
+                  && is_finite(operand_real(t, 4)));
+        give(&o, r[i]);
     }
-    meet_real(BAD_ACROSS, !fine[0] && fine[1]);
-    meet_real(BAD_ALONG, fine[0] && !fine[1]);
-    meet_real(BAD_BOTH, !fine[0] && !fine[1]);
-    o.exception = !fine[0] || !fine[1];
+    o.exception = !is_finite(r[0]) || !is_finite(r[1]);
+    meet_real(BAD_ACROSS, !is_finite(r[0]) && is_finite(r[1]));
+    meet_real(BAD_ALONG, is_finite(r[0]) && !is_finite(r[1]));
+    meet_real(BAD_BOTH, !is_finite(r[0]) && !is_finite(r[1]));
+    for (int i = 0; i < 2 && o.exception == 0; i++) {
+        meet_real(FUSED_ACROSS + i, r[i] != fused[i]);
+        meet_real(POINT_MINUS_ZERO, r[i] == SIGN);
+        meet_real(POINT_SUBNORMAL, is_subnormal(r[i]));
+    }
     return o;
 }
 
@@ -2093,7 +2096,7 @@ static void real_fault(const moment *t, const char *what)
     exit(1);
 }
 
-/* Everything but the map is as it was before the call. */
+/* These lists, the map aside, are as before the call. */
 static bool unchanged(int from, int to)
 {
     for (int i = from; i <= to; i++)
@@ -2123,23 +2126,39 @@ static void look_at_real(const moment *t, const outcome *o)
         real_fault(t, "writes elsewhere than on the main stack");
 }
 
-/* Counts the instruction if it is one on reals; what came must be what is foreseen. In a call's first step, all of it. */
-static void meet_real_code(const moment *t, uint32_t came, bool caught, bool first)
+/* After a single step whose exception was caught: it stands on words that are as they were, and above it is nothing. */
+static void look_at_caught(const moment *t)
+{
+    const uint32_t *was = (const uint32_t *)(const void *)before_call.held[L_MAIN];
+    size_t top = reg(3) - 1;
+    for (size_t i = 0; i < lists[L_MAIN].len; i++)
+        if (word(L_MAIN, i) != (i < top ? was[i] : i == top ? 1 : 0))
+            real_fault(t, "raises and leaves another word");
+    if (!unchanged(L_HEAP, L_HEAP))
+        real_fault(t, "raises and writes in the heap");
+}
+
+enum { DONE, CAUGHT, UNCAUGHT };
+
+/* Counts the instruction if it is one on reals; it must end as foreseen. `first`: the call did no step before it. */
+static void meet_real_code(const moment *t, int end, uint32_t number, bool first)
 {
     uint32_t code = t->code[0];
     if (!on_reals(code))
         return;
     outcome o = code == 53 ? foresee_push(t) : code == 155 ? foresee_less(t)
         : code == 156 ? foresee_point(t) : foresee_result(t);
-    if (came != o.exception)
+    if (end == DONE ? o.exception != 0 : o.exception != number || number == 0)
         real_fault(t, o.exception != 0 ? "does not raise 1" : "raises");
     if (code == 156)
-        meet_real(POINT_CAUGHT, caught);
+        meet_real(POINT_CAUGHT, end == CAUGHT);
     else if (code >= 150 && code <= 153)
-        results[code - 150][CAME_CAUGHT] += caught;
-    if (first && came == 0)
+        results[code - 150][CAME_CAUGHT] += end == CAUGHT;
+    if (end == DONE)
         look_at_real(t, &o);
-    else if (first && !caught && !unchanged(L_FILE, L_REGS))
+    else if (end == CAUGHT)
+        look_at_caught(t);
+    else if (first && !unchanged(L_FILE, L_REGS))
         real_fault(t, "raises and writes");
 }
 
@@ -2152,15 +2171,16 @@ static void meet_run(ref_reply r, uint32_t budget)
             held[i] = lists[i].ref;
         moment t = moment_of(held, lists[L_HEAP].len);
         meet_moment(&t, r.number);
-        meet_real_code(&t, r.number, false, r.steps == 0);
+        meet_real_code(&t, UNCAUGHT, r.number, r.steps == 0);
     } else if (budget == 1 && r.steps == 1) {
         for (int i = 0; i < LISTS; i++)
             held[i] = before_call.held[i];
         moment t = moment_of(held, lists[L_HEAP].len);
         /* a raise closes its handler, so the control stack falls, and pushes the code */
         bool caught = reg(3) > 0 && reg(5) < bytes_word(held[L_REGS] + 20);
-        meet_moment(&t, caught ? word(L_MAIN, reg(3) - 1) : 0);
-        meet_real_code(&t, caught ? word(L_MAIN, reg(3) - 1) : 0, caught, true);
+        uint32_t number = caught ? word(L_MAIN, reg(3) - 1) : 0;
+        meet_moment(&t, number);
+        meet_real_code(&t, caught ? CAUGHT : DONE, number, true);
     }
 }
 
@@ -3576,7 +3596,7 @@ static bool all_reals(void)
     all = all_counted("refused for a real", spoilt_met, SPOILT_COUNTERS) && all;
     for (int k = 0; k < 4; k++)
         for (int i = 0; i < RESULTS; i++) {
-            char code[4];
+            char code[16];
             snprintf(code, sizeof code, "%d", 150 + k);
             all = met(code, result_name[i], results[k][i]) && all;
         }
