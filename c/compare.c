@@ -2451,7 +2451,7 @@ static void retarget(void)
     for (int tries = 0; tries < 50; tries++) {
         size_t j = at[below((uint32_t)count)];
         uint8_t kind = g.f[j];
-        size_t to = at[below((uint32_t)count)];
+        size_t to = kind == 160 && one_in(4) ? j : at[below((uint32_t)count)];
         if ((kind >= 1 && kind <= 6) || kind == 160) {
             size_t from = kind == 160 ? 0 : j + 3; /* of procedure 0 */
             if (kind == 3 || kind == 4 ? to <= from : to >= from) {

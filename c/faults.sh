@@ -470,11 +470,12 @@ for name in 150:RPLUS 151:RTIMES 152:RMINUS 153:RDIV; do
     plant "$code counted as pushing three words" "$effect s/main_push = 2/main_push = file[at] == ${name#*:} ? 3 : 2/"
 done
 plant "155 counted as popping three words" '/case RLESS:$/,/break;/s/main_pop = 4/main_pop = 3/'
-plant "155 counted as popping two words" '/case RLESS:$/,/break;/s/main_pop = 4/main_pop = 2/'
+plant "155 counted as popping five words" '/case RLESS:$/,/break;/s/main_pop = 4/main_pop = 5/'
+plant "155 counted as pushing no word" '/case RLESS:$/,/break;/s/main_push = 1/main_push = 0/'
 plant "155 counted as pushing two words" '/case RLESS:$/,/break;/s/main_push = 1/main_push = 2/'
 plant "156 counted as popping nine words" '/case SCALE: \/\*/,/break;/s/main_pop = 10/main_pop = 9/'
 plant "156 counted as popping eleven words" '/case SCALE: \/\*/,/break;/s/main_pop = 10/main_pop = 11/'
-plant "156 counted as pushing two words" '/case SCALE: \/\*/,/break;/s/main_push = 4/main_push = 2/'
+plant "156 counted as pushing three words" '/case SCALE: \/\*/,/break;/s/main_push = 4/main_push = 3/'
 plant "156 counted as pushing five words" '/case SCALE: \/\*/,/break;/s/main_push = 4/main_push = 5/'
 plant "156 counted as popping a pointer" '/case SCALE: \/\*/,/break;/s/e.main_push = 4;/& e.ptr_pop = 1;/'
 plant "53 counted as pushing one word" '/case LLREAL: \/\*/,/break;/s/main_push = 2/main_push = 1/'

@@ -32,6 +32,11 @@
  * 36 bytes, or, in run, a sum in it is not the file's, whatever the state
  * and the budget are.
  *
+ * A real is two words of the main stack, the high word at the lower index.
+ * Operations on reals rely on the processor's state at a program's start:
+ * round to nearest, subnormal numbers kept, nothing trapped. A program that
+ * is linked with -ffast-math has another (docs/C-INTERFACE.md, Reals).
+ *
  * Refusal 11 names one word of the heap (docs/MANUAL.md 6.8): word 0 if the
  * mark is out of range; else the first fault met in walking the objects
  * upwards, header before size word; else the lowest index that is a bad
