@@ -237,6 +237,22 @@ static void vectors(size_t total)
     finish(total);
 }
 
+#define REAL(a, b) 53, a, b, 0, 0, 0, 0, 0, 0
+#define TENTH 53, 63, 185, 153, 153, 153, 153, 153, 154 /* 0.1 */
+
+/* Each operation on reals, a comparison and a point. */
+static void reals(size_t total)
+{
+    n = 0;
+    BYTES(240, 0, 0, 0, 0, 10, 0);
+    while (n + 140 < total) {
+        BYTES(REAL(63, 240), TENTH, 150, REAL(64, 8), 151, TENTH, 152, REAL(64, 0), 153);
+        BYTES(REAL(63, 248), 155, 64, 0, 1, 0, 0);
+        BYTES(REAL(64, 36), REAL(64, 52), TENTH, REAL(192, 0), REAL(63, 224), 156, 64, 0, 4, 0, 0);
+    }
+    finish(total);
+}
+
 /* ---- a file as a shop would write it ---- */
 
 static uint32_t drawn;
@@ -486,13 +502,13 @@ static void typical(size_t total)
 static const size_t typicals[] = { 300, 4096 };
 static const uint8_t sample_a[] = { 240, 0, 0, 1, 0, 2, 0, 54, 5, 54, 3, 142, 73 };
 
-static void vector_check_rows(void)
+static void more_check_rows(const char *what, void (*make)(size_t))
 {
     double best[SIDES];
     char name[80];
     for (size_t total = 512; total <= 4096; total *= 2) {
-        vectors(total);
-        snprintf(name, sizeof name, "vectors, %zu bytes", n);
+        make(total);
+        snprintf(name, sizeof name, "%s, %zu bytes", what, n);
         lend(f, n, 256, 256, 250, 1024);
         measure(CHECK, 0, YALGOVIM_PASSED, name, best);
         row(name, (double)n, best, total > 512);
@@ -535,7 +551,8 @@ static void check_rows(void)
     lend(f, n, 256, 256, 250, 1024);
     measure(CHECK, 0, YALGOVIM_REFUSED, "refused", best);
     row("plain, 4096 bytes, refused at the last byte", (double)n, best, false);
-    vector_check_rows();
+    more_check_rows("vectors", vectors);
+    more_check_rows("reals", reals);
 }
 
 /* ---- audits ---- */
@@ -805,6 +822,67 @@ static const long_loop vector_loops[] = {
         20, 0, 0, 54, 0, 204, 4, 0, 29, 64, 0, 1, 0, 0, 3, 0, 39) }
 };
 
+/*
+ * A sum of tenths; a polynomial in 0.75; tenths taken away and the rest divided;
+ * the root of 2 by Newton; two reals compared; a point halved and shifted; 1 by 0.
+ */
+static const long_loop real_loops[] = {
+    { "reals summed", LISTED(240, 0, 0, 0, 0, 4, 0, REAL(0, 0), TENTH, 150, 3, 0, 13) },
+    { "a polynomial", LISTED(240, 0, 0, 0, 0, 6, 0, REAL(63, 232), REAL(63, 240),
+        20, 0, 0, 20, 0, 1, 151, TENTH, 150, 20, 0, 0, 20, 0, 1, 151, REAL(191, 248), 150,
+        3, 0, 37) },
+    { "reals subtracted and divided", LISTED(240, 0, 0, 0, 0, 4, 0, REAL(63, 240),
+        TENTH, 152, REAL(63, 248), 153, 3, 0, 23) },
+    { "a root", LISTED(240, 0, 0, 0, 0, 8, 0, REAL(63, 240),
+        20, 0, 0, 20, 0, 1, REAL(64, 0), 20, 0, 0, 20, 0, 1, 153, 150, REAL(63, 224), 151,
+        22, 0, 1, 22, 0, 0, 3, 0, 42) },
+    { "reals compared", LISTED(240, 0, 0, 0, 0, 4, 0,
+        REAL(63, 248), REAL(64, 4), 155, 4, 0, 22, 3, 0, 25) },
+    { "points scaled and shifted", LISTED(240, 0, 0, 0, 0, 10, 0, REAL(64, 36), REAL(64, 52),
+        TENTH, REAL(192, 0), REAL(63, 224), 156, 3, 0, 31) },
+    { "raised by a real", LISTED(240, 0, 0, 0, 0, 4, 0,
+        160, 0, 30, REAL(63, 240), REAL(0, 0), 153, 162, 64, 0, 1, 0, 0, 3, 0, 31) }
+};
+enum { SUMMED, POLYNOMIAL, DIVIDED, ROOT, COMPARED, POINTS, RAISED, REAL_LOOPS };
+
+/* After so many steps this real stands at word `at` of the main stack, on all sides. */
+static void expect(int loop, uint32_t steps, size_t at, double want)
+{
+    const long_loop *l = &real_loops[loop];
+    uint64_t bits;
+    memcpy(&bits, &want, sizeof bits);
+    lend(l->file, l->n, 256, 256, 250, 1024);
+    start_all(l->name);
+    for (int w = 0; w < SIDES; w++) {
+        need(call(w, RUN, steps), YALGOVIM_SPENT, l->name);
+        need(side[w].main[at], (uint32_t)(bits >> 32), l->name);
+        need(side[w].main[at + 1], (uint32_t)bits, l->name);
+    }
+}
+
+/* A thousand times round each loop, worked out here too. */
+static void expect_reals(void)
+{
+    double sum = 0, value = 1, rest = 1, root = 1, across = 10, along = 20;
+    for (int i = 0; i < 1000; i++) {
+        sum += 0.1;
+        value = value * 0.75 + 0.1;
+        value = value * 0.75 + -1.5;
+        rest = (rest - 0.1) / 1.5;
+        root = (root + 2 / root) * 0.5;
+        across = across * 0.5 + 0.1;
+        along = along * 0.5 + -2;
+    }
+    expect(SUMMED, 1 + 3 * 1000, 0, sum);
+    expect(POLYNOMIAL, 2 + 11 * 1000, 2, value);
+    expect(DIVIDED, 1 + 5 * 1000, 0, rest);
+    expect(ROOT, 1 + 12 * 1000, 0, root);
+    expect(COMPARED, 4 * 1000 + 1, 0, 1.5);
+    expect(POINTS, 2 + 5 * 1000, 0, across);
+    expect(POINTS, 2 + 5 * 1000, 2, along);
+    expect(RAISED, 6 * 1000 + 2, 0, 1);
+}
+
 static void long_rows(const long_loop *l)
 {
     double best[SIDES];
@@ -841,6 +919,9 @@ static void step_rows(void)
     row("counting, 200000 steps, greatest lists", 200000, best, false);
     for (size_t i = 0; i < more; i++)
         long_rows(&vector_loops[i]);
+    expect_reals();
+    for (size_t i = 0; i < REAL_LOOPS; i++)
+        long_rows(&real_loops[i]);
     title("a stroke: run with a budget of 100", "us/call");
     for (size_t i = 0; i < sizeof loops / sizeof *loops; i++)
         stroke_row(&loops[i]);
@@ -856,6 +937,8 @@ static void step_rows(void)
     }
     for (size_t i = 0; i < more; i++)
         stroke_row(&vector_loops[i]);
+    for (size_t i = 0; i < REAL_LOOPS; i++)
+        stroke_row(&real_loops[i]);
 }
 
 /* ---- vectors made ---- */

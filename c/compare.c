@@ -11,6 +11,7 @@
 #include "yalgovim.h"
 
 #include <inttypes.h>
+#include <math.h>
 #include <stdbool.h>
 #include <stdio.h>
 #include <stdlib.h>
@@ -58,6 +59,11 @@ typedef struct {
     uint32_t max_m, max_p; /* greatest so far */
     uint32_t cap_m, cap_p;
     uint32_t handlers;     /* open here */
+    uint32_t check_m;      /* the checker's floor: a loop keeps more */
+    uint32_t spoil;        /* a code to be put where it is refused, or 0 */
+    size_t spoilt;         /* where it was put, or 0 */
+    uint32_t spoilt_x;     /* the head's x that makes it so, or 0 */
+    bool spoilt_floor;     /* or the floor of an open handler */
 } maker;
 
 static void byte(maker *g, uint32_t b)
@@ -139,6 +145,8 @@ static void push_pointer(maker *g)
     effect(g, 0, 0, 0, 1);
 }
 
+static void push_pattern(maker *g);
+
 /* Brings both depths to those wanted, which are not below the floor. */
 static void adjust(maker *g, uint32_t m, uint32_t p)
 {
@@ -155,7 +163,10 @@ static void adjust(maker *g, uint32_t m, uint32_t p)
         effect(g, drop_m, drop_p, 0, 0);
     }
     while (g->m < m)
-        push_word(g);
+        if (m - g->m >= 2 && one_in(8))
+            push_pattern(g);
+        else
+            push_word(g);
     while (g->p < p)
         push_pointer(g);
 }
@@ -414,6 +425,415 @@ static bool any_vector_code(maker *g)
     return true;
 }
 
+/* ---- reals, as the generator draws them ---- */
+
+#define SIGN 0x8000000000000000u
+#define INFINITE 0x7ff0000000000000u /* all bits of the exponent */
+#define LARGEST 0x7fefffffffffffffu
+#define HALF_LAST 0x7c90000000000000u /* 2^970: half of the largest one's last place */
+
+static uint8_t known_kind(void);
+
+static double number_of(uint64_t bits)
+{
+    double d;
+    memcpy(&d, &bits, sizeof d);
+    return d;
+}
+
+static uint64_t bits_of(double d)
+{
+    uint64_t bits;
+    memcpy(&bits, &d, sizeof bits);
+    return bits;
+}
+
+static uint64_t draw_bits(void)
+{
+    uint64_t high = draw();
+    return high << 32 | draw();
+}
+
+static uint64_t some_sign(void)
+{
+    return one_in(2) ? SIGN : 0;
+}
+
+/* Up to two places off. */
+static uint64_t nudged(uint64_t v)
+{
+    return v + below(5) - 2;
+}
+
+/* Tenths or eighths, as a shop would write them. */
+static uint64_t decimal(void)
+{
+    return bits_of(((double)below(20001) - 10000) / (one_in(3) ? 8 : 10));
+}
+
+/* Any digits, with this exponent, 1023 for those from 1 to below 2. */
+static uint64_t scaled(uint32_t exponent)
+{
+    return (draw_bits() & ~INFINITE) | (uint64_t)exponent << 52;
+}
+
+/* Few digits: products and quotients at a tie, or just beside one. */
+static uint64_t sparse(void)
+{
+    uint64_t v = (uint64_t)(1013 + below(20)) << 52 ^ some_sign();
+    for (uint32_t i = 1 + below(3); i > 0; i--)
+        v |= (uint64_t)1 << below(52);
+    return v;
+}
+
+static uint64_t no_number(void)
+{
+    static const uint64_t some[] = {
+        INFINITE, SIGN | INFINITE, INFINITE, SIGN | INFINITE,
+        0x7ff8000000000000u, 0xfff8000000000000u, 0x7ff8000012345678u, 0xffffffffffffffffu,
+        0x7ff0000000000001u, 0xfff4000000000000u, 0x7ff7ffffffffffffu, 0x7ff0000080000000u
+    };
+    return some[below(sizeof some / sizeof *some)];
+}
+
+static uint64_t odd_real(void)
+{
+    static const uint64_t some[] = {
+        0, SIGN,
+        0x3ff0000000000000u, 0xbff0000000000000u, 0x4000000000000000u, /* 1, -1, 2 */
+        0x3fb999999999999au, 0x3fc999999999999au, 0x3fd3333333333333u, /* 0.1, 0.2, 0.3 */
+        1, SIGN | 1, 0x000fffffffffffffu, 0x800fffffffffffffu,         /* subnormal: least, greatest */
+        0x0010000000000000u, 0x8010000000000000u, 0x0010000000000001u, /* normal: least */
+        LARGEST, SIGN | LARGEST, 0x7fe0000000000000u,
+        0x433fffffffffffffu, 0x4340000000000000u, 0x4340000000000001u, /* 2^53 - 1, 2^53, 2^53 + 2 */
+        0x3ca0000000000000u, 0x3ca0000000000001u, 0x3c9fffffffffffffu, /* half of 1's last place */
+        HALF_LAST, HALF_LAST - 1, 0x1ff0000000000000u,                 /* 2^970, below it, 2^-512 */
+        0x00000000ffffffffu, 0x0000000100000000u, 0x3ff0000080000000u  /* words at their ends */
+    };
+    return some[below(sizeof some / sizeof *some)];
+}
+
+/* All bytes are codes, heads among them. */
+static uint64_t real_of_codes(void)
+{
+    uint64_t v = 0;
+    for (int i = 0; i < 8; i++)
+        v = v << 8 | (one_in(4) ? 240 : known_kind());
+    return v;
+}
+
+static uint64_t some_real(void)
+{
+    switch (below(16)) {
+    case 0: return draw_bits();
+    case 1: return real_of_codes();
+    case 2: return no_number();
+    case 3: case 4: case 5: case 6: return odd_real();
+    case 7: case 8: return scaled(1013 + below(20));
+    default: return decimal();
+    }
+}
+
+/* The result is the largest finite one, a little less, or too large. */
+static void pair_large(uint32_t code, uint64_t v[2])
+{
+    uint64_t most = LARGEST - below(3), both = some_sign();
+    switch (code) {
+    case 151:
+        v[0] = scaled(1023 + below(900));
+        v[1] = nudged(bits_of(number_of(most) / number_of(v[0])));
+        break;
+    case 153:
+        v[1] = scaled(1022 - below(900));
+        v[0] = nudged(bits_of(number_of(most) * number_of(v[1])));
+        break;
+    default:
+        v[0] = most;
+        v[1] = nudged(HALF_LAST) ^ (code == 152 ? SIGN : 0);
+        break;
+    }
+    v[0] ^= both;
+    v[1] ^= code == 151 || code == 153 ? some_sign() : both;
+}
+
+/* The result is subnormal, 0, or the least normal one. */
+static void pair_small(uint32_t code, uint64_t v[2])
+{
+    uint32_t exponent = 400 + below(200), under = below(58);
+    switch (code) {
+    case 151:
+        v[0] = scaled(exponent);
+        v[1] = scaled(1024 - under - exponent);
+        break;
+    case 153:
+        v[0] = scaled(exponent);
+        v[1] = scaled(exponent + 1022 + under);
+        break;
+    default:
+        v[0] = draw_bits() & ~(0x7feull << 52);
+        v[1] = draw_bits() & ~(0x7feull << 52);
+        break;
+    }
+}
+
+/* B is half of A's last place, or next to that. */
+static void pair_tie(uint64_t v[2])
+{
+    uint32_t exponent = 60 + below(1900);
+    v[0] = scaled(exponent);
+    v[1] = nudged((uint64_t)(exponent - 53) << 52) ^ some_sign();
+}
+
+/* A and B for an operation on reals, many of them at an end of something. */
+static void real_pair(uint32_t code, uint64_t v[2])
+{
+    v[0] = some_real();
+    v[1] = some_real();
+    switch (below(13)) {
+    case 0: case 1: /* near each other, or opposite */
+        v[1] = (one_in(2) ? v[0] : nudged(v[0])) ^ some_sign();
+        break;
+    case 2: pair_large(code, v); break;
+    case 3: pair_small(code, v); break;
+    case 4: pair_tie(v); break;
+    case 5: /* zeros, in half of them so that a sum is -0 */
+        v[0] = one_in(3) ? 0 : SIGN;
+        v[1] = one_in(2) ? code >= 152 ? 0 : SIGN : one_in(2) ? some_sign() : v[1];
+        break;
+    case 6: v[1] = (one_in(2) ? 0 : INFINITE) ^ some_sign(); break;
+    case 7: v[below(2)] = no_number(); break;
+    case 8: /* infinities */
+        v[0] = INFINITE ^ some_sign();
+        v[1] = one_in(2) ? INFINITE ^ some_sign() : v[1];
+        break;
+    case 9: case 10:
+        v[0] = sparse();
+        v[1] = sparse();
+        break;
+    default: break;
+    }
+}
+
+/* A point's and a shift's coordinate for this scale. */
+static void coordinate(uint64_t scale, uint64_t *point, uint64_t *shift)
+{
+    double k = number_of(scale);
+    *point = scaled(1013 + below(20));
+    uint64_t product = bits_of(number_of(*point) * k);
+    switch (below(12)) {
+    case 0: case 1: /* they cancel: what the product lost in rounding is all that a fused operation leaves */
+        *shift = (one_in(2) ? product : nudged(product)) ^ SIGN;
+        break;
+    case 2: /* the sum's last place is near the product's */
+        *shift = product + ((uint64_t)below(6) << 52);
+        break;
+    case 3: /* both -0 */
+        *point = SIGN ^ (scale & SIGN);
+        *shift = SIGN;
+        break;
+    case 4: /* a subnormal product */
+        *point = bits_of(number_of(draw_bits() & ~INFINITE) / k);
+        *shift = one_in(2) ? some_sign() : draw_bits() & ~INFINITE;
+        break;
+    case 5: /* a product at the end of the range, or beyond it, which a fused operation would bring back */
+        *point = nudged(bits_of(number_of(LARGEST) / k));
+        *point += one_in(2) ? 2 : 0;
+        *shift = one_in(2) ? nudged(HALF_LAST) ^ some_sign() : scaled(1990 + below(56)) | SIGN;
+        break;
+    case 6:
+        *point = one_in(2) ? no_number() : *point;
+        *shift = one_in(2) ? no_number() : decimal();
+        break;
+    case 7:
+        *point = some_real();
+        *shift = some_real();
+        break;
+    default:
+        *shift = decimal();
+        break;
+    }
+}
+
+/* From the bottom: point across, along, shift across, along, scale. */
+static void hoop_point(uint64_t v[5])
+{
+    v[4] = one_in(24) ? no_number() : one_in(6) ? some_real() : one_in(2) ? decimal() : scaled(1018 + below(10));
+    coordinate(v[4], &v[0], &v[2]);
+    coordinate(v[4], &v[1], &v[3]);
+}
+
+/* Words that an instruction on reals pops and pushes. */
+static uint32_t real_pops(uint32_t code)
+{
+    return code == 53 ? 0 : code == 156 ? 10 : 4;
+}
+
+static uint32_t real_pushes(uint32_t code)
+{
+    return code == 155 ? 1 : code == 156 ? 4 : 2;
+}
+
+static bool on_reals(uint32_t code)
+{
+    return code == 53 || (code >= 150 && code <= 156 && code != 154);
+}
+
+/* ---- reals in a file ---- */
+
+static void push_by_53(maker *g, uint64_t v)
+{
+    byte(g, 53);
+    for (uint32_t i = 0; i < 8; i++)
+        byte(g, (uint32_t)(v >> (56 - 8 * i)) & 255);
+    effect(g, 0, 0, 2, 0);
+}
+
+/* By 53, where no instruction on reals takes it: any eight bytes will do. */
+static void push_pattern(maker *g)
+{
+    push_by_53(g, one_in(3) ? no_number() : one_in(2) ? real_of_codes() : odd_real());
+}
+
+/* By 53, as two words, or out of the frame. */
+static void push_real(maker *g, uint64_t v)
+{
+    if (one_in(10)) {
+        push_number(g, (uint32_t)(v >> 32));
+        push_number(g, (uint32_t)v);
+        return;
+    }
+    if (g->m >= 2 && one_in(12)) {
+        uint32_t s = below(g->m - 1);
+        for (uint32_t i = s; i < s + 2; i++) {
+            byte(g, 20);
+            operand(g, i);
+            effect(g, 0, 0, 1, 0);
+        }
+        return;
+    }
+    push_by_53(g, v);
+}
+
+static void real_code_on(maker *g, uint32_t code)
+{
+    byte(g, code);
+    effect(g, real_pops(code), 0, real_pushes(code), 0);
+}
+
+/* The real on top goes into two frame words, its low word first. */
+static void store_real(maker *g)
+{
+    uint32_t s = below(g->m - 3);
+    for (uint32_t i = 2; i-- > 0;) {
+        byte(g, 22);
+        operand(g, s + i);
+        effect(g, 1, 0, 0, 0);
+    }
+}
+
+/* A point scaled and shifted, now and then once more. */
+static bool hoop_use(maker *g)
+{
+    uint64_t v[5];
+    uint32_t first = 0;
+    while (g->m + 10 - 2 * first <= g->cap_m && (first == 0 || (one_in(3) && g->n + 60 < g->limit))) {
+        if (one_in(3))
+            hoop_point(v);
+        else
+            for (int i = 0; i < 5; i++)
+                v[i] = decimal();
+        for (uint32_t i = first; i < 5; i++)
+            push_real(g, v[i]);
+        real_code_on(g, 156);
+        first = 2; /* the point is there */
+    }
+    return first > 0;
+}
+
+/* An instruction on reals, whatever lies on the stack. */
+static bool any_real_code(maker *g)
+{
+    uint32_t code = one_in(3) ? 156 : 150 + below(6);
+    if (code == 154 || g->m - g->floor_m < real_pops(code))
+        return false;
+    real_code_on(g, code);
+    return true;
+}
+
+/* Two reals and an operation, and others on its result. */
+static bool real_use(maker *g)
+{
+    static const uint8_t codes[] = { 150, 151, 152, 153, 155, 150, 151, 152, 153 };
+    uint32_t code = codes[below(sizeof codes)];
+    uint64_t v[2] = { decimal(), decimal() };
+    if (one_in(8))
+        return any_real_code(g);
+    if (one_in(4))
+        return hoop_use(g);
+    if (g->m + 4 > g->cap_m)
+        return false;
+    if (one_in(3))
+        real_pair(code, v);
+    push_real(g, v[0]);
+    push_real(g, v[1]);
+    real_code_on(g, code);
+    while (code != 155 && one_in(2) && g->m + 2 <= g->cap_m && g->n + 60 < g->limit) {
+        code = codes[below(sizeof codes)];
+        push_real(g, one_in(4) ? some_real() : decimal());
+        real_code_on(g, code);
+    }
+    if (code != 155 && g->m > 3 && one_in(6))
+        store_real(g);
+    return true;
+}
+
+/* 53 where the head's x, which is set later, lets it have a word too few. */
+static bool spoil_depth(maker *g)
+{
+    uint32_t least = g->sig[g->self].r < g->max_m ? g->max_m : g->sig[g->self].r;
+    if (g->m + 6 < least)
+        return false;
+    while (g->m + 1 < least)
+        push_word(g);
+    g->spoilt = g->n;
+    g->spoilt_x = g->m + 1;
+    push_by_53(g, some_real());
+    return true;
+}
+
+/* An instruction that would pop one word from below the floor. */
+static bool spoil_floor(maker *g)
+{
+    uint32_t m = g->check_m + real_pops(g->spoil) - 1;
+    if (m < g->floor_m || m > g->cap_m)
+        return false;
+    adjust(g, m, g->p);
+    g->spoilt = g->n;
+    g->spoilt_floor = g->handlers > 0;
+    real_code_on(g, g->spoil);
+    if (g->m < g->floor_m) /* in a loop; what follows is not looked at */
+        g->m = g->floor_m;
+    return true;
+}
+
+/* A jump backwards to a byte of 53's body, where a code would stand. */
+static bool spoil_jump(maker *g)
+{
+    if (g->m + 2 > g->cap_m)
+        return false;
+    push_by_53(g, real_of_codes());
+    g->spoilt = g->n;
+    byte(g, 3);
+    operand(g, 4 + below(8));
+    return true;
+}
+
+/* The first instruction that is refused. */
+static bool spoil_here(maker *g)
+{
+    return g->spoil == 53 ? spoil_depth(g) : g->spoil == 3 ? spoil_jump(g) : spoil_floor(g);
+}
+
 /* Two words that an operation can bear, and the operation. */
 static bool reckon(maker *g)
 {
@@ -456,6 +876,10 @@ static void simple(maker *g)
     uint32_t free_m = g->m - g->floor_m, free_p = g->p - g->floor_p;
     bool room_m = g->m < g->cap_m, room_p = g->p < g->cap_p;
     uint32_t k;
+    if (g->spoil != 0 && g->spoilt == 0 && one_in(2) && spoil_here(g))
+        return;
+    if (one_in(10) && real_use(g))
+        return;
     if (one_in(6) && (one_in(6) ? root_use(g) : vector_use(g)))
         return;
     if (one_in(4) && (one_in(2) ? object_use(g) : reckon(g)))
@@ -701,11 +1125,11 @@ static void handler(maker *g, uint32_t level)
 {
     if (g->m + 2 > g->cap_m)
         return;
-    uint32_t m = g->m, p = g->p, fm = g->floor_m, fp = g->floor_p;
+    uint32_t m = g->m, p = g->p, fm = g->floor_m, fp = g->floor_p, check_m = g->check_m;
     size_t at = g->n, out = 0;
     byte(g, 160);
     operand(g, 0);
-    g->floor_m = m;
+    g->floor_m = g->check_m = m;
     g->floor_p = p;
     g->handlers++;
     block(g, level + 1, 1 + below(5));
@@ -729,6 +1153,7 @@ static void handler(maker *g, uint32_t level)
     if (one_in(8) && condition(g)) {
         byte(g, 162); /* always raises */
         g->handlers--;
+        g->check_m = check_m;
         g->floor_m = fm;
         g->floor_p = fp;
         patch(g, at + 1, g->n - g->head);
@@ -740,6 +1165,7 @@ static void handler(maker *g, uint32_t level)
     } else {
         byte(g, 161);
         g->handlers--;
+        g->check_m = check_m;
         g->floor_m = fm;
         g->floor_p = fp;
         adjust(g, m, p);
@@ -792,7 +1218,7 @@ static void procedure(maker *g, uint32_t self, size_t share, size_t exact)
     g->limit = g->n + share;
     g->m = g->max_m = own->a;
     g->p = g->max_p = own->b;
-    g->floor_m = g->floor_p = g->handlers = 0;
+    g->floor_m = g->floor_p = g->check_m = g->handlers = 0;
     byte(g, 240);
     byte(g, own->a);
     byte(g, own->b);
@@ -835,6 +1261,9 @@ static void procedure(maker *g, uint32_t self, size_t share, size_t exact)
         x += below(4);
     if (one_in(4))
         y += below(4);
+    if (g->spoilt_x != 0 && g->spoilt > g->head)
+        x = g->spoilt_x;
+    g->spoilt_x = 0;
     g->f[g->head + 5] = (uint8_t)(x > 255 ? 255 : x);
     g->f[g->head + 6] = (uint8_t)(y > 255 ? 255 : y);
 }
@@ -842,7 +1271,7 @@ static void procedure(maker *g, uint32_t self, size_t share, size_t exact)
 /* exact: the length wanted, or 0 */
 static void make_file(maker *g, uint32_t procs, size_t total, size_t exact)
 {
-    g->n = 0;
+    g->n = g->spoilt = g->spoilt_x = 0;
     g->procs = procs;
     g->cap_m = one_in(10) ? 240 : 4 + below(30);
     g->cap_p = one_in(10) ? 240 : 2 + below(20);
@@ -1024,7 +1453,9 @@ enum { CHECK, START, RUN };
 static const char *const call_name[] = { "check", "start", "run" };
 
 static uint64_t seed, case_no, calls, steps_total;
-static uint64_t answers[3][6], refusals[3][14], raised[8], stepped[256], made[8], damages[16];
+enum { SORTS = 8, DAMAGES = 17 };
+static uint64_t answers[3][6], refusals[3][14], raised[8], stepped[256], made[SORTS];
+static uint64_t damages[DAMAGES];
 static uint64_t edges[5]; /* see table() */
 static const char *file_sort;
 
@@ -1457,6 +1888,280 @@ static void meet_moment(const moment *t, uint32_t came)
     exit(1);
 }
 
+/* ---- reals: an instruction's outcome, worked out once more ---- */
+
+enum {
+    CAME_INFINITE, CAME_NAN, CAME_MINUS_ZERO, CAME_ZERO, CAME_SUBNORMAL, CAME_INEXACT,
+    NAN_UNDER, NAN_ON_TOP, CAME_CAUGHT,
+    RESULTS
+};
+static const char *const result_name[RESULTS] = {
+    "infinite (1)", "NaN (1)", "-0", "0", "subnormal", "inexact", "A a NaN", "B a NaN", "1 caught"
+};
+static uint64_t results[4][RESULTS]; /* of 150 to 153 */
+
+enum {
+    BY_INFINITY, BY_ZERO, ZERO_BY_ZERO,
+    IS_LESS, IS_EQUAL, IS_GREATER, SIGNED_ZEROS, LESS_NAN_LEFT, LESS_NAN_RIGHT, WITH_INFINITY,
+    FUSED_ACROSS, FUSED_ALONG, FUSED_FINITE, BAD_ACROSS, BAD_ALONG, BAD_BOTH, BAD_PRODUCT,
+    POINT_CAUGHT, POINT_MINUS_ZERO, POINT_SUBNORMAL,
+    PUSHED_NAN, PUSHED_SIGNALLING, PUSHED_INFINITY, PUSHED_MINUS_ZERO, PUSHED_HEAD, PUSHED_CODES,
+    REAL_COUNTERS
+};
+
+static counter real_met[REAL_COUNTERS] = {
+    [BY_INFINITY] = { "by an infinity, done", 0 },
+    [BY_ZERO] = { "by 0 (1)", 0 },
+    [ZERO_BY_ZERO] = { "0 by 0 (1)", 0 },
+    [IS_LESS] = { "less", 0 },
+    [IS_EQUAL] = { "equal", 0 },
+    [IS_GREATER] = { "greater", 0 },
+    [SIGNED_ZEROS] = { "-0 and 0", 0 },
+    [LESS_NAN_LEFT] = { "A a NaN", 0 },
+    [LESS_NAN_RIGHT] = { "B a NaN", 0 },
+    [WITH_INFINITY] = { "an infinity", 0 },
+    [FUSED_ACROSS] = { "fused would differ, across", 0 },
+    [FUSED_ALONG] = { "fused would differ, along", 0 },
+    [FUSED_FINITE] = { "fused would be finite (1)", 0 },
+    [BAD_ACROSS] = { "across alone not finite (1)", 0 },
+    [BAD_ALONG] = { "along alone not finite (1)", 0 },
+    [BAD_BOTH] = { "both not finite (1)", 0 },
+    [BAD_PRODUCT] = { "a product too large (1)", 0 },
+    [POINT_CAUGHT] = { "1 caught", 0 },
+    [POINT_MINUS_ZERO] = { "-0", 0 },
+    [POINT_SUBNORMAL] = { "subnormal", 0 },
+    [PUSHED_NAN] = { "a quiet NaN", 0 },
+    [PUSHED_SIGNALLING] = { "a signalling NaN", 0 },
+    [PUSHED_INFINITY] = { "an infinity", 0 },
+    [PUSHED_MINUS_ZERO] = { "-0", 0 },
+    [PUSHED_HEAD] = { "a byte of 240", 0 },
+    [PUSHED_CODES] = { "all bytes codes", 0 }
+};
+
+/* An exception, or the words pushed. */
+typedef struct {
+    uint32_t exception, count, words[4];
+} outcome;
+
+static void meet_real(int what, bool met)
+{
+    real_met[what].count += met;
+}
+
+static bool is_nan(uint64_t v)
+{
+    return (v & ~SIGN) > INFINITE;
+}
+
+static bool is_infinite(uint64_t v)
+{
+    return (v & ~SIGN) == INFINITE;
+}
+
+static bool is_finite(uint64_t v)
+{
+    return (v & INFINITE) != INFINITE;
+}
+
+static bool is_subnormal(uint64_t v)
+{
+    return (v & INFINITE) == 0 && (v & ~SIGN) != 0;
+}
+
+/* Reals in order of their numbers; -0 is 0. */
+static int64_t rank(uint64_t v)
+{
+    return v < SIGN ? (int64_t)v : -(int64_t)(v ^ SIGN);
+}
+
+/* The instruction's operand i, a real, counted from the lowest that it pops. */
+static uint64_t operand_real(const moment *t, int i)
+{
+    const uint32_t *w = t->main - real_pops(t->code[0]) + 2 * i;
+    return (uint64_t)w[0] << 32 | w[1];
+}
+
+static void give(outcome *o, uint64_t v)
+{
+    o->words[o->count++] = (uint32_t)(v >> 32);
+    o->words[o->count++] = (uint32_t)v;
+}
+
+/* 150 to 153: the finite result is not the exact one (near the least numbers, some are missed). */
+static bool inexact(uint32_t code, double a, double b, double c)
+{
+    double other = code == 152 ? -b : b, part = c - a;
+    if (code == 151)
+        return fma(a, b, -c) != 0;
+    if (code == 153)
+        return fma(c, b, -a) != 0;
+    return a - (c - part) + (other - part) != 0;
+}
+
+static outcome foresee_result(const moment *t)
+{
+    outcome o = { 0, 0, { 0 } };
+    uint32_t code = t->code[0];
+    uint64_t v = operand_real(t, 0), w = operand_real(t, 1), *met = results[code - 150];
+    double a = number_of(v), b = number_of(w);
+    double c = code == 150 ? a + b : code == 151 ? a * b : code == 152 ? a - b : a / b;
+    uint64_t r = bits_of(c);
+    met[CAME_INFINITE] += is_infinite(r);
+    met[CAME_NAN] += is_nan(r);
+    met[NAN_UNDER] += is_nan(v);
+    met[NAN_ON_TOP] += is_nan(w);
+    meet_real(BY_ZERO, code == 153 && is_infinite(r) && rank(w) == 0);
+    meet_real(ZERO_BY_ZERO, code == 153 && rank(v) == 0 && rank(w) == 0);
+    if (!is_finite(r)) {
+        o.exception = 1;
+        return o;
+    }
+    met[CAME_MINUS_ZERO] += r == SIGN;
+    met[CAME_ZERO] += r == 0;
+    met[CAME_SUBNORMAL] += is_subnormal(r);
+    met[CAME_INEXACT] += is_finite(w) && inexact(code, a, b, c);
+    meet_real(BY_INFINITY, code == 153 && is_infinite(w));
+    give(&o, r);
+    return o;
+}
+
+static outcome foresee_less(const moment *t)
+{
+    outcome o = { 0, 1, { 0 } };
+    uint64_t v = operand_real(t, 0), w = operand_real(t, 1);
+    meet_real(LESS_NAN_LEFT, is_nan(v));
+    meet_real(LESS_NAN_RIGHT, is_nan(w));
+    if (is_nan(v) || is_nan(w))
+        return o;
+    meet_real(IS_LESS, rank(v) < rank(w));
+    meet_real(IS_EQUAL, rank(v) == rank(w));
+    meet_real(IS_GREATER, rank(v) > rank(w));
+    meet_real(SIGNED_ZEROS, v != w && rank(v) == rank(w));
+    meet_real(WITH_INFINITY, is_infinite(v) || is_infinite(w));
+    o.words[0] = rank(v) < rank(w);
+    return o;
+}
+
+static outcome foresee_point(const moment *t)
+{
+    outcome o = { 0, 0, { 0 } };
+    double scale = number_of(operand_real(t, 4));
+    uint64_t r[2], fused[2];
+    for (int i = 0; i < 2; i++) {
+        double point = number_of(operand_real(t, i)), shift = number_of(operand_real(t, 2 + i));
+        double product = point * scale;
+        r[i] = bits_of(product + shift);
+        fused[i] = bits_of(fma(point, scale, shift));
+        meet_real(FUSED_FINITE, !is_finite(r[i]) && is_finite(fused[i]));
+        meet_real(BAD_PRODUCT, is_infinite(bits_of(product)) && is_finite(operand_real(t, i))
+                  && is_finite(operand_real(t, 4)));
+        give(&o, r[i]);
+    }
+    o.exception = !is_finite(r[0]) || !is_finite(r[1]);
+    meet_real(BAD_ACROSS, !is_finite(r[0]) && is_finite(r[1]));
+    meet_real(BAD_ALONG, is_finite(r[0]) && !is_finite(r[1]));
+    meet_real(BAD_BOTH, !is_finite(r[0]) && !is_finite(r[1]));
+    for (int i = 0; i < 2 && o.exception == 0; i++) {
+        meet_real(FUSED_ACROSS + i, r[i] != fused[i]);
+        meet_real(POINT_MINUS_ZERO, r[i] == SIGN);
+        meet_real(POINT_SUBNORMAL, is_subnormal(r[i]));
+    }
+    return o;
+}
+
+static bool is_kind(uint8_t kind);
+
+static outcome foresee_push(const moment *t)
+{
+    outcome o = { 0, 0, { 0 } };
+    uint64_t v = (uint64_t)bytes_word(t->code + 1) << 32 | bytes_word(t->code + 5);
+    bool head = false, codes = true;
+    for (int i = 1; i <= 8; i++) {
+        head = head || t->code[i] == 240;
+        codes = codes && is_kind(t->code[i]);
+    }
+    meet_real(PUSHED_NAN, is_nan(v) && (v >> 51 & 1) == 1);
+    meet_real(PUSHED_SIGNALLING, is_nan(v) && (v >> 51 & 1) == 0);
+    meet_real(PUSHED_INFINITY, is_infinite(v));
+    meet_real(PUSHED_MINUS_ZERO, v == SIGN);
+    meet_real(PUSHED_HEAD, head);
+    meet_real(PUSHED_CODES, codes);
+    give(&o, v);
+    return o;
+}
+
+static void real_fault(const moment *t, const char *what)
+{
+    printf("\nCode %d %s: seed %" PRIu64 " case %" PRIu64 "\n", t->code[0], what, seed, case_no);
+    exit(1);
+}
+
+/* These lists, the map aside, are as before the call. */
+static bool unchanged(int from, int to)
+{
+    for (int i = from; i <= to; i++)
+        if (i != L_MAP && memcmp(before_call.held[i], lists[i].ref, lists[i].len * width[i]) != 0)
+            return false;
+    return true;
+}
+
+/* After a single step that was done: the words pushed, the others popped and zeroed, the next place. */
+static void look_at_real(const moment *t, const outcome *o)
+{
+    const uint32_t *was = (const uint32_t *)(const void *)before_call.held[L_MAIN];
+    size_t from = (size_t)(t->main - was) - real_pops(t->code[0]), to = from + o->count;
+    for (size_t i = 0; i < lists[L_MAIN].len; i++) {
+        uint32_t want = i < from ? was[i] : i < to ? o->words[i - from] : 0;
+        if (word(L_MAIN, i) != want)
+            real_fault(t, i < from || i >= to ? "leaves another word" : "pushes another word");
+    }
+    for (size_t i = 0; i < REG_BYTES / 4; i++) {
+        uint32_t want = bytes_word(before_call.held[L_REGS] + 4 * i);
+        if (i == 0)
+            want += t->code[0] == 53 ? 9 : 1;
+        if (reg(i) != (i == 3 ? to : want))
+            real_fault(t, "leaves another register");
+    }
+    if (!unchanged(L_PTR, L_HEAP))
+        real_fault(t, "writes elsewhere than on the main stack");
+}
+
+/* After a single step whose exception was caught: it stands on words that are as they were, and above it is nothing. */
+static void look_at_caught(const moment *t)
+{
+    const uint32_t *was = (const uint32_t *)(const void *)before_call.held[L_MAIN];
+    size_t top = reg(3) - 1;
+    for (size_t i = 0; i < lists[L_MAIN].len; i++)
+        if (word(L_MAIN, i) != (i < top ? was[i] : i == top ? 1 : 0))
+            real_fault(t, "raises and leaves another word");
+    if (!unchanged(L_HEAP, L_HEAP))
+        real_fault(t, "raises and writes in the heap");
+}
+
+enum { DONE, CAUGHT, UNCAUGHT };
+
+/* Counts the instruction if it is one on reals; it must end as foreseen. `first`: the call did no step before it. */
+static void meet_real_code(const moment *t, int end, uint32_t number, bool first)
+{
+    uint32_t code = t->code[0];
+    if (!on_reals(code))
+        return;
+    outcome o = code == 53 ? foresee_push(t) : code == 155 ? foresee_less(t)
+        : code == 156 ? foresee_point(t) : foresee_result(t);
+    if (end == DONE ? o.exception != 0 : o.exception != number || number == 0)
+        real_fault(t, o.exception != 0 ? "does not raise 1" : "raises");
+    if (code == 156)
+        meet_real(POINT_CAUGHT, end == CAUGHT);
+    else if (code >= 150 && code <= 153)
+        results[code - 150][CAME_CAUGHT] += end == CAUGHT;
+    if (end == DONE)
+        look_at_real(t, &o);
+    else if (end == CAUGHT)
+        look_at_caught(t);
+    else if (first && !unchanged(L_FILE, L_REGS))
+        real_fault(t, "raises and writes");
+}
+
 /* The instruction that was not caught, or the one of a single step. */
 static void meet_run(ref_reply r, uint32_t budget)
 {
@@ -1466,13 +2171,16 @@ static void meet_run(ref_reply r, uint32_t budget)
             held[i] = lists[i].ref;
         moment t = moment_of(held, lists[L_HEAP].len);
         meet_moment(&t, r.number);
+        meet_real_code(&t, UNCAUGHT, r.number, r.steps == 0);
     } else if (budget == 1 && r.steps == 1) {
         for (int i = 0; i < LISTS; i++)
             held[i] = before_call.held[i];
         moment t = moment_of(held, lists[L_HEAP].len);
         /* a raise closes its handler, so the control stack falls, and pushes the code */
         bool caught = reg(3) > 0 && reg(5) < bytes_word(held[L_REGS] + 20);
-        meet_moment(&t, caught ? word(L_MAIN, reg(3) - 1) : 0);
+        uint32_t number = caught ? word(L_MAIN, reg(3) - 1) : 0;
+        meet_moment(&t, number);
+        meet_real_code(&t, caught ? CAUGHT : DONE, number, true);
     }
 }
 
@@ -1541,9 +2249,8 @@ static void meet_reason(int call, sums s)
 /* No refusal writes elsewhere than in the map. */
 static void look_at_lists(void)
 {
-    for (int i = 0; i < LISTS; i++)
-        if (i != L_MAP && memcmp(before_call.held[i], lists[i].ref, lists[i].len * width[i]) != 0)
-            state_fault("a refusal writes more than the map");
+    if (!unchanged(L_FILE, L_REGS))
+        state_fault("a refusal writes more than the map");
 }
 
 /* 13 comes with place 0 and leaves the map that check makes of the file, which passes. */
@@ -1706,9 +2413,9 @@ static void lend_file(const uint8_t *f, size_t n)
 }
 
 static const uint8_t kinds[] = {
-    1, 2, 3, 4, 5, 6, 20, 21, 22, 23, 30, 31, 32, 33, 36, 54, 56, 57, 58, 59, 60, 62, 64,
+    1, 2, 3, 4, 5, 6, 20, 21, 22, 23, 30, 31, 32, 33, 36, 53, 54, 56, 57, 58, 59, 60, 62, 64,
     72, 73, 80, 81, 82, 83, 84, 85, 130, 131, 195, 198, 201, 204, 140, 141, 142, 143, 145, 144,
-    146, 160, 161, 162, 240
+    146, 150, 151, 152, 153, 155, 156, 160, 161, 162, 240
 };
 
 static uint8_t known_kind(void)
@@ -1716,10 +2423,17 @@ static uint8_t known_kind(void)
     return kinds[below(sizeof kinds)];
 }
 
+static bool is_kind(uint8_t kind)
+{
+    return memchr(kinds, kind, sizeof kinds) != NULL;
+}
+
 static uint32_t body_of(uint8_t kind)
 {
     if (kind == 240)
         return 6;
+    if (kind == 53)
+        return 8;
     if (kind == 36 || kind == 56 || kind == 60 || kind == 62 || kind == 64)
         return 4;
     if (kind <= 33 || kind == 72 || kind == 160)
@@ -1737,7 +2451,7 @@ static void retarget(void)
     for (int tries = 0; tries < 50; tries++) {
         size_t j = at[below((uint32_t)count)];
         uint8_t kind = g.f[j];
-        size_t to = at[below((uint32_t)count)];
+        size_t to = kind == 160 && one_in(4) ? j : at[below((uint32_t)count)];
         if ((kind >= 1 && kind <= 6) || kind == 160) {
             size_t from = kind == 160 ? 0 : j + 3; /* of procedure 0 */
             if (kind == 3 || kind == 4 ? to <= from : to >= from) {
@@ -1758,13 +2472,94 @@ static void recode(void)
             found = i;
     uint8_t code = known_kind();
     while (body_of(code) != 0)
-        code = one_in(2) ? (uint8_t)(80 + below(6)) : known_kind();
+        code = one_in(3) ? (uint8_t)(80 + below(6)) : known_kind();
     if (found > 0)
         g.f[found] = code;
 }
 
+/* ---- files that are valid but for one instruction on reals ---- */
+
+enum {
+    SHORT_PLUS, SHORT_TIMES, SHORT_MINUS, SHORT_DIVIDE, SHORT_LESS, SHORT_POINT, DEEP_PUSH,
+    INTO_BODY, SHORT_FLOOR, CUT_AT_ONCE, CUT_LATER, CUT_LAST, NO_CODE, NEAR_CODE,
+    SPOILT_COUNTERS
+};
+
+static counter spoilt_met[SPOILT_COUNTERS] = {
+    [SHORT_PLUS] = { "150 a word short (7)", 0 },
+    [SHORT_TIMES] = { "151", 0 },
+    [SHORT_MINUS] = { "152", 0 },
+    [SHORT_DIVIDE] = { "153", 0 },
+    [SHORT_LESS] = { "155", 0 },
+    [SHORT_POINT] = { "156", 0 },
+    [DEEP_PUSH] = { "53 a word above x (7)", 0 },
+    [INTO_BODY] = { "a jump into 53's body (5)", 0 },
+    [SHORT_FLOOR] = { "a word short with a handler open (7)", 0 },
+    [CUT_AT_ONCE] = { "53 without a body (3)", 0 },
+    [CUT_LATER] = { "with one to six bytes", 0 },
+    [CUT_LAST] = { "with seven", 0 },
+    [NO_CODE] = { "154 (3)", 0 },
+    [NEAR_CODE] = { "52, 55, 149, 157", 0 }
+};
+
+/* What the check of such a file must answer: a refusal and its place. */
+static struct {
+    uint32_t number;
+    size_t place;
+    int how;
+} due;
+
+/* The start of some record behind the first head. */
+static size_t some_record(void)
+{
+    size_t found = 0;
+    uint32_t seen = 0;
+    for (size_t i = 7; i < g.n; i += 1 + body_of(g.f[i]))
+        if (one_in(++seen))
+            found = i;
+    return found;
+}
+
+/* An instruction that breaks 7 or 5; or a 53 that the file's end cuts short; or no code. */
+static void spoilt_file(uint32_t procs, size_t total)
+{
+    static const uint8_t codes[] = { 150, 151, 152, 153, 155, 156, 53, 3 };
+    static const uint8_t unknown[] = { 52, 55, 149, 157 };
+    uint32_t how = below(13);
+    g.spoil = how < sizeof codes ? codes[how] : 0;
+    make_file(&g, procs, total, 0);
+    g.spoil = 0;
+    size_t n = g.n, at = how < sizeof codes ? g.spoilt : some_record();
+    due.number = at == 0 || n > 4096 ? 0 : how == INTO_BODY ? 5 : how < sizeof codes ? 7 : 3;
+    due.place = at;
+    due.how = (int)how;
+    if (how >= 11) {
+        g.f[at] = one_in(2) ? 154 : unknown[below(sizeof unknown)];
+        due.how = g.f[at] == 154 ? NO_CODE : NEAR_CODE;
+    } else if (how >= sizeof codes) {
+        uint32_t left = one_in(2) ? 0 : one_in(2) ? 7 : 1 + below(6);
+        g.f[at] = 53;
+        n = at + 1 + left;
+        due.how = left == 0 ? CUT_AT_ONCE : left == 7 ? CUT_LAST : CUT_LATER;
+    }
+    lend_file(g.f, n > 4096 ? 4096 : n);
+}
+
+/* Counts the check of such a file; its answer must be the one due. */
+static void meet_spoilt(ref_reply r)
+{
+    if (r.kind != REF_REFUSED || r.number != due.number || r.place != due.place) {
+        printf("\nRefusal %" PRIu32 " is due at %zu (%s): seed %" PRIu64 " case %" PRIu64 "\n",
+               due.number, due.place, spoilt_met[due.how].name, seed, case_no);
+        exit(1);
+    }
+    spoilt_met[due.how].count++;
+    spoilt_met[SHORT_FLOOR].count += due.how <= SHORT_POINT && g.spoilt_floor;
+}
+
 static void choose_file(void)
 {
+    due.number = 0;
     uint32_t k = below(100);
     uint32_t procs = one_in(3) ? 1 : 1 + below(5);
     if (one_in(100))
@@ -1777,6 +2572,10 @@ static void choose_file(void)
         made[0]++;
         file_sort = "valid";
         lend_file(g.f, g.n > 4096 ? 4096 : g.n);
+    } else if (k < 65) {
+        made[7]++;
+        file_sort = "spoilt";
+        spoilt_file(procs, total);
     } else if (k < 84) {
         make_file(&g, procs, total, 0);
         uint32_t times = one_in(3) ? 1 + below(4) : 1;
@@ -2169,6 +2968,30 @@ static void damage_element(uint32_t code)
     set_word(L_MAIN, reg(3) - 1, one_in(3) ? v.bound + below(v.length + 2) - 1 : some_index(&v));
 }
 
+/* The code at the place, if it takes reals that are on the stack; else 0. */
+static uint32_t real_code(void)
+{
+    if (!has_registers() || reg(0) >= lists[L_FILE].len || reg(3) > lists[L_MAIN].len)
+        return 0;
+    uint32_t code = lists[L_FILE].ref[reg(0)];
+    return on_reals(code) && code != 53 && reg(3) >= real_pops(code) ? code : 0;
+}
+
+/* Before 150 to 156: other operands. */
+static void damage_reals(uint32_t code)
+{
+    uint64_t v[5];
+    size_t at = reg(3) - real_pops(code);
+    if (code == 156)
+        hoop_point(v);
+    else
+        real_pair(code, v);
+    for (size_t i = 0; i < real_pops(code); i += 2) {
+        set_word(L_MAIN, at + i, (uint32_t)(v[i / 2] >> 32));
+        set_word(L_MAIN, at + i + 1, (uint32_t)v[i / 2]);
+    }
+}
+
 static void damage_length(void)
 {
     static const size_t odd[4][6] = {
@@ -2205,7 +3028,8 @@ static size_t odd_registers(void)
 
 static void damage(void)
 {
-    uint32_t k = vector_code() != 0 && one_in(2) ? 15 : one_in(5) ? 13 : below(16);
+    uint32_t k = vector_code() != 0 && one_in(2) ? 15 : real_code() != 0 && one_in(2) ? 16
+        : one_in(5) ? 13 : below(16);
     damages[k]++;
     switch (k) {
     case 0: case 1: {
@@ -2231,6 +3055,7 @@ static void damage(void)
         else if (vector_code() != 0)
             damage_element(vector_code());
         break;
+    case 16: damage_reals(real_code()); break;
     default: damage_file(); break;
     }
 }
@@ -2285,7 +3110,7 @@ static uint32_t operands(bool literals, size_t at[ROOM])
     uint32_t count = 0;
     for (size_t i = 0; i < l->len; i += 1 + body_of(l->ref[i])) {
         uint8_t kind = l->ref[i];
-        bool wanted = literals ? kind == 54 || kind == 56 : kind != 240;
+        bool wanted = literals ? kind == 53 || kind == 54 || kind == 56 : kind != 240;
         for (size_t k = i + 1; wanted && k <= i + body_of(kind) && k < l->len; k++)
             at[count++] = k;
     }
@@ -2490,6 +3315,8 @@ static bool check_case(void)
     edges[2] += r.kind == REF_PASSED && count_heads() == 64;
     edges[3] += r.kind == REF_REFUSED && r.number == 4 && g.procs == 65;
     edges[4] += n == 0;
+    if (due.number != 0 && valid)
+        meet_spoilt(r);
     if ((!strcmp(file_sort, "valid") || !strcmp(file_sort, "long"))
         && r.kind != REF_PASSED && valid && g.n == n) {
         printf("\nThe generator's file is refused as %" PRIu32 " at %" PRIu32 ": seed %" PRIu64
@@ -2544,6 +3371,19 @@ static bool damaged_run(void)
     return kept;
 }
 
+/* A few single steps of the instruction on reals that is next, with other operands; the lists are as before afterwards. */
+static void real_runs(void)
+{
+    snapshot s = snap_take();
+    for (uint32_t i = 6 + below(4); i > 0; i--) {
+        damages[16]++;
+        damage_reals(real_code());
+        both(RUN, 1);
+        snap_restore(&s);
+    }
+    snap_free(&s);
+}
+
 /* Beyond the end of a run, finished or not caught. */
 static void run_on(void)
 {
@@ -2581,6 +3421,8 @@ static void one_case(void)
             whole = false;
         if (one_in(8))
             misplaced_run();
+        if (real_code() != 0)
+            real_runs();
         ref_reply r = both(RUN, single && !one_in(6) ? 1 : some_budget());
         done += r.steps;
         if (r.kind == REF_FINISHED || r.kind == REF_UNCAUGHT) {
@@ -2600,13 +3442,14 @@ static void one_case(void)
 enum { MANY = 20000 }; /* cases that meet everything */
 
 static const char *const made_name[] = {
-    "valid", "damaged", "cut short", "random", "records", "long", "many procedures"
+    "valid", "damaged", "cut short", "random", "records", "long", "many procedures",
+    "valid but for a real"
 };
 static const char *const damage_name[] = {
     "registers", "registers", "control words", "control words", "main words",
     "pointer words", "heap words", "heap words", "a length", "register length",
     "map length", "file byte", "lists cut at their tops", "another call or handler",
-    "another place", "a vector's operands"
+    "another place", "a vector's operands", "a real's operands"
 };
 
 static void counter_line(const char *title, const counter *c, int from, int to)
@@ -2630,6 +3473,20 @@ static void vector_table(void)
     counter_line("80 to 85, raised:", vector_met, INDEX_WRAPS, WORD_SHORT);
     counter_line("80 to 85, done:", vector_met, FIT_EXACT, VALUE_NIL);
     counter_line("32 and 33 on vectors:", vector_met, PLAIN_BOUND, POINTERS_SET);
+}
+
+static void real_table(void)
+{
+    for (int k = 0; k < 4; k++) {
+        printf("%d:", 150 + k);
+        for (int i = 0; i < RESULTS; i++)
+            printf(" %s %" PRIu64 "%s", result_name[i], results[k][i], i + 1 < RESULTS ? "," : "\n");
+    }
+    counter_line("153:", real_met, BY_INFINITY, ZERO_BY_ZERO);
+    counter_line("155:", real_met, IS_LESS, WITH_INFINITY);
+    counter_line("156:", real_met, FUSED_ACROSS, POINT_SUBNORMAL);
+    counter_line("53:", real_met, PUSHED_NAN, PUSHED_CODES);
+    counter_line("refused for a real:", spoilt_met, 0, SPOILT_COUNTERS - 1);
 }
 
 /* By start, then by run. */
@@ -2660,16 +3517,16 @@ static void table(void)
         "passed", "ready", "finished", "spent", "uncaught", "refused"
     };
     printf("files:");
-    for (int i = 0; i < 7; i++)
-        printf(" %s %" PRIu64 "%s", made_name[i], made[i], i < 6 ? "," : "\n");
+    for (int i = 0; i < SORTS; i++)
+        printf(" %s %" PRIu64 "%s", made_name[i], made[i], i + 1 < SORTS ? "," : "\n");
     printf("4,096 bytes and passed: %" PRIu64 ", 4,097 bytes: %" PRIu64 ", 0 bytes: %" PRIu64
            ", 64 procedures and passed: %" PRIu64 ", 65 procedures refused as 4: %" PRIu64 "\n",
            edges[0], edges[1], edges[4], edges[2], edges[3]);
     printf("damage between calls:");
-    for (int i = 0; i < 16; i++) {
-        bool twice = i + 1 < 16 && !strcmp(damage_name[i], damage_name[i + 1]);
+    for (int i = 0; i < DAMAGES; i++) {
+        bool twice = i + 1 < DAMAGES && !strcmp(damage_name[i], damage_name[i + 1]);
         printf(" %s %" PRIu64 "%s", damage_name[i], damages[i] + (twice ? damages[i + 1] : 0),
-               i < 15 ? "," : "\n");
+               i + 1 < DAMAGES ? "," : "\n");
         i += twice;
     }
     printf("%-12s %12s %12s %12s\n", "answer", "check", "start", "run");
@@ -2686,6 +3543,7 @@ static void table(void)
         printf(" %d: %" PRIu64 ",", k, raised[k]);
     printf(" others: %" PRIu64 "\n", raised[7]);
     vector_table();
+    real_table();
     printf("single steps by code:");
     for (int k = 1; k < 256; k++)
         if (stepped[k] > 0)
@@ -2732,6 +3590,19 @@ static bool all_states(void)
     return all;
 }
 
+static bool all_reals(void)
+{
+    bool all = all_counted("reals", real_met, REAL_COUNTERS);
+    all = all_counted("refused for a real", spoilt_met, SPOILT_COUNTERS) && all;
+    for (int k = 0; k < 4; k++)
+        for (int i = 0; i < RESULTS; i++) {
+            char code[16];
+            snprintf(code, sizeof code, "%d", 150 + k);
+            all = met(code, result_name[i], results[k][i]) && all;
+        }
+    return all;
+}
+
 /* Nothing that the table counts is 0. */
 static bool all_met(void)
 {
@@ -2741,6 +3612,7 @@ static bool all_met(void)
         "65 procedures refused as 4", "0 bytes"
     };
     bool all = all_states();
+    all = all_reals() && all;
     for (int call = CHECK; call <= RUN; call++)
         for (int k = 1; k <= (call == CHECK ? 9 : 13); k++)
             if (call != START || k != 12) /* start has no state to judge */
@@ -2752,9 +3624,9 @@ static bool all_met(void)
         if (kinds[i] != 240)
             all = met_number("single step", kinds[i], stepped[kinds[i]]) && all;
     all = all_counted("refused 11", heap_met, HEAP_COUNTERS) && all;
-    for (int i = 0; i < 7; i++)
+    for (int i = 0; i < SORTS; i++)
         all = met("files", made_name[i], made[i]) && all;
-    for (int i = 0; i < 16; i++)
+    for (int i = 0; i < DAMAGES; i++)
         all = met("damage", damage_name[i], damages[i]) && all;
     for (int i = 0; i < 5; i++)
         all = met("files", edge[i], edges[i]) && all;

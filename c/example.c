@@ -78,7 +78,7 @@ static const char *refusal_words(uint32_t number)
 static const char *exception_words(uint32_t code)
 {
     switch (code) {
-    case YALGOVIM_OUT_OF_RANGE: return "a number out of range, or a division by zero";
+    case YALGOVIM_OUT_OF_RANGE: return "a number out of range, a division by zero, or a real that is not finite";
     case YALGOVIM_NIL_OBJECT: return "an object was needed and there was none";
     case YALGOVIM_NO_SUCH_WORD: return "the object has no such word";
     case YALGOVIM_HEAP_FULL: return "the heap is full";

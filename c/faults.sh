@@ -6,7 +6,19 @@ build=$1
 library=$2
 bad=0
 mkdir -p "$build"
-${CC:-gcc} -std=c11 -O2 -w -c -o "$build/fault_compare.o" compare.c || exit 1
+${CC:-gcc} -std=c11 -O2 -ffp-contract=off -w -c -o "$build/fault_compare.o" compare.c || exit 1
+
+build_with() {
+    ${CC:-gcc} -std=c11 -O2 -ffp-contract=off -w -I. -o "$build/fault" "$build/fault_compare.o" "$1" "$library" -lm || exit 1
+}
+
+# Without a fault nothing is found: else a fault below might seem to be.
+build_with reference.c
+if ! "$build/fault" 1 100000 >"$build/fault.txt" 2>&1; then
+    tail -n 3 "$build/fault.txt"
+    echo "found without a fault"
+    exit 1
+fi
 
 # name, the text to be replaced, the text put in its place (sed)
 plant() {
@@ -17,7 +29,7 @@ plant() {
         bad=1
         return
     fi
-    ${CC:-gcc} -std=c11 -O2 -w -I. -o "$build/fault" "$build/fault_compare.o" "$copy" "$library" || exit 1
+    build_with "$copy"
     "$build/fault" 1 100000 >"$build/fault.txt" 2>&1
     case $? in
     0 | 2) # 2: no difference, and something not met
@@ -279,6 +291,209 @@ plant "start: 13 leaves the old map" "/^ref_reply ref_start/,/^}/s/^    layout l
     s/$start13/&\\
         memcpy(map, old, 2 * kept);\\
 &/"
+# Order 4, reals. The words of one,
+result='/case RPLUS: case RTIMES: case RMINUS: case RDIV: {/,/break;/'
+less='/case RLESS: {/,/break;/'
+point='/case SCALE: {/,/break;/'
+literal='/case LLREAL: \/\*/,/break;/'
+high='s/get(list, len, at) << 32 | get(list, len, at + 1)/get(list, len, at + 1) << 32 | get(list, len, at)/'
+low='s/put(list, len, at, (uint32_t)(bits >> 32))/put(list, len, at + 1, (uint32_t)(bits >> 32))/
+    s/put(list, len, at + 1, (uint32_t)bits)/put(list, len, at, (uint32_t)bits)/'
+plant "a real read low word first" "$high"
+plant "a real written low word first" "$low"
+plant "a real read and written low word first" "$high
+    $low"
+plant "the low word read as signed" 's/<< 32 | get(list, len, at + 1)/<< 32 | (uint64_t)(int64_t)whole(get(list, len, at + 1))/'
+# 53,
+plant "53 pushes its low word first" "$literal{
+    s/place + 1)/place + 11)/
+    s/place + 3)/place + 13)/
+    s/place + 5)/place + 1)/
+    s/place + 7)/place + 3)/
+    s/place + 11)/place + 5)/
+    s/place + 13)/place + 7)/
+    }"
+bits='uint64_t bits = (uint64_t)main_stack[mt - 2] << 32 | main_stack[mt - 1];\
+            '
+after53="$literal"'s/^            place += 9;/            {\
+            '"$bits"
+plant "53's bytes lowest first" "$after53"'put_bits(main_stack, main_len, mt - 2, __builtin_bswap64(bits));\
+            }\
+&/'
+plant "53 raises 1 for what is not finite" "$literal"'s/push(main_stack, main_len, &mt,/if ((operand_at(file, file_len, place + 1) \& 0x7ff0u) == 0x7ff0u) {\
+                exception = REF_OUT_OF_RANGE;\
+                goto raise;\
+            }\
+            &/'
+plant "53 loses a NaN's payload" "$after53"'if (not_finite(bits) \&\& bits << 12 != 0)\
+                put_bits(main_stack, main_len, mt - 2, 0x7ff8000000000000u);\
+            }\
+&/'
+plant "53 makes a signalling NaN quiet" "$after53"'if (not_finite(bits) \&\& bits << 12 != 0)\
+                put_bits(main_stack, main_len, mt - 2, bits | 1ull << 51);\
+            }\
+&/'
+plant "53 loses a NaN's sign" "$after53"'if (not_finite(bits) \&\& bits << 12 != 0)\
+                put_bits(main_stack, main_len, mt - 2, bits << 1 >> 1);\
+            }\
+&/'
+plant "53 pushes -0 as 0" "$after53"'if (bits == 1ull << 63)\
+                put_bits(main_stack, main_len, mt - 2, 0);\
+            }\
+&/'
+plant "53 pushes a subnormal real as 0" "$after53"'if (bits << 1 >> 53 == 0)\
+                put_bits(main_stack, main_len, mt - 2, bits >> 63 << 63);\
+            }\
+&/'
+# 150 to 153: which is A, the rounding,
+plant "152: B - A" 's/bits_of(a - b)/bits_of(b - a)/'
+plant "153: B by A" 's/bits_of(a \/ b)/bits_of(b \/ a)/'
+for op in '150 +' '151 \*' '152 -' '153 \/'; do
+    code=${op% *}
+    op=${op#* }
+    plant "$code in single precision" "s/bits_of(a $op b)/bits_of((float)(a $op b))/"
+    plant "$code of operands in single precision" "s/bits_of(a $op b)/bits_of((float)a $op (float)b)/"
+    plant "$code rounded twice" "s/bits_of(a $op b)/bits_of((double)((long double)a $op b))/"
+    plant "$code: subnormal results as 0" "s/bits_of(a $op b)/bits_of(__builtin_fabs(a $op b) < 0x1p-1022 ? (a $op b) * 0.0 : a $op b)/"
+    plant "$code: -0 as 0" "s/bits_of(a $op b)/bits_of((a $op b) + 0.0)/"
+    plant "$code: no test of the result" "$result s/if (not_finite(c))/if (not_finite(c) \\&\\& file[place] != $code)/"
+    plant "$code: subnormal results raise 1" "$result s/if (not_finite(c))/if (not_finite(c) || (file[place] == $code \\&\\& c << 1 >> 53 == 0 \\&\\& c << 1 != 0))/"
+done
+plant "subnormal operands as 0" '/^static inline double real_at/,/^}/s/^    return real;/    return __builtin_fabs(real) < 0x1p-1022 ? real * 0.0 : real;/'
+# what is not finite,
+plant "no test of 150 to 153" "$result s/if (not_finite(c))/if (0)/"
+plant "infinities let pass" '/^static inline bool not_finite/,/^}/s/== 0x7ffu;/== 0x7ffu \&\& bits << 12 != 0;/'
+plant "NaNs let pass" '/^static inline bool not_finite/,/^}/s/== 0x7ffu;/== 0x7ffu \&\& bits << 12 == 0;/'
+plant "negative infinities let pass" '/^static inline bool not_finite/,/^}/s/bits >> 52 & 0x7ffu/bits >> 52/'
+plant "the largest binade refused" '/^static inline bool not_finite/,/^}/s/== 0x7ffu;/>= 0x7feu;/'
+plant "B tested, too" "$result s/if (not_finite(c))/if (not_finite(c) || not_finite(bits_of(b)))/"
+plant "0 by B raises 1" "$result s/if (not_finite(c))/if (not_finite(c) || (file[place] == RDIV \\&\\& a == 0))/"
+plant "150 to 153 raise 2" "$result s/REF_OUT_OF_RANGE/REF_NIL_OBJECT/"
+plant "150 to 153 write before they raise" "$result s/if (not_finite(c))/put_bits(main_stack, main_len, mt - 4u, c);\\
+            &/"
+plant "150 to 153 pop before they raise" "$result s/if (not_finite(c)) {/&\\
+                cut(main_stack, main_len, \\&mt, mt - 2u);/"
+plant "150 to 153 do not zero B" "$result s/cut(main_stack, main_len, &mt, mt - 2u);/mt -= 2;/"
+# 155,
+plant "155: B less than A" "$less s/a < b/b < a/"
+plant "155: less or equal" "$less s/a < b/a <= b/"
+plant "155: not greater or equal" "$less s/a < b/!(a >= b)/"
+plant "155: 1 if A is a NaN" "$less s/a < b/a < b || a != a/"
+plant "155: 1 if B is a NaN" "$less s/a < b/a < b || b != b/"
+plant "155: -0 less than 0" "$less s/a < b/a < b || (a == b \\&\\& bits_of(a) > bits_of(b))/"
+plant "155: reals compared as whole numbers" "$less s/a < b/(int64_t)bits_of(a) < (int64_t)bits_of(b)/"
+plant "155: the high words alone compared" "$less s/a < b/a < b \\&\\& bits_of(a) >> 32 != bits_of(b) >> 32/"
+plant "155 in single precision" "$less s/a < b/(float)a < (float)b/"
+plant "155 raises 1 for a NaN" "$less s/cut(main_stack/if (a != a || b != b) {\\
+                exception = REF_OUT_OF_RANGE;\\
+                goto raise;\\
+            }\\
+            &/"
+plant "155 raises 1 for an infinity" "$less s/cut(main_stack/if (a - a != 0 \\&\\& a == a) {\\
+                exception = REF_OUT_OF_RANGE;\\
+                goto raise;\\
+            }\\
+            &/"
+plant "155 pushes -1" "$less s/a < b/0u - (a < b)/"
+plant "155 does not zero what it pops" "$less s/cut(main_stack, main_len, &mt, mt - 3u);/mt -= 3;/"
+# 156: the two roundings,
+fused='s/^static inline uint64_t scaled_and_shifted/static inline uint64_t fused(double coordinate, double scale, double shift)\
+{\
+    return bits_of(__builtin_fma(coordinate, scale, shift));\
+}\
+\
+&/'
+plant "156 fused across" "$fused
+    s/across = scaled_and_shifted/across = fused/"
+plant "156 fused along" "$fused
+    s/along = scaled_and_shifted/along = fused/"
+plant "156: the product not rounded to a real" 's/^    double product = coordinate \* scale;/    long double product = (long double)coordinate * scale;/'
+plant "156: the product in single precision" 's/^    double product = coordinate \* scale;/    float product = (float)(coordinate * scale);/'
+plant "156: the sum in single precision" 's/bits_of(product + shift)/bits_of((float)(product + shift))/'
+plant "156: shifted before scaled" 's/bits_of(product + shift)/bits_of((coordinate + shift) * scale)/'
+plant "156: not shifted" 's/bits_of(product + shift)/bits_of(product)/'
+plant "156: the shift taken away" 's/bits_of(product + shift)/bits_of(product - shift)/'
+plant "156: the shift scaled, too" 's/bits_of(product + shift)/bits_of(product + shift * scale)/'
+plant "156: subnormal products as 0" 's/bits_of(product + shift)/bits_of((__builtin_fabs(product) < 0x1p-1022 ? 0 : product) + shift)/'
+plant "156: -0 as 0" 's/bits_of(product + shift)/bits_of(product + shift + 0.0)/'
+# where its operands lie,
+plant "156: the scale at the bottom" "$point{
+    s/mt - 2u);/mt - 1u);/
+    s/mt - 4u)/mt - 2u)/
+    s/mt - 6u)/mt - 4u)/
+    s/mt - 8u)/mt - 6u)/
+    s/mt - 10u)/mt - 8u)/
+    s/scale = real_at(main_stack, main_len, mt - 1u)/scale = real_at(main_stack, main_len, mt - 10u)/
+    s/\\&mt, mt - 4u)/\\&mt, mt - 6u)/
+    s/mt - 2u, across/mt - 4u, across/
+    s/mt - 1u, along/mt - 2u, along/
+    }"
+plant "156: the shift under the point" "$point{
+    s/main_len, mt - 10u), scale/main_len, mt - 16u), scale/
+    s/main_len, mt - 6u));/main_len, mt - 10u));/
+    s/mt - 16u/mt - 6u/
+    s/main_len, mt - 8u), scale/main_len, mt - 14u), scale/
+    s/main_len, mt - 4u));/main_len, mt - 8u));/
+    s/mt - 14u/mt - 4u/
+    }"
+plant "156: the point's along below its across" "$point{
+    s/mt - 10u/mt - 18u/
+    s/mt - 8u/mt - 10u/
+    s/mt - 18u/mt - 8u/
+    }"
+plant "156: the shift's along below its across" "$point{
+    s/main_len, mt - 6u));/main_len, mt - 14u));/
+    s/main_len, mt - 4u));/main_len, mt - 6u));/
+    s/mt - 14u/mt - 4u/
+    }"
+plant "156: across and along pushed in the other order" "$point{
+    s/mt - 4u, across/mt - 2u, across/
+    s/mt - 2u, along/mt - 4u, along/
+    }"
+# the tests of its results, what it leaves,
+plant "156: no test of its results" "$point s/if (not_finite(across) || not_finite(along))/if (0)/"
+plant "156: across alone tested" "$point s/if (not_finite(across) || not_finite(along))/if (not_finite(across))/"
+plant "156: along alone tested" "$point s/if (not_finite(across) || not_finite(along))/if (not_finite(along))/"
+plant "156 raises only if neither is finite" "$point s/not_finite(across) || not_finite(along)/not_finite(across) \\&\\& not_finite(along)/"
+plant "156 raises 2" "$point s/REF_OUT_OF_RANGE/REF_NIL_OBJECT/"
+plant "156 writes across before it tests along" "$point s/if (not_finite(across)/if (!not_finite(across))\\
+                put_bits(main_stack, main_len, mt - 10u, across);\\
+            &/"
+plant "156 does not zero what it pops" "$point s/cut(main_stack, main_len, &mt, mt - 6u);/mt -= 6;/"
+# and the checker.
+for name in 150:RPLUS 151:RTIMES 152:RMINUS 153:RDIV; do
+    code=${name%:*}
+    effect='/case RPLUS: case RTIMES: case RMINUS: case RDIV:$/,/break;/'
+    plant "$code counted as popping three words" "$effect s/main_pop = 4/main_pop = file[at] == ${name#*:} ? 3 : 4/"
+    plant "$code counted as popping five words" "$effect s/main_pop = 4/main_pop = file[at] == ${name#*:} ? 5 : 4/"
+    plant "$code counted as pushing one word" "$effect s/main_push = 2/main_push = file[at] == ${name#*:} ? 1 : 2/"
+    plant "$code counted as pushing three words" "$effect s/main_push = 2/main_push = file[at] == ${name#*:} ? 3 : 2/"
+done
+plant "155 counted as popping three words" '/case RLESS:$/,/break;/s/main_pop = 4/main_pop = 3/'
+plant "155 counted as popping five words" '/case RLESS:$/,/break;/s/main_pop = 4/main_pop = 5/'
+plant "155 counted as pushing no word" '/case RLESS:$/,/break;/s/main_push = 1/main_push = 0/'
+plant "155 counted as pushing two words" '/case RLESS:$/,/break;/s/main_push = 1/main_push = 2/'
+plant "156 counted as popping nine words" '/case SCALE: \/\*/,/break;/s/main_pop = 10/main_pop = 9/'
+plant "156 counted as popping eleven words" '/case SCALE: \/\*/,/break;/s/main_pop = 10/main_pop = 11/'
+plant "156 counted as pushing three words" '/case SCALE: \/\*/,/break;/s/main_push = 4/main_push = 3/'
+plant "156 counted as pushing five words" '/case SCALE: \/\*/,/break;/s/main_push = 4/main_push = 5/'
+plant "156 counted as popping a pointer" '/case SCALE: \/\*/,/break;/s/e.main_push = 4;/& e.ptr_pop = 1;/'
+plant "53 counted as pushing one word" '/case LLREAL: \/\*/,/break;/s/main_push = 2/main_push = 1/'
+plant "53 counted as pushing three words" '/case LLREAL: \/\*/,/break;/s/main_push = 2/main_push = 3/'
+plant "x not tested at 53" 's/if (m_after > x ||/if ((m_after > x \&\& kind != LLREAL) ||/'
+plant "x tested at 53 for one word" 's/if (m_after > x ||/if (m_after > x + (kind == LLREAL) ||/'
+plant "reals popped from below a handler's floor" 's/if (m < floor_m + e.main_pop/if (m + (kind >= RPLUS \&\& kind <= SCALE \&\& floor_m > 0) < floor_m + e.main_pop/'
+plant "reals that lie on a handler's floor refused" 's/if (m < floor_m + e.main_pop/if (m < floor_m + e.main_pop + (kind >= RPLUS \&\& kind <= SCALE \&\& handler != NONE)/'
+plant "53 with a body of seven bytes" 's/\[LLREAL\] = 9/[LLREAL] = 8/
+    s/place += 9;/place += 8;/'
+plant "53 with a body of nine bytes" 's/\[LLREAL\] = 9/[LLREAL] = 10/
+    s/place += 9;/place += 10;/'
+plant "53 that wants one byte less at the file's end" 's/if (size == 0 || size > len - at/if (size == 0 || size - (file[at] == LLREAL) > len - at/'
+plant "a jump into the body of 53 let pass" 's/^            lay->owner\[at\] = (uint8_t)(lay->procs - 1);/&\
+            for (size_t i = at + 1; file[at] == LLREAL \&\& i < next; i++)\
+                lay->owner[i] = (uint8_t)(lay->procs - 1);/'
+plant "154 known" 's/^    \[SCALE\] = 1,/& [154] = 1,/'
+plant "155 unknown" 's/\[RLESS\] = 1,//'
 # The rest.
 plant "wrong place of an uncaught exception" 's/REF_UNCAUGHT, exception, place, steps/REF_UNCAUGHT, exception, place + 1, steps/'
 plant "a popped word not zeroed" 's/^    list\[\*top\] = 0;/    (void)list;/'

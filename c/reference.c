@@ -1,9 +1,25 @@
 /* The two-stack routine machine in plain C. See reference.h. */
 #include "reference.h"
 
+#include <float.h>
 #include <stdbool.h>
 #include <stdlib.h>
 #include <string.h>
+
+/*
+ * Order 4: a double is an IEEE 754 binary64, and each operation is rounded
+ * once, to it. gcc knows no pragma against fused operations: it takes
+ * -ffp-contract=off.
+ */
+#if defined __FAST_MATH__ || (defined __FINITE_MATH_ONLY__ && __FINITE_MATH_ONLY__)
+#error "reals need IEEE arithmetic: compile without -ffast-math"
+#endif
+#ifdef __clang__
+#pragma STDC FP_CONTRACT OFF
+#endif
+_Static_assert(FLT_EVAL_METHOD == 0, "a double operation is rounded to double");
+_Static_assert(sizeof(double) == 8 && FLT_RADIX == 2 && DBL_MANT_DIG == 53 && DBL_MAX_EXP == 1024
+               && DBL_MIN_EXP == -1021, "a double is a binary64");
 
 enum {
     FILE_MAX = 4096,
@@ -23,7 +39,7 @@ enum {
     FJUMP = 1, JUMPF = 2, BJUMP = 3, BJUMPT = 4, JUMPFF = 5, JUMPTT = 6,
     WLOCAL = 20, PLOCAL = 21, WLOCALASS = 22, PLOCALASS = 23,
     WFIELD = 30, PFIELD = 31, WSET = 32, PSET = 33, FORM = 36,
-    LLINT = 54, LLWORD = 56, LNIL = 57, ROOT = 58, SETROOT = 59,
+    LLREAL = 53, LLINT = 54, LLWORD = 56, LNIL = 57, ROOT = 58, SETROOT = 59,
     WRETRACT = 60, PRETRACT = 62, RETRACT = 64,
     CALL = 72, RETURN = 73,
     WVECTOR = 80, PVECTOR = 81, WELEMENT = 82, PELEMENT = 83,
@@ -31,6 +47,8 @@ enum {
     EQW = 130, EQP = 131,
     PLUS = 140, TIMES = 141, MINUS = 142, DIV = 143, NEG = 144, REM = 145,
     NOT = 146,
+    RPLUS = 150, RTIMES = 151, RMINUS = 152, RDIV = 153, RLESS = 155,
+    SCALE = 156,
     ENTER = 160, EXIT = 161, RAISE = 162,
     LT = 195, LE = 198, GT = 201, GE = 204,
     HEAD = 240
@@ -49,7 +67,7 @@ static const uint8_t record_len[256] = {
     [JUMPFF] = 3, [JUMPTT] = 3,
     [WLOCAL] = 3, [PLOCAL] = 3, [WLOCALASS] = 3, [PLOCALASS] = 3,
     [WFIELD] = 3, [PFIELD] = 3, [WSET] = 3, [PSET] = 3, [FORM] = 5,
-    [LLINT] = 2, [LLWORD] = 5, [LNIL] = 1, [ROOT] = 1, [SETROOT] = 1,
+    [LLREAL] = 9, [LLINT] = 2, [LLWORD] = 5, [LNIL] = 1, [ROOT] = 1, [SETROOT] = 1,
     [WRETRACT] = 5, [PRETRACT] = 5, [RETRACT] = 5,
     [CALL] = 3, [RETURN] = 1,
     [WVECTOR] = 1, [PVECTOR] = 1, [WELEMENT] = 1, [PELEMENT] = 1,
@@ -57,6 +75,8 @@ static const uint8_t record_len[256] = {
     [EQW] = 1, [EQP] = 1,
     [PLUS] = 1, [TIMES] = 1, [MINUS] = 1, [DIV] = 1, [NEG] = 1, [REM] = 1,
     [NOT] = 1,
+    [RPLUS] = 1, [RTIMES] = 1, [RMINUS] = 1, [RDIV] = 1, [RLESS] = 1,
+    [SCALE] = 1,
     [ENTER] = 3, [EXIT] = 1, [RAISE] = 1,
     [LT] = 1, [LE] = 1, [GT] = 1, [GE] = 1,
     [HEAD] = HEAD_SIZE
@@ -314,6 +334,21 @@ static effect effect_of(const uint8_t *file, const layout *lay, size_t at)
     case NEG: case NOT:
         e.main_pop = 1;
         e.main_push = 1;
+        break;
+    case LLREAL: /* a real is two words, a point two reals (order 4) */
+        e.main_push = 2;
+        break;
+    case RPLUS: case RTIMES: case RMINUS: case RDIV:
+        e.main_pop = 4;
+        e.main_push = 2;
+        break;
+    case RLESS:
+        e.main_pop = 4;
+        e.main_push = 1;
+        break;
+    case SCALE: /* scale, shift, point */
+        e.main_pop = 10;
+        e.main_push = 4;
         break;
     default: /* FJUMP, BJUMP, RETURN, ENTER, EXIT */
         break;
@@ -844,6 +879,58 @@ static inline uint32_t find_element(const uint32_t *heap, size_t heap_len, uint3
     return 0;
 }
 
+/* ---- reals (order 4) ---- */
+
+/* A real is two words, the high word lower. */
+static inline double real_at(const uint32_t *list, size_t len, size_t at)
+{
+    uint64_t bits = (uint64_t)get(list, len, at) << 32 | get(list, len, at + 1);
+    double real;
+    memcpy(&real, &bits, sizeof real);
+    return real;
+}
+
+static inline uint64_t bits_of(double real)
+{
+    uint64_t bits;
+    memcpy(&bits, &real, sizeof bits);
+    return bits;
+}
+
+static inline void put_bits(uint32_t *list, size_t len, size_t at, uint64_t bits)
+{
+    put(list, len, at, (uint32_t)(bits >> 32));
+    put(list, len, at + 1, (uint32_t)bits);
+}
+
+/* Infinities and NaNs have all eleven bits of the exponent set. */
+static inline bool not_finite(uint64_t bits)
+{
+    return (bits >> 52 & 0x7ffu) == 0x7ffu;
+}
+
+/* 150 to 153: A op B. */
+static inline uint64_t real_result(uint32_t code, double a, double b)
+{
+    switch (code) {
+    case RPLUS:
+        return bits_of(a + b);
+    case RTIMES:
+        return bits_of(a * b);
+    case RMINUS:
+        return bits_of(a - b);
+    default:
+        return bits_of(a / b);
+    }
+}
+
+/* 156, one coordinate: product and sum are rounded once each, never fused. */
+static inline uint64_t scaled_and_shifted(double coordinate, double scale, double shift)
+{
+    double product = coordinate * scale;
+    return bits_of(product + shift);
+}
+
 /* ---- run ---- */
 
 ref_reply ref_run(const uint8_t *file, size_t file_len,
@@ -1102,6 +1189,15 @@ ref_reply ref_run(const uint8_t *file, size_t file_len,
             break;
         }
 
+        case LLREAL: /* any eight bytes */
+            push(main_stack, main_len, &mt,
+                 operand_at(file, file_len, place + 1) << 16
+                 | operand_at(file, file_len, place + 3));
+            push(main_stack, main_len, &mt,
+                 operand_at(file, file_len, place + 5) << 16
+                 | operand_at(file, file_len, place + 7));
+            place += 9;
+            break;
         case LLINT: {
             uint32_t b = byte_at(file, file_len, place + 1);
             push(main_stack, main_len, &mt, b < 128 ? b : b | 0xffffff00u);
@@ -1284,6 +1380,46 @@ ref_reply ref_run(const uint8_t *file, size_t file_len,
         case NOT: {
             uint32_t a = get(main_stack, main_len, mt - 1u);
             put(main_stack, main_len, mt - 1u, a == 0);
+            place += 1;
+            break;
+        }
+
+        /* 1: a result that is not finite */
+        case RPLUS: case RTIMES: case RMINUS: case RDIV: {
+            double b = real_at(main_stack, main_len, mt - 2u);
+            double a = real_at(main_stack, main_len, mt - 4u);
+            uint64_t c = real_result(file[place], a, b);
+            if (not_finite(c)) {
+                exception = REF_OUT_OF_RANGE;
+                goto raise;
+            }
+            cut(main_stack, main_len, &mt, mt - 2u);
+            put_bits(main_stack, main_len, mt - 2u, c);
+            place += 1;
+            break;
+        }
+        case RLESS: { /* a NaN is not less, and nothing is less than it */
+            double b = real_at(main_stack, main_len, mt - 2u);
+            double a = real_at(main_stack, main_len, mt - 4u);
+            cut(main_stack, main_len, &mt, mt - 3u);
+            put(main_stack, main_len, mt - 1u, a < b);
+            place += 1;
+            break;
+        }
+        /* from the bottom: point across, along, shift across, along, scale */
+        case SCALE: {
+            double scale = real_at(main_stack, main_len, mt - 2u);
+            uint64_t across = scaled_and_shifted(real_at(main_stack, main_len, mt - 10u), scale,
+                                                 real_at(main_stack, main_len, mt - 6u));
+            uint64_t along = scaled_and_shifted(real_at(main_stack, main_len, mt - 8u), scale,
+                                                real_at(main_stack, main_len, mt - 4u));
+            if (not_finite(across) || not_finite(along)) {
+                exception = REF_OUT_OF_RANGE;
+                goto raise;
+            }
+            cut(main_stack, main_len, &mt, mt - 6u);
+            put_bits(main_stack, main_len, mt - 4u, across);
+            put_bits(main_stack, main_len, mt - 2u, along);
             place += 1;
             break;
         }

@@ -475,7 +475,8 @@ static void test_start(void)
 static int body_of(int kind)
 {
     static const int none[] = { 57, 58, 59, 73, 80, 81, 82, 83, 84, 85, 130, 131, 140, 141, 142,
-                                143, 144, 145, 146, 161, 162, 195, 198, 201, 204 };
+                                143, 144, 145, 146, 150, 151, 152, 153, 155, 156, 161, 162, 195,
+                                198, 201, 204 };
     static const int two[] = { 1, 2, 3, 4, 5, 6, 20, 21, 22, 23, 30, 31, 32, 33, 72, 160 };
     static const int four[] = { 36, 56, 60, 62, 64 };
     for (size_t i = 0; i < sizeof none / sizeof none[0]; i++)
@@ -487,7 +488,7 @@ static int body_of(int kind)
     for (size_t i = 0; i < sizeof four / sizeof four[0]; i++)
         if (four[i] == kind)
             return 4;
-    return kind == 54 ? 1 : kind == 240 ? 6 : -1;
+    return kind == 54 ? 1 : kind == 240 ? 6 : kind == 53 ? 8 : -1;
 }
 
 static void test_file(void)
@@ -556,7 +557,7 @@ static void test_file(void)
     REFUSAL(3, 8, 240, 1, 0, 0, 0, 1, 0, 73, 99);
     REFUSAL(3, 10, HEAD0, 72, 0, 9, 1, 0);
     for (int kind = 0; kind < 256; kind++) {
-        uint8_t file[7 + 7] = { HEAD0, 0 };
+        uint8_t file[7 + 9] = { HEAD0, 0 };
         int body = body_of(kind);
         file[7] = (uint8_t)kind;
         if (body < 0) {
@@ -732,7 +733,7 @@ static void test_flow(void)
  * after, from need. Procedure 2 has a 1, b 2, r 3, s 1.
  */
 typedef struct {
-    uint8_t code[5];
+    uint8_t code[9];
     uint8_t size;
     uint8_t need_m, need_p, pop_m, pop_p, after_m, after_p;
 } depth_row;
@@ -756,6 +757,7 @@ static const depth_row depth_rows[] = {
     { { 33, 0, 2 }, 3, 0, 2, 0, 2, 0, 0 },
     { { 36, 0, 2, 0, 3 }, 5, 2, 3, 2, 3, 0, 1 },
     { { 36, 0, 0, 0, 0 }, 5, 0, 0, 0, 0, 0, 1 },
+    { { 53, 1, 2, 3, 4, 5, 6, 7, 8 }, 9, 0, 0, 0, 0, 2, 0 },
     { { 54, 9 }, 2, 0, 0, 0, 0, 1, 0 },
     { { 56, 1, 2, 3, 4 }, 5, 0, 0, 0, 0, 1, 0 },
     { { 57 }, 1, 0, 0, 0, 0, 0, 1 },
@@ -787,6 +789,12 @@ static const depth_row depth_rows[] = {
     { { 145 }, 1, 2, 0, 2, 0, 1, 0 },
     { { 144 }, 1, 1, 0, 1, 0, 1, 0 },
     { { 146 }, 1, 1, 0, 1, 0, 1, 0 },
+    { { 150 }, 1, 4, 0, 4, 0, 2, 0 },
+    { { 151 }, 1, 4, 0, 4, 0, 2, 0 },
+    { { 152 }, 1, 4, 0, 4, 0, 2, 0 },
+    { { 153 }, 1, 4, 0, 4, 0, 2, 0 },
+    { { 155 }, 1, 4, 0, 4, 0, 1, 0 },
+    { { 156 }, 1, 10, 0, 10, 0, 4, 0 },
 };
 
 static uint8_t most(int a, int b)
@@ -2324,8 +2332,8 @@ typedef struct {
 static rig before_code(int line, bool caught, words m, words p, words heap,
                        const uint8_t *code, size_t size)
 {
-    /* 7 the handler, the pushes, the code, bjump 3; the target: bjump 3 */
-    uint8_t f[64] = { 240, 0, 0, 0, 0, (uint8_t)(m.n + 1), (uint8_t)(p.n + 1) };
+    /* 7 the handler, the pushes, the code, bjump 3; the target: bjump 3; room for a real */
+    uint8_t f[64] = { 240, 0, 0, 0, 0, (uint8_t)(m.n + 2), (uint8_t)(p.n + 1) };
     size_t n = 7, target = 7 + 3 + 2 * m.n + p.n + size + 3;
     if (caught) {
         memcpy(f + n, (const uint8_t[]){ 160, 0, (uint8_t)target }, 3);
@@ -2339,7 +2347,7 @@ static rig before_code(int line, bool caught, words m, words p, words heap,
     n += size;
     for (int i = 0; i < (caught ? 2 : 1); i++, n += 3)
         memcpy(f + n, (const uint8_t[]){ 3, 0, 3 }, 3);
-    rig g = rig_new(f, n, 3 * n, m.n + 1, p.n + 1, 10, heap.n, REG_BYTES);
+    rig g = rig_new(f, n, 3 * n, m.n + 2, p.n + 1, 10, heap.n, REG_BYTES);
     uint32_t steps = (uint32_t)(m.n + p.n) + caught;
     expect(is(do_start(&g), REF_READY, 0, 0, 0), line, "ready");
     expect(is(do_run(&g, steps), REF_SPENT, 0, 0, steps), line, "the pushes");
@@ -3433,6 +3441,689 @@ static void test_file_and_state(void)
     test_sums_anew();
 }
 
+/* ---- order 4: reals ---- */
+
+/* Sign, eleven bits of exponent + 1023, 52 of fraction. */
+#define R0 0x0000000000000000u
+#define NEG_R0 0x8000000000000000u
+#define R1 0x3FF0000000000000u
+#define NEG_R1 0xBFF0000000000000u
+#define R2 0x4000000000000000u
+#define R_HALF 0x3FE0000000000000u
+#define R3 0x4008000000000000u
+#define R5 0x4014000000000000u
+#define R7 0x401C000000000000u
+#define R10 0x4024000000000000u
+#define R11 0x4026000000000000u
+#define R_TENTH 0x3FB999999999999Au
+#define R_FIFTH 0x3FC999999999999Au
+#define LARGEST 0x7FEFFFFFFFFFFFFFu      /* 2^1024 - 2^971 */
+#define NEG_LARGEST 0xFFEFFFFFFFFFFFFFu
+#define HALF_LAST 0x7C90000000000000u    /* 2^970, half of LARGEST's last place */
+#define BELOW_HALF_LAST 0x7C8FFFFFFFFFFFFFu
+#define INFINITE 0x7FF0000000000000u
+#define NEG_INFINITE 0xFFF0000000000000u
+#define QUIET 0x7FF8000000000000u
+#define SIGNALLING 0x7FF0000000000001u
+#define NORMAL 0x0010000000000000u       /* 2^-1022, the least normal one */
+#define SUBNORMAL(n) (0x0000000000000000u + (n)) /* n * 2^-1074, n below 2^52 */
+#define ABOVE_ONE 0x3FF0000002000000u    /* 1 + 2^-27 */
+#define BELOW_ONE 0x3FEFFFFFFC000000u    /* 1 - 2^-27 */
+#define POWER(n) ((uint64_t)((n) + 1023) << 52)
+#define NEGATIVE(bits) (0x8000000000000000u | (bits))
+
+/* A real's two words, the high one lower. */
+#define R(bits) (uint32_t)((bits) >> 32), (uint32_t)(bits)
+#define ONE_VIEW W(4, 2, VV, 2, 0)
+
+/* A op B, over a word 99; pointer stack and heap stay. */
+static void real_gives(int line, uint64_t a, uint8_t code, uint64_t b, uint64_t want)
+{
+    gives(line, W(99, R(a), R(b)), W(2), ONE_VIEW, W(99, R(want)), W(2), ONE_VIEW, &code, 1);
+}
+
+static void real_raises(int line, uint64_t a, uint8_t code, uint64_t b)
+{
+    raises(line, 1, W(99, R(a), R(b)), W(2), ONE_VIEW, &code, 1);
+}
+
+#define REAL(a, op, b, want) real_gives(__LINE__, a, op, b, want)
+#define REAL_RAISES(a, op, b) real_raises(__LINE__, a, op, b)
+/* A and B either way round. */
+#define REALS(a, op, b, want) (REAL(a, op, b, want), REAL(b, op, a, want))
+#define REALS_RAISE(a, op, b) (REAL_RAISES(a, op, b), REAL_RAISES(b, op, a))
+
+static void test_real_sums(void)
+{
+    REALS(R_TENTH, 150, R_FIFTH, 0x3FD3333333333334u);
+    REALS(R1, 150, R2, R3);
+    REALS(R2, 150, R3, R5);
+    REALS(R5, 150, NEGATIVE(R2), R3);
+    REAL(R5, 152, R2, R3);
+    REAL(R2, 152, R5, NEGATIVE(R3));
+    REAL(R3, 152, NEGATIVE(R2), R5);
+    /* low words that carry and borrow: 1 + (2^32 - 1) * 2^-52 and its neighbour */
+    REALS(0x3FF00000FFFFFFFFu, 150, POWER(-52), 0x3FF0000100000000u);
+    REAL(0x3FF0000100000000u, 152, POWER(-52), 0x3FF00000FFFFFFFFu);
+
+    /* ties go to the even one: 2^-53 is half of 1's last place */
+    REALS(R1, 150, POWER(-53), R1);
+    REALS(R1, 150, POWER(-53) + 1, R1 + 1);
+    REALS(R1 + 1, 150, POWER(-53), R1 + 2);
+    REALS(R1 + 1, 150, POWER(-53) - 1, R1 + 1);
+    REALS(NEG_R1, 150, NEGATIVE(POWER(-53)), NEG_R1);
+    REALS(NEG_R1 + 1, 150, NEGATIVE(POWER(-53)), NEG_R1 + 2);
+    /* 2^53 + 1 and 2^53 + 3 lie halfway */
+    REALS(POWER(53), 150, R1, POWER(53));
+    REALS(POWER(53), 150, R3, POWER(53) + 2);
+    /* below 1 the last place is 2^-53 */
+    REAL(R1, 152, POWER(-53), R1 - 1);
+    REAL(R1, 152, POWER(-54), R1);
+    REAL(R1, 152, POWER(-54) + 1, R1 - 1);
+    REAL(R1 - 1, 152, POWER(-54), R1 - 2);
+    REAL(NEG_R1, 152, NEGATIVE(POWER(-54)), NEG_R1);
+    REAL(NEG_R1 + 1, 152, POWER(-53), NEG_R1 + 2);
+}
+
+static void test_real_products(void)
+{
+    REALS(R2, 151, R3, 0x4018000000000000u);
+    REALS(R2, 151, NEGATIVE(R3), 0xC018000000000000u);
+    REAL(NEGATIVE(R2), 151, NEGATIVE(R3), 0x4018000000000000u);
+    REALS(R_TENTH, 151, R2, R_FIFTH);
+    /* 10 * 0.1 is 1 + 2^-54 (5 * 0x1999999999999A is 2^55 + 2): 1 */
+    REALS(R10, 151, R_TENTH, R1);
+    /* (1 + 2^-27) ^ 2 = 1 + 2^-26 + 2^-54, a quarter of the last place is lost */
+    REAL(ABOVE_ONE, 151, ABOVE_ONE, 0x3FF0000004000000u);
+    /* 1 - 2^-54, halfway between 1 - 2^-53 and 1 */
+    REALS(ABOVE_ONE, 151, BELOW_ONE, R1);
+    /* 1 - 2^-26 + 2^-54, halfway again: down this time */
+    REAL(BELOW_ONE, 151, BELOW_ONE, 0x3FEFFFFFF8000000u);
+    /* 1.5 * (1 + 2^-52), halfway up from 1.5 + 2^-52; 1.5 * (1 + 3 * 2^-52) halfway down to 4 */
+    REALS(0x3FF8000000000000u, 151, R1 + 1, 0x3FF8000000000002u);
+    REALS(0x3FF8000000000000u, 151, R1 + 3, 0x3FF8000000000004u);
+    /* (1 + 2^-26) * (1 + 2^-27 + 2^-51): 2^-77 above halfway, up though the lower one is even */
+    REALS(0x3FF0000004000000u, 151, 0x3FF0000002000002u, 0x3FF0000006000003u);
+
+    REAL(R1, 153, R2, R_HALF);
+    REAL(R2, 153, R1, R2);
+    REAL(NEG_R1, 153, R2, NEGATIVE(R_HALF));
+    REAL(NEG_R1, 153, NEGATIVE(R2), R_HALF);
+    REAL(R1, 153, R3, 0x3FD5555555555555u); /* 0101... goes down */
+    REAL(R2, 153, R3, 0x3FE5555555555555u);
+    REAL(NEG_R1, 153, R3, 0xBFD5555555555555u);
+    REAL(R1, 153, R10, R_TENTH); /* 1001 1001... goes up */
+    REAL(R2, 153, R10, R_FIFTH);
+    REAL(R1, 153, R5, R_FIFTH);
+    REAL(LARGEST, 153, LARGEST, R1);
+    REAL(R5, 153, NEGATIVE(R5), NEG_R1);
+    /* 1 / (1 - 2^-53) = 1 + 2^-53 + 2^-106 + ..., a little above halfway */
+    REAL(R1, 153, R1 - 1, R1 + 1);
+}
+
+/* 2^1024 - 2^970, half a last place above the largest, is the first to go out of range. */
+static void test_real_range(void)
+{
+    REAL_RAISES(LARGEST, 150, LARGEST);
+    REAL_RAISES(NEG_LARGEST, 150, NEG_LARGEST);
+    REALS_RAISE(LARGEST, 151, R2);
+    REALS_RAISE(LARGEST, 151, NEGATIVE(R2));
+    REAL_RAISES(LARGEST, 151, LARGEST);
+    REAL_RAISES(LARGEST, 152, NEG_LARGEST);
+    REAL_RAISES(NEG_LARGEST, 152, LARGEST);
+    REAL_RAISES(LARGEST, 153, R_HALF);
+
+    REALS_RAISE(LARGEST, 150, HALF_LAST);
+    REALS(LARGEST, 150, BELOW_HALF_LAST, LARGEST);
+    REALS_RAISE(NEG_LARGEST, 150, NEGATIVE(HALF_LAST));
+    REALS(NEG_LARGEST, 150, NEGATIVE(BELOW_HALF_LAST), NEG_LARGEST);
+    REAL_RAISES(LARGEST, 152, NEGATIVE(HALF_LAST));
+    REAL(LARGEST, 152, NEGATIVE(BELOW_HALF_LAST), LARGEST);
+    REAL_RAISES(NEG_LARGEST, 152, HALF_LAST);
+    REAL(NEG_LARGEST, 152, BELOW_HALF_LAST, NEG_LARGEST);
+    REALS(LARGEST, 150, R1, LARGEST);
+    REALS(LARGEST - 1, 150, POWER(971), LARGEST);
+    REAL(LARGEST, 152, POWER(971), LARGEST - 1);
+
+    /* 2^1023 * (2 - 2^-52) */
+    REALS(POWER(1023), 151, R2 - 1, LARGEST);
+    REALS(POWER(1023), 151, NEGATIVE(R2 - 1), NEG_LARGEST);
+    REALS_RAISE(POWER(1023), 151, R2);
+    /* 2^1024 * (1 + 2^-27) * (1 - 2^-27) is 2^1024 - 2^970 */
+    REALS_RAISE(0x7FE0000002000000u, 151, 0x3FFFFFFFFC000000u);
+    /* with 2^-53 less on the right: 2^1024 * (1 - 3 * 2^-54 - 2^-80) */
+    REALS(0x7FE0000002000000u, 151, 0x3FFFFFFFFBFFFFFFu, LARGEST - 1);
+    /* 2^1024 by division: the largest by 1 - 2^-53, 2^1023 by a half */
+    REAL_RAISES(LARGEST, 153, R1 - 1);
+    REAL_RAISES(POWER(1023), 153, R_HALF);
+    REAL(POWER(1022), 153, R_HALF, POWER(1023));
+    REAL_RAISES(R1, 153, SUBNORMAL(1));
+    REAL(R1, 153, NORMAL, POWER(1022));
+}
+
+static void test_real_zeros(void)
+{
+    REALS(NEG_R0, 150, R0, R0);
+    REAL(NEG_R0, 150, NEG_R0, NEG_R0);
+    REAL(R0, 150, R0, R0);
+    REAL(NEG_R0, 152, R0, NEG_R0);
+    REAL(R0, 152, NEG_R0, R0);
+    REAL(R0, 152, R0, R0);
+    REAL(NEG_R0, 152, NEG_R0, R0);
+    /* x - x and x + -x are +0 */
+    REAL(R1, 152, R1, R0);
+    REAL(NEG_R1, 152, NEG_R1, R0);
+    REAL(R_TENTH, 152, R_TENTH, R0);
+    REALS(R_TENTH, 150, NEGATIVE(R_TENTH), R0);
+    REAL(LARGEST, 152, LARGEST, R0);
+    REAL(SUBNORMAL(1), 152, SUBNORMAL(1), R0);
+    REALS(NEG_R0, 150, R1, R1);
+    REAL(NEG_R0, 152, R1, NEG_R1);
+
+    REALS(R0, 151, NEG_R1, NEG_R0);
+    REALS(NEG_R0, 151, NEG_R1, R0);
+    REALS(NEG_R0, 151, R1, NEG_R0);
+    REALS(R0, 151, NEG_R0, NEG_R0);
+    REAL(NEG_R0, 151, NEG_R0, R0);
+    REALS(LARGEST, 151, R0, R0);
+
+    REAL(R0, 153, R5, R0);
+    REAL(R0, 153, NEGATIVE(R5), NEG_R0);
+    REAL(NEG_R0, 153, R5, NEG_R0);
+    REAL(NEG_R0, 153, NEGATIVE(R5), R0);
+    /* only results are tested */
+    REAL(R1, 153, INFINITE, R0);
+    REAL(R1, 153, NEG_INFINITE, NEG_R0);
+    REAL(NEG_R1, 153, INFINITE, NEG_R0);
+    REAL(NEG_R1, 153, NEG_INFINITE, R0);
+    REAL(R0, 153, INFINITE, R0);
+    REAL(LARGEST, 153, NEG_INFINITE, NEG_R0);
+}
+
+/* A result below 2^-1022 is rounded to a multiple of 2^-1074; no exception. */
+static void test_subnormals(void)
+{
+    REALS(SUBNORMAL(1), 150, SUBNORMAL(2), SUBNORMAL(3));
+    REALS(0x000FFFFFFFFFFFFFu, 150, SUBNORMAL(1), NORMAL);
+    REAL(NORMAL, 152, SUBNORMAL(1), 0x000FFFFFFFFFFFFFu);
+    REAL(SUBNORMAL(5), 152, SUBNORMAL(7), NEGATIVE(SUBNORMAL(2)));
+    REAL(NORMAL + 1, 152, NORMAL, SUBNORMAL(1));
+    REALS(R1, 150, SUBNORMAL(1), R1);
+    /* halves: 1/2, 3/2, 5/2 last places lie halfway */
+    REALS(SUBNORMAL(1), 151, R_HALF, R0);
+    REALS(NEGATIVE(SUBNORMAL(1)), 151, R_HALF, NEG_R0);
+    REALS(SUBNORMAL(3), 151, R_HALF, SUBNORMAL(2));
+    REALS(SUBNORMAL(5), 151, R_HALF, SUBNORMAL(2));
+    REALS(SUBNORMAL(2), 151, R_HALF, SUBNORMAL(1));
+    REAL(SUBNORMAL(1), 153, R2, R0);
+    REAL(SUBNORMAL(3), 153, R2, SUBNORMAL(2));
+    REAL(SUBNORMAL(5), 153, NEGATIVE(R2), NEGATIVE(SUBNORMAL(2)));
+    REAL(SUBNORMAL(4), 153, R3, SUBNORMAL(1));
+    REAL(SUBNORMAL(5), 153, R3, SUBNORMAL(2));
+    /* (2^52 + 1) / 2 and (2^52 + 3) / 2; 2^52 - 1/2 goes up to the least normal one */
+    REALS(NORMAL, 151, R_HALF, 0x0008000000000000u);
+    REALS(NORMAL + 1, 151, R_HALF, 0x0008000000000000u);
+    REALS(NORMAL + 3, 151, R_HALF, 0x0008000000000002u);
+    REALS(NORMAL, 151, R1 - 1, NORMAL);
+    REALS(NORMAL, 151, R1 - 2, 0x000FFFFFFFFFFFFFu);
+    /* 2^-1074, 2^-1075 and a little more than that */
+    REAL(POWER(-537), 151, POWER(-537), SUBNORMAL(1));
+    REALS(POWER(-538), 151, POWER(-537), R0);
+    REALS(POWER(-538) + 1, 151, POWER(-537), SUBNORMAL(1));
+    REALS(NEGATIVE(POWER(-538)), 151, POWER(-537), NEG_R0);
+    REAL(SUBNORMAL(1), 151, SUBNORMAL(1), R0);
+    REALS(SUBNORMAL(1), 151, NEGATIVE(SUBNORMAL(1)), NEG_R0);
+    REALS(SUBNORMAL(1), 151, POWER(1023), POWER(-51));
+    /* 2^-1024 * (1 + 2^-53 + ...): an eighth of 2^-1074 is lost */
+    REAL(R1, 153, LARGEST, 0x0004000000000000u);
+    REAL(SUBNORMAL(1), 153, SUBNORMAL(1), R1);
+}
+
+static void test_not_finite(void)
+{
+    static const uint64_t nans[] = { QUIET, NEGATIVE(QUIET), SIGNALLING, NEGATIVE(SIGNALLING),
+                                     0x7FFFFFFFFFFFFFFFu, 0x7FF4000000000000u };
+    static const uint64_t others[] = { R0, NEG_R0, R1, INFINITE, NEG_INFINITE, QUIET };
+    REAL_RAISES(R0, 153, R0);
+    REAL_RAISES(R0, 153, NEG_R0);
+    REAL_RAISES(R1, 153, R0);
+    REAL_RAISES(R1, 153, NEG_R0);
+    REAL_RAISES(NEG_R1, 153, R0);
+    REAL_RAISES(INFINITE, 153, R0);
+    REAL_RAISES(INFINITE, 153, R1);
+    REAL_RAISES(INFINITE, 153, INFINITE);
+    REAL_RAISES(NEG_INFINITE, 153, INFINITE);
+    REAL_RAISES(INFINITE, 152, INFINITE);
+    REAL_RAISES(NEG_INFINITE, 152, NEG_INFINITE);
+    REAL_RAISES(INFINITE, 152, NEG_INFINITE);
+    REAL_RAISES(INFINITE, 152, R1);
+    REAL_RAISES(R1, 152, INFINITE);
+    REALS_RAISE(INFINITE, 150, NEG_INFINITE);
+    REAL_RAISES(INFINITE, 150, INFINITE);
+    REALS_RAISE(INFINITE, 150, R1);
+    REALS_RAISE(NEG_INFINITE, 150, LARGEST);
+    REALS_RAISE(R0, 151, INFINITE);
+    REALS_RAISE(NEG_R0, 151, NEG_INFINITE);
+    REALS_RAISE(INFINITE, 151, NEG_R1);
+    REAL_RAISES(INFINITE, 151, INFINITE);
+    for (size_t i = 0; i < sizeof nans / sizeof nans[0]; i++)
+        for (size_t k = 0; k < sizeof others / sizeof others[0]; k++)
+            for (uint8_t code = 150; code <= 153; code++)
+                REALS_RAISE(nans[i], code, others[k]);
+}
+
+/* ---- order 4: less ---- */
+
+static void real_less(int line, uint64_t a, uint64_t b, uint32_t want)
+{
+    gives(line, W(99, R(a), R(b)), W(2), ONE_VIEW, W(99, want), W(2), ONE_VIEW, BYTES(155));
+}
+
+#define IS_LESS(a, b) (real_less(__LINE__, a, b, 1), real_less(__LINE__, b, a, 0))
+#define NEITHER_LESS(a, b) (real_less(__LINE__, a, b, 0), real_less(__LINE__, b, a, 0))
+
+static void test_less(void)
+{
+    static const uint64_t nans[] = { QUIET, NEGATIVE(QUIET), SIGNALLING, 0xFFFFFFFFFFFFFFFFu };
+    /* rising: each is less than all that follow */
+    static const uint64_t rising[] = {
+        NEG_INFINITE, NEG_LARGEST, NEGATIVE(R2), NEG_R1 + 1, NEG_R1, NEGATIVE(NORMAL),
+        NEGATIVE(SUBNORMAL(2)), NEGATIVE(SUBNORMAL(1)), R0, SUBNORMAL(1), SUBNORMAL(2), NORMAL,
+        R_TENTH, 0x3FD3333333333333u, 0x3FD3333333333334u, R1, 0x3FF000007FFFFFFFu,
+        0x3FF0000080000000u, 0x3FF00000FFFFFFFFu, 0x3FF0000100000000u, R2, LARGEST, INFINITE
+    };
+    size_t n = sizeof rising / sizeof rising[0];
+    for (size_t i = 0; i < n; i++) {
+        NEITHER_LESS(rising[i], rising[i]);
+        for (size_t k = i + 1; k < n; k++)
+            IS_LESS(rising[i], rising[k]);
+        for (size_t k = 0; k < sizeof nans / sizeof nans[0]; k++)
+            NEITHER_LESS(rising[i], nans[k]);
+    }
+    for (size_t i = 0; i < sizeof nans / sizeof nans[0]; i++)
+        for (size_t k = 0; k < sizeof nans / sizeof nans[0]; k++)
+            NEITHER_LESS(nans[i], nans[k]);
+    NEITHER_LESS(NEG_R0, R0);
+    NEITHER_LESS(NEG_R0, NEG_R0);
+    IS_LESS(NEG_R0, SUBNORMAL(1));
+    IS_LESS(NEGATIVE(SUBNORMAL(1)), NEG_R0);
+    NEITHER_LESS(NEG_R0, QUIET);
+}
+
+/* ---- order 4: 53 ---- */
+
+/* Any eight bytes at all, highest first: the high word lies lower. */
+static void real_pushed(int line, uint64_t bits)
+{
+    uint8_t code[9] = { 53 };
+    for (int i = 0; i < 8; i++)
+        code[1 + i] = (uint8_t)(bits >> (56 - 8 * i));
+    gives(line, NO_WORDS, W(2), ONE_VIEW, W(R(bits)), W(2), ONE_VIEW, code, 9);
+    gives(line, W(98, 99), W(2), ONE_VIEW, W(98, 99, R(bits)), W(2), ONE_VIEW, code, 9);
+}
+
+#define PUSHED(bits) real_pushed(__LINE__, bits)
+
+static void test_push_real(void)
+{
+    GIVES_STEP(W(99), NO_WORDS, W(2, 0), W(99, 0x01234567, 0x89ABCDEF), NO_WORDS, W(2, 0),
+               53, 0x01, 0x23, 0x45, 0x67, 0x89, 0xAB, 0xCD, 0xEF);
+    GIVES_STEP(W(99), NO_WORDS, W(2, 0), W(99, 0x3FB99999, 0x9999999A), NO_WORDS, W(2, 0),
+               53, 0x3F, 0xB9, 0x99, 0x99, 0x99, 0x99, 0x99, 0x9A);
+    PUSHED(R0);
+    PUSHED(NEG_R0);
+    PUSHED(R1);
+    PUSHED(LARGEST);
+    PUSHED(SUBNORMAL(1));
+    PUSHED(0x800FFFFFFFFFFFFFu);
+    PUSHED(INFINITE);
+    PUSHED(NEG_INFINITE);
+    /* NaNs keep sign, quiet bit and payload */
+    PUSHED(QUIET);
+    PUSHED(NEGATIVE(QUIET));
+    PUSHED(0x7FF8000000000001u);
+    PUSHED(0x7FFDEADBEEF01234u);
+    PUSHED(SIGNALLING);
+    PUSHED(NEGATIVE(SIGNALLING));
+    PUSHED(0x7FF4123456789ABCu);
+    PUSHED(0xFFF7FFFFFFFFFFFFu);
+    PUSHED(0x7FF0000080000000u);
+    PUSHED(0xFFFFFFFFFFFFFFFFu);
+    /* bytes that look like codes */
+    PUSHED(0xF0F0F0F0F0F0F0F0u);
+    PUSHED(0x4949494949494949u);
+    PUSHED(0x3535353535353535u);
+    PUSHED(0xA0A1A2F034364801u);
+    /* each byte in its place */
+    for (int i = 0; i < 64; i++)
+        PUSHED((uint64_t)1 << i);
+}
+
+/* ---- order 4: hoop points ---- */
+
+typedef struct {
+    uint64_t across, along;
+} hoop_point;
+
+#define POINT(across, along) ((hoop_point){ across, along })
+#define ON_STACK(p, t, k) \
+    W(99, R((p).across), R((p).along), R((t).across), R((t).along), R(k))
+
+static void hoop_gives(int line, hoop_point p, hoop_point shift, uint64_t scale, hoop_point want)
+{
+    gives(line, ON_STACK(p, shift, scale), W(2), ONE_VIEW,
+          W(99, R(want.across), R(want.along)), W(2), ONE_VIEW, BYTES(156));
+}
+
+/* The two coordinates change places: neither is treated otherwise. */
+static void hoop_turned(int line, hoop_point p, hoop_point shift, uint64_t scale, hoop_point want)
+{
+    hoop_gives(line, p, shift, scale, want);
+    hoop_gives(line, POINT(p.along, p.across), POINT(shift.along, shift.across), scale,
+               POINT(want.along, want.across));
+}
+
+static void hoop_raises(int line, hoop_point p, hoop_point shift, uint64_t scale)
+{
+    hoop_point turned = POINT(p.along, p.across), shift_turned = POINT(shift.along, shift.across);
+    raises(line, 1, ON_STACK(p, shift, scale), W(2), ONE_VIEW, BYTES(156));
+    raises(line, 1, ON_STACK(turned, shift_turned, scale), W(2), ONE_VIEW, BYTES(156));
+}
+
+#define HOOP(p, t, k, want) hoop_turned(__LINE__, p, t, k, want)
+#define HOOP_RAISES(p, t, k) hoop_raises(__LINE__, p, t, k)
+
+static void test_hoop_points(void)
+{
+    /* (3, 5) * 2 + (7, 11) = (13, 21), word by word from the bottom */
+    GIVES_STEP(W(99, 0x40080000, 0, 0x40140000, 0, 0x401C0000, 0, 0x40260000, 0, 0x40000000, 0),
+               NO_WORDS, W(2, 0), W(99, 0x402A0000, 0, 0x40350000, 0), NO_WORDS, W(2, 0), 156);
+    HOOP(POINT(R3, R5), POINT(R7, R11), R2,
+         POINT(0x402A000000000000u, 0x4035000000000000u));
+    /* by -2: (1, 1); by a half: (8.5, 13.5) */
+    HOOP(POINT(R3, R5), POINT(R7, R11), NEGATIVE(R2), POINT(R1, R1));
+    HOOP(POINT(R3, R5), POINT(R7, R11), R_HALF,
+         POINT(0x4021000000000000u, 0x402B000000000000u));
+    /* 0.1 * 2 + 0.1; 0.2 * 2 - 0.2 */
+    HOOP(POINT(R_TENTH, R_FIFTH), POINT(R_TENTH, NEGATIVE(R_FIFTH)), R2,
+         POINT(0x3FD3333333333334u, R_FIFTH));
+    /* a scale of 0: the shift; +0 + -0 = +0, -0 + -0 = -0 */
+    HOOP(POINT(R3, R5), POINT(R7, R11), R0, POINT(R7, R11));
+    HOOP(POINT(R3, NEGATIVE(R5)), POINT(NEG_R0, NEG_R0), R0, POINT(R0, NEG_R0));
+    HOOP(POINT(R3, R5), POINT(NEG_R0, R0), NEG_R0, POINT(NEG_R0, R0));
+    HOOP(POINT(R0, NEG_R0), POINT(NEG_R0, NEG_R0), NEG_R1, POINT(NEG_R0, R0));
+    HOOP(POINT(R3, R5), POINT(NEGATIVE(R3), NEGATIVE(R5)), R1, POINT(R0, R0));
+    /* subnormals, and the largest one just not passed */
+    HOOP(POINT(SUBNORMAL(1), SUBNORMAL(3)), POINT(SUBNORMAL(4), R0), R_HALF,
+         POINT(SUBNORMAL(4), SUBNORMAL(2)));
+    HOOP(POINT(LARGEST, NEG_LARGEST), POINT(BELOW_HALF_LAST, NEGATIVE(BELOW_HALF_LAST)), R1,
+         POINT(LARGEST, NEG_LARGEST));
+    HOOP(POINT(POWER(1023), R1), POINT(NEG_LARGEST, R0), R2 - 1, POINT(R0, R2 - 1));
+}
+
+/* Product and sum are rounded once each: fused, all but one of these would come out otherwise. */
+static void test_hoop_rounding(void)
+{
+    /* the product 1 - 2^-54 is rounded to 1, 1 - 2^-26 + 2^-54 to 1 - 2^-26 */
+    HOOP(POINT(ABOVE_ONE, BELOW_ONE), POINT(NEG_R1, 0xBFEFFFFFF8000000u), BELOW_ONE,
+         POINT(R0, R0));
+    /* 1 + (2^-53 and a little) goes up; with 2^-54 less it would go down */
+    HOOP(POINT(ABOVE_ONE, R1), POINT(POWER(-53) + 1, R0), BELOW_ONE,
+         POINT(R1 + 1, BELOW_ONE));
+    /* 1 + 2^-26 + 2^-53 goes to the even one; with 2^-54 more it would go up */
+    HOOP(POINT(ABOVE_ONE, R1), POINT(POWER(-53), R0), ABOVE_ONE,
+         POINT(0x3FF0000004000000u, ABOVE_ONE));
+    /* 2^-1075 is rounded to 0 before 2^-1074 is added, 3 * 2^-1075 to 2^-1073 */
+    HOOP(POINT(POWER(-538), POWER(-538)), POINT(SUBNORMAL(1), R0), POWER(-537),
+         POINT(SUBNORMAL(1), R0));
+    HOOP(POINT(SUBNORMAL(3), SUBNORMAL(1)), POINT(SUBNORMAL(1), SUBNORMAL(1)), R_HALF,
+         POINT(SUBNORMAL(3), SUBNORMAL(1)));
+    /* 10 * 0.1 - 1: the product's 2^-54 is lost */
+    HOOP(POINT(R_TENTH, R1), POINT(NEG_R1, NEG_R0), R10, POINT(R0, R10));
+    /* once, not to more places first: 2^-77 above halfway */
+    HOOP(POINT(0x3FF0000004000000u, R1), POINT(R0, R0), 0x3FF0000002000002u,
+         POINT(0x3FF0000006000003u, 0x3FF0000002000002u));
+    /* the doubled largest is not brought back by the sum */
+    HOOP_RAISES(POINT(LARGEST, R1), POINT(NEG_LARGEST, R1), R2);
+    /* nor 2^1024 - 2^970, which is rounded to 2^1024 */
+    HOOP_RAISES(POINT(0x7FE0000002000000u, R1), POINT(NEGATIVE(HALF_LAST), R1),
+                0x3FFFFFFFFC000000u);
+}
+
+static void test_hoop_range(void)
+{
+    /* one coordinate alone: its product, its sum */
+    HOOP_RAISES(POINT(LARGEST, R3), POINT(R7, R11), R2);
+    HOOP_RAISES(POINT(LARGEST, R3), POINT(LARGEST, R11), R1);
+    HOOP_RAISES(POINT(LARGEST, R3), POINT(HALF_LAST, R11), R1);
+    HOOP_RAISES(POINT(NEG_LARGEST, R3), POINT(NEGATIVE(HALF_LAST), R11), R1);
+    /* both */
+    HOOP_RAISES(POINT(LARGEST, NEG_LARGEST), POINT(R7, R11), R2);
+    /* an infinite product and an infinite shift against it: a NaN */
+    HOOP_RAISES(POINT(LARGEST, R3), POINT(NEG_INFINITE, R11), R2);
+    HOOP_RAISES(POINT(LARGEST, R3), POINT(INFINITE, R11), R2);
+    HOOP_RAISES(POINT(INFINITE, R3), POINT(NEG_INFINITE, R11), R1);
+    /* infinities and NaNs among the five reals */
+    HOOP_RAISES(POINT(INFINITE, R3), POINT(R7, R11), R2);
+    HOOP_RAISES(POINT(INFINITE, R3), POINT(R7, R11), R0);
+    HOOP_RAISES(POINT(R2, R3), POINT(INFINITE, R11), R2);
+    HOOP_RAISES(POINT(R2, R3), POINT(NEG_INFINITE, R11), R0);
+    HOOP_RAISES(POINT(R2, R3), POINT(R7, R11), INFINITE);
+    HOOP_RAISES(POINT(R0, R0), POINT(R7, R11), NEG_INFINITE);
+    HOOP_RAISES(POINT(QUIET, R3), POINT(R7, R11), R2);
+    HOOP_RAISES(POINT(SIGNALLING, R3), POINT(R7, R11), R0);
+    HOOP_RAISES(POINT(R2, R3), POINT(QUIET, R11), R2);
+    HOOP_RAISES(POINT(R2, R3), POINT(NEGATIVE(SIGNALLING), R11), R0);
+    HOOP_RAISES(POINT(R2, R3), POINT(R7, R11), QUIET);
+    HOOP_RAISES(POINT(R0, R0), POINT(R0, R0), SIGNALLING);
+}
+
+/* ---- order 4: the checker ---- */
+
+#define BODY(b) b, b, b, b, b, b, b, b
+#define ONE_BYTES 0x3F, 0xF0, 0, 0, 0, 0, 0, 0
+#define LARGEST_BYTES 0x7F, 0xEF, 255, 255, 255, 255, 255, 255
+
+static void test_real_records(void)
+{
+    /* 7 53; 16 73: bytes of a body are no records */
+    entry two_words[] = { { 7, 0, 0, N }, { 16, 2, 0, N } };
+    MAP(two_words, 240, 0, 0, 2, 0, 2, 0, 53, BODY(240), 73);
+    MAP(two_words, 240, 0, 0, 2, 0, 2, 0, 53, BODY(99), 73);
+    MAP(two_words, 240, 0, 0, 2, 0, 2, 0, 53, BODY(255), 73);
+    MAP(two_words, 240, 0, 0, 2, 0, 2, 0, 53, BODY(73), 73);
+    MAP(two_words, 240, 0, 0, 2, 0, 2, 0, 53, BODY(53), 73);
+    BENCH("finished steps=2 main=-252645136,-252645136", 240, 0, 0, 2, 0, 2, 0, 53, BODY(240), 73);
+    /* nor are 240s in it heads: 7 53; 16 72 1; 19 73 */
+    REFUSAL(5, 16, 240, 0, 0, 2, 0, 2, 0, 53, BODY(240), 72, 0, 1, 73);
+
+    /* cut short, at its place: one byte to eight bytes missing, behind another one too */
+    const uint8_t cut[] = { 240, 0, 0, 4, 0, 4, 0, 53, BODY(240), 53, BODY(73), 73 };
+    for (size_t len = 8; len < 16; len++)
+        expect_refusal(__LINE__, 3, 7, cut, len);
+    for (size_t len = 17; len < 25; len++)
+        expect_refusal(__LINE__, 3, 16, cut, len);
+    expect_refusal(__LINE__, 6, 7, cut, 16);
+    expect_refusal(__LINE__, 6, 16, cut, 25);
+    expect_passes(__LINE__, cut, 26);
+    /* a body of seven takes the 73 behind it */
+    REFUSAL(6, 7, 240, 0, 0, 2, 0, 2, 0, 53, 1, 2, 3, 4, 5, 6, 7, 73);
+    REFUSAL(3, 17, 240, 0, 0, 2, 0, 2, 0, 53, 1, 2, 3, 4, 5, 6, 7, 8, 73, 9);
+
+    /* 154 and the neighbours are unknown */
+    REFUSAL(3, 7, 240, 0, 0, 0, 0, 4, 0, 154, 73);
+    REFUSAL(3, 7, 240, 0, 0, 0, 0, 4, 0, 149, 73);
+    REFUSAL(3, 7, 240, 0, 0, 0, 0, 4, 0, 157, 73);
+    REFUSAL(3, 7, 240, 0, 0, 0, 0, 4, 0, 52, 73);
+    REFUSAL(3, 7, 240, 0, 0, 0, 0, 4, 0, 55, 73);
+    REFUSAL(3, 16, 240, 0, 0, 2, 0, 2, 0, 53, BODY(1), 154, 73);
+}
+
+/* 15 the code as the last instruction: 6, even with too few words. */
+static void test_real_last(void)
+{
+    static const uint8_t codes[] = { 150, 151, 152, 153, 155, 156 };
+    REFUSAL(6, 7, 240, 0, 0, 0, 0, 2, 0, 53, BODY(0));
+    REFUSAL(6, 7, 240, 0, 0, 0, 0, 1, 0, 53, BODY(0));
+    REFUSAL(6, 7, HEAD0, 53, BODY(0), HEAD0, 73);
+    for (size_t i = 0; i < sizeof codes; i++)
+        for (uint8_t a = 0; a <= 11; a++) {
+            uint8_t f[24] = { HEAD0, 73, 240, a, 0, 0, 0, 11, 0, codes[i], HEAD0, 73 };
+            expect_refusal(__LINE__, 6, 15, f, 16);
+            expect_refusal(__LINE__, 6, 15, f, 24);
+        }
+}
+
+/* 7 fjump s; 10 53, body 11 to 18; 19 bjump t; 22 the end. A body is no place to go to. */
+static void test_real_targets(void)
+{
+    for (uint8_t s = 0; s <= 9; s++) {
+        uint8_t f[] = { 240, 0, 0, 0, 0, 2, 0, 1, 0, s, 53, BODY(73), 3, 0, 3 };
+        if (s == 0)
+            expect_passes(__LINE__, f, sizeof f);
+        else if (s < 9)
+            expect_refusal(__LINE__, 5, 7, f, sizeof f);
+        else
+            expect_refusal(__LINE__, 6, 10, f, sizeof f); /* passed over */
+    }
+    for (uint8_t t = 3; t <= 12; t++) {
+        uint8_t f[] = { 240, 0, 0, 0, 0, 2, 0, 1, 0, 0, 53, BODY(240), 3, 0, t };
+        if (t == 3)
+            expect_passes(__LINE__, f, sizeof f);
+        else if (t < 12)
+            expect_refusal(__LINE__, 5, 19, f, sizeof f);
+        else
+            expect_refusal(__LINE__, 9, 19, f, sizeof f); /* 10 has depth 0 */
+    }
+    /* 7 160 -> h; 10 53; 19 161; 20 bjump 3; 23 bjump 3 */
+    for (uint8_t h = 11; h <= 18; h++)
+        REFUSAL(5, 7, 240, 0, 0, 0, 0, 3, 0, 160, 0, h, 53, BODY(3), 161, 3, 0, 3, 3, 0, 3);
+    PASSES(240, 0, 0, 0, 0, 3, 0, 160, 0, 23, 53, BODY(3), 161, 3, 0, 3, 3, 0, 3);
+}
+
+/* 15 the code, then bjump 3, from depth a with x. */
+static void expect_depth(int line, uint8_t code, int a, int x, bool passes)
+{
+    uint8_t f[] = { HEAD0, 73, 240, (uint8_t)a, 0, 0, 0, (uint8_t)x, 0, code, 3, 0, 3 };
+    if (passes)
+        expect_passes(line, f, sizeof f);
+    else
+        expect_refusal(line, 7, 15, f, sizeof f);
+}
+
+static void test_real_depths(void)
+{
+    static const uint8_t codes[] = { 150, 151, 152, 153, 155, 156 };
+    for (size_t i = 0; i < sizeof codes; i++) {
+        int need = codes[i] == 156 ? 10 : 4;
+        for (int a = 0; a <= 12; a++) {
+            expect_depth(__LINE__, codes[i], a, a, a >= need);
+            expect_depth(__LINE__, codes[i], a, 255, a >= need);
+        }
+    }
+    /* 53 for two words: x 2 suffices, 1 and 0 don't */
+    PASSES(240, 0, 0, 2, 0, 2, 0, 53, BODY(1), 73);
+    REFUSAL(7, 7, 240, 0, 0, 1, 0, 1, 0, 53, BODY(1), 73);
+    REFUSAL(7, 7, HEAD0, 53, BODY(1), 73);
+    REFUSAL(7, 16, 240, 0, 0, 2, 0, 3, 0, 53, BODY(1), 53, BODY(1), 73);
+    /* 7 53; 16 53; 25 the code; 26 73 has what it leaves */
+    PASSES(240, 0, 0, 2, 0, 4, 0, 53, BODY(1), 53, BODY(1), 150, 73);
+    PASSES(240, 0, 0, 1, 0, 4, 0, 53, BODY(1), 53, BODY(1), 155, 73);
+    REFUSAL(8, 26, 240, 0, 0, 1, 0, 4, 0, 53, BODY(1), 53, BODY(1), 150, 73);
+    REFUSAL(8, 26, 240, 0, 0, 2, 0, 4, 0, 53, BODY(1), 53, BODY(1), 155, 73);
+    /* the whole map: 7, 16, 25, 34, 43 53; 52 156; 53 155; 54 73 */
+    entry hoop[] = { { 7, 0, 0, N }, { 16, 2, 0, N }, { 25, 4, 0, N }, { 34, 6, 0, N },
+                     { 43, 8, 0, N }, { 52, 10, 0, N }, { 53, 4, 0, N }, { 54, 1, 0, N } };
+    MAP(hoop, 240, 0, 0, 1, 0, 10, 0, 53, BODY(1), 53, BODY(2), 53, BODY(3), 53, BODY(4),
+        53, BODY(5), 156, 155, 73);
+    REFUSAL(7, 43, 240, 0, 0, 1, 0, 9, 0, 53, BODY(1), 53, BODY(2), 53, BODY(3), 53, BODY(4),
+            53, BODY(5), 156, 155, 73);
+}
+
+/* 7 push low words; 160 -> the end; push up words; the code; bjump 3; bjump 3 */
+static void expect_floor(int line, uint8_t code, size_t low, size_t up, bool passes)
+{
+    uint8_t f[64] = { 240, 0, 0, 0, 0, (uint8_t)(low + up + 1), 0 };
+    size_t n = 7;
+    for (size_t i = 0; i < low; i++, n += 2)
+        f[n] = 54;
+    size_t target = n + 3 + 2 * up + 4;
+    memcpy(f + n, (const uint8_t[]){ 160, 0, (uint8_t)target }, 3);
+    n += 3;
+    for (size_t i = 0; i < up; i++, n += 2)
+        f[n] = 54;
+    memcpy(f + n, (const uint8_t[]){ code, 3, 0, 3, 3, 0, 3 }, 7);
+    if (passes)
+        expect_passes(line, f, n + 7);
+    else
+        expect_refusal(line, 7, (uint32_t)n, f, n + 7);
+}
+
+static void test_real_floor(void)
+{
+    static const uint8_t codes[] = { 150, 151, 152, 153, 155, 156 };
+    for (size_t i = 0; i < sizeof codes; i++) {
+        size_t need = codes[i] == 156 ? 10 : 4;
+        for (size_t low = 0; low <= need; low++) {
+            expect_floor(__LINE__, codes[i], low, need, true);
+            expect_floor(__LINE__, codes[i], low, need - 1, false);
+            expect_floor(__LINE__, codes[i], low, need - low, low == 0);
+        }
+    }
+    /* 53 above a floor: 7 53; 16 160 -> 32; 19 53; 28 161; 29 bjump 3; 32 bjump 3 */
+    entry above[] = { { 7, 0, 0, N }, { 16, 2, 0, N }, { 19, 2, 0, 16 }, { 28, 4, 0, 16 },
+                      { 29, 4, 0, N }, { 32, 3, 0, N } };
+    MAP(above, 240, 0, 0, 0, 0, 4, 0, 53, BODY(9), 160, 0, 32, 53, BODY(8), 161, 3, 0, 3, 3, 0, 3);
+}
+
+/* ---- order 4: routines ---- */
+
+/* 7, 16, 25, 34, 43 53; 52 72 1; 55 73; 56 procedure 1: 63 156; 64 73: (3, 5) scaled + (7, 11) */
+#define HOOP_FILE(high, low) \
+    240, 0, 0, 4, 0, 10, 0, 53, 0x40, 8, 0, 0, 0, 0, 0, 0, 53, 0x40, 20, 0, 0, 0, 0, 0, 0, \
+    53, 0x40, 28, 0, 0, 0, 0, 0, 0, 53, 0x40, 38, 0, 0, 0, 0, 0, 0, \
+    53, high, low, 0, 0, 0, 0, 0, 0, 72, 0, 1, 73, 240, 10, 0, 4, 0, 10, 0, 156, 73
+
+/*
+ * 7 53 0.0; 16 53 0.1; 25 150; 26 20 0; 29 20 1; 32 53 1.0; 41 155; 42 bjumpt -> 16;
+ * 45 73. The tenth sum is 1 - 2^-53, less than 1: an eleventh is added.
+ */
+#define TENTHS_FILE \
+    240, 0, 0, 2, 0, 6, 0, 53, BODY(0), 53, 0x3F, 0xB9, 0x99, 0x99, 0x99, 0x99, 0x99, 0x9A, 150, \
+    20, 0, 0, 20, 0, 1, 53, ONE_BYTES, 155, 4, 0, 29, 73
+
+/*
+ * 7 53 1.0; 16 160 -> 27; 19 72 1; 22 161; 23 22 1; 26 73; 27 22 1; 30 73;
+ * 31 procedure 1: 38 53 largest; 47 53 largest; 56 the code; 57 64 1 0; 62 73.
+ * The callee's high word, or the 1 that it raises, replaces the low word of the caller's real.
+ */
+#define CAUGHT_FILE(code) \
+    240, 0, 0, 2, 0, 3, 0, 53, ONE_BYTES, 160, 0, 27, 72, 0, 1, 161, 22, 0, 1, 73, 22, 0, 1, 73, \
+    240, 0, 0, 1, 0, 4, 0, 53, LARGEST_BYTES, 53, LARGEST_BYTES, code, 64, 0, 1, 0, 0, 73
+
+static void test_real_routines(void)
+{
+    BENCH("finished steps=9 main=1076494336,0,1077215232,0", HOOP_FILE(0x40, 0));
+    BENCH("uncaught 1 at 63 steps=6 "
+          "main=1074266112,0,1075052544,0,1075576832,0,1076232192,0,2146435072,0",
+          HOOP_FILE(0x7F, 0xF0));
+    cut_runs(__LINE__, REF_FINISHED, 9, BYTES(HOOP_FILE(0x40, 0)));
+    cut_runs(__LINE__, REF_UNCAUGHT, 6, BYTES(HOOP_FILE(0x7F, 0xF0)));
+
+    /* 1 - 2^-53 + 0.1: 2^56 - 8 + 0x1999999999999A = 0x119999999999992 times 2^-56, cut by 2 */
+    rig g = run_out(__LINE__, reply(REF_FINISHED, 0, 0, 79), BYTES(TENTHS_FILE));
+    LIST_IS(g, MAIN, 0x3FF19999, 0x99999999);
+    rig_free(&g);
+    cut_runs(__LINE__, REF_FINISHED, 79, BYTES(TENTHS_FILE));
+
+    BENCH("finished steps=8 main=1072693248,1", CAUGHT_FILE(150));
+    BENCH("finished steps=8 main=1072693248,1", CAUGHT_FILE(151));
+    BENCH("finished steps=11 main=1072693248,0", CAUGHT_FILE(152));
+    BENCH("finished steps=11 main=1072693248,1072693248", CAUGHT_FILE(153));
+    cut_runs(__LINE__, REF_FINISHED, 8, BYTES(CAUGHT_FILE(150)));
+    cut_runs(__LINE__, REF_FINISHED, 11, BYTES(CAUGHT_FILE(153)));
+}
+
 int main(void)
 {
     test_samples();
@@ -3467,6 +4158,23 @@ int main(void)
     test_greatest_heaps();
     test_vector_damage();
     test_file_and_state();
+    test_real_sums();
+    test_real_products();
+    test_real_range();
+    test_real_zeros();
+    test_subnormals();
+    test_not_finite();
+    test_less();
+    test_push_real();
+    test_hoop_points();
+    test_hoop_rounding();
+    test_hoop_range();
+    test_real_records();
+    test_real_last();
+    test_real_targets();
+    test_real_depths();
+    test_real_floor();
+    test_real_routines();
     printf("%lu checks, %lu failed\n", checks, failures);
     return failures == 0 ? 0 : 1;
 }

@@ -32,6 +32,11 @@
  * 36 bytes, or, in run, a sum in it is not the file's, whatever the state
  * and the budget are.
  *
+ * A real is two words of the main stack, the high word at the lower index.
+ * Operations on reals rely on the processor's state at a program's start:
+ * round to nearest, subnormal numbers kept, nothing trapped. A program that
+ * is linked with -ffast-math has another (docs/C-INTERFACE.md, Reals).
+ *
  * Refusal 11 names one word of the heap (docs/MANUAL.md 6.8): word 0 if the
  * mark is out of range; else the first fault met in walking the objects
  * upwards, header before size word; else the lowest index that is a bad
@@ -58,7 +63,8 @@ enum {
 
 /* The machine exceptions. A routine may raise any word with 162, these too. */
 enum {
-    YALGOVIM_OUT_OF_RANGE = 1,  /* a result outside -2^31 to 2^31-1, or a division by 0 */
+    YALGOVIM_OUT_OF_RANGE = 1,  /* a result outside -2^31 to 2^31-1, or a division by 0;
+                                   150 to 153, 156: a real that is not finite */
     YALGOVIM_NIL_OBJECT = 2,    /* 30 to 33, 82 to 85: the object is nil */
     YALGOVIM_NO_SUCH_WORD = 3,  /* 30 to 33: word s is not in the object's part;
                                    32: it is a vector's lower bound */
