@@ -14,7 +14,7 @@ use Rattle.plan_meaning.specs.declared.Into.{Into}
 use Rattle.plan_meaning.specs.declared.Into.the-variants as into
 use Rattle.plan_meaning.specs.declared.Put.{Put}
 use Rattle.plan_meaning.specs.declared.Plan.{Plan}
-use Rattle.plan_meaning.specs.declared.Plan.the-variants.{Write}
+use Rattle.plan_meaning.specs.declared.Plan.the-variants.{Write, Real}
 use Rattle.apply_words.specs.Asks.{Retract, plainWrite}
 use Rattle.apply_objects.specs.Asks.{MakesNew}
 use Rattle.plan_meaning.specs.Suits.{FitsIn, Suits}
@@ -105,6 +105,9 @@ others = 0 ∷ 1 ∷ 2 ∷ 3 ∷ 4 ∷ 5 ∷ 6 ∷ 7 ∷ []
 
 pub not-real : (plan : Plan) → OneOf others (tagOf planned.the-type plan) → NotReal plan
 not-real plan k q e = miss others 8 tt (rw e at k)
+
+pub real-writes : (plan : Plan) (p : ℕ) → plan ≡ Real p → (put : Put) → plan ≡ Write put → ⊥
+real-writes plan p e put u = not-real (Write put) (inl refl) p (sym u ∙ e)
 
 -- all plans but writes
 abbrev raising : List ℕ

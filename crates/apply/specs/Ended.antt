@@ -7,10 +7,10 @@ use lib.ListN.{length, getD, set}
 use borrow.Author.Tests.{eq-eqb, ne-eqb}
 use Rattle.model.specs.Words.{wordAt, cut}
 use Rattle.model.specs.Calls.{mainMost, ctlMost}
-use Rattle.model.specs.File.{fileMost, procsMost, headOf, operand}
+use Rattle.model.specs.File.{fileMost, procsMost, headOf, operand, after, insAt}
 use Rattle.model.specs.Control.{Machine, frameOf, handlerOf, recordWords}
 use Rattle.model.specs.Moves.{mtop}
-use Rattle.model.specs.Instructions.{codeOf, outOfRange, nilObject, noSuchWord, heapFull, noRoom, vectorFault}
+use Rattle.model.specs.Instructions.{codeOf, outOfRange, nilObject, noSuchWord, heapFull, noRoom, vectorFault, Result, done, fails, rule}
 use Rattle.model.specs.Step.{Stepped, next, uncaught, caught, raised}
 use Rattle.plan_meaning.specs.Settled.{settle}
 use Rattle.plan_meaning.specs.Suits.{RealSuits}
@@ -22,6 +22,7 @@ use Rattle.apply.specs.declared.Outcome.{Outcome}
 use Rattle.control_stack.specs.declared.Handler.{Handler}
 use Rattle.control_stack.specs.Layout.{theHandler}
 use Rattle.laws.specs.Cuts.{Topped}
+use Rattle.real_steps.specs.Does.{Ready}
 use Rattle.apply.specs.Applies.{Stands, Applies}
 
 -- the step leads on to a state, or to an uncaught exception, with the state that stays
@@ -61,7 +62,7 @@ raisedBy main t VectorFault = codeOf vectorFault
 raisedBy main t Thrown = wordAt main (t - 1)
 raisedBy main t (Real q) = 0
 
--- no instruction on reals, which is done by itself
+-- no instruction on reals, which is done as a whole
 abbrev pub NotReal : Plan → Type 0
 NotReal plan = (q : ℕ) → plan ≡ Real q → ⊥
 
@@ -175,6 +176,30 @@ module _ {f table : List ℕ} {r : Regs} {main ptr ctl : List ℕ} {g : Handler}
   pub guard-targets : Targets f table ctl (g .opened) (g .frame)
   guard-targets = rw (ap (λ x. x .opened) e, ap (λ x. x .frame) e) (R .caught h .targets)
 
+-- what is asked where an instruction on reals is done, whose body is at p
+pub record RealSettles (f table : List ℕ) (m : Machine) (p : ℕ) : Type 0 where
+  pub suits : RealSuits f p m
+  pub raises : Raises f table (m .regs) (m .main) (m .ptr) (m .ctl)
+
+pub real-ready : {f table : List ℕ} {m : Machine} {p : ℕ} → RealSettles f table m p → Ready f (m .main) (m .regs) × (p ≡ m .regs .place + 1)
+real-ready R =
+    let S = R .suits in
+    let T = R .raises in
+    (record { real = S .real; inside = S .inside; pops = S .pops; pushes = S .pushes; topped = T .main-top; few = T .main-most }, S .body)
+
+-- it is done, or 1 is raised
+module _ (f : List ℕ) (m : Machine) (p : ℕ) where
+  abbrev realRule : Result
+  realRule = rule f m (after f (m .regs .place)) (insAt f (m .regs .place))
+
+  pub real-done : (m′ : Machine) → done m′ ≡ realRule → record { on = true; code = 0; state = m′ } ≡ endedOf (settle f m (Real p))
+  unfolding endedOf settle
+  real-done m′ e = rw (← e)
+
+  pub real-raised : {x : Ended} → fails outOfRange ≡ realRule → x ≡ endedOf (raised f m 1) → x ≡ endedOf (settle f m (Real p))
+  unfolding settle
+  real-raised e d = rw (← e) d
+
 -- what is asked of a plan at a machine
 pub record Settles (f table : List ℕ) (m : Machine) (plan : Plan) : Type 0 where
   pub writes : (put : Put) → plan ≡ Write put → Applies f put m
@@ -182,9 +207,9 @@ pub record Settles (f table : List ℕ) (m : Machine) (plan : Plan) : Type 0 whe
   -- 162 pops a word
   pub thrown : plan ≡ Thrown → 1 ≤ mtop m
   -- an instruction on reals is in the file, its words are there, and what it pushes fits
-  pub reals : (q : ℕ) → plan ≡ Real q → RealSuits f q m
+  pub reals : (p : ℕ) → plan ≡ Real p → RealSuits f p m
 
--- a plan that neither writes nor is done by itself: its exception is raised
+-- a plan that neither writes nor is done as a whole: its exception is raised
 pub ends-raised : {f table : List ℕ} {m : Machine} {plan : Plan} {code : ℕ} {x : Ended} → Settles f table m plan → ((put : Put) → plan ≡ Write put → ⊥) → NotReal plan →
     code ≡ raisedBy (m .main) (mtop m) plan → x ≡ endedOf (raised f m code) → x ≡ endedOf (settle f m plan)
 ends-raised {f = f} {m = m} {plan = plan} S never n e d = rw (settle-raised f m plan never n, ← e) d

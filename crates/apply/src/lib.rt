@@ -12,7 +12,7 @@ ghost use Rattle.plan_meaning.specs.Settled.{applied, settle};
 ghost use Rattle.laws.specs.Cuts.{Topped};
 ghost use Rattle.apply_words.specs.Asks.{onwards};
 ghost use Rattle.apply.specs.Applies.{Applies, Late, PutsNew, Lately, Later, tried, appliedIf};
-ghost use Rattle.apply.specs.Ended.{Targets, Raises, NotReal, Settles, endedOf, resumed, raisedBy};
+ghost use Rattle.apply.specs.Ended.{Targets, Raises, RealSettles, Settles, endedOf, resumed, raisedBy};
 use control_stack::Handler;
 use model::PROCS_MOST;
 use model::RECORD;
@@ -256,6 +256,42 @@ pub fn code_of(plan: Plan, main: &[u32], mtop: usize) -> u32
     }
 }
 
+// An instruction on reals, done as a whole; exception 1 where its result is not finite.
+fn step_real(
+    file: &[u8],
+    table: &[usize; PROCS_MOST],
+    main: &mut [u32],
+    ptr: &mut [u32],
+    ctl: &mut [u32],
+    regs: Regs,
+    body: usize,
+) -> Outcome
+    requires { ⌜ ((heap : List ℕ) → RealSettles (now file) (now table) (record { regs = regs; main = now main; ptr = now ptr; ctl = now ctl; heap = heap }) body) ⌝ }
+    ensures { λ r. ⌜ ((heap : List ℕ) → record {
+      on = r .on;
+      code = r .code;
+      state = record { regs = r .regs; main = now (main .exit); ptr = now (ptr .exit); ctl = now (ctl .exit); heap = heap };
+    } ≡ endedOf (settle (now (file .entry)) (record {
+      regs = regs;
+      main = now (main .entry);
+      ptr = now (ptr .entry);
+      ctl = now (ctl .entry);
+      heap = heap;
+    }) (Plan.Real body))) ⌝ }
+{
+    let moved = real_steps::step(file, main, regs, body);
+    let done = moved.done;
+    if done {
+        let next = moved.regs;
+        return Outcome {
+            on: true,
+            code: 0,
+            regs: next,
+        };
+    }
+    raise(file, table, main, ptr, ctl, regs, 1)
+}
+
 // What a plan comes to that `apply` left, or that is no write: a raise.
 pub fn step_with(
     file: &[u8],
@@ -267,7 +303,7 @@ pub fn step_with(
     regs: Regs,
     plan: Plan,
 ) -> Outcome
-    requires { ⌜ Settles (now file) (now table) (record { regs = regs; main = now main; ptr = now ptr; ctl = now ctl; heap = now heap }) plan × Later regs plan × NotReal plan ⌝ }
+    requires { ⌜ Settles (now file) (now table) (record { regs = regs; main = now main; ptr = now ptr; ctl = now ctl; heap = now heap }) plan × Later regs plan ⌝ }
     ensures { λ r. ⌜ record {
       on = r .on;
       code = r .code;
@@ -286,6 +322,9 @@ pub fn step_with(
       heap = now (heap .entry);
     }) plan) ⌝ }
 {
+    if let Plan::Real(body) = plan {
+        return step_real(file, table, main, ptr, ctl, regs, body);
+    }
     let Plan::Write(put) = plan else {
         let code = code_of(plan, main, regs.mtop);
         return raise(file, table, main, ptr, ctl, regs, code);

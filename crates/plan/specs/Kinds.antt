@@ -1,10 +1,11 @@
--- The arms of the match on the code but its last: of the codes only those of the operations on reals are in none of them.
-use Prim.Native.Nat.{ℕ, _+_}
+-- The arms of the match on the code but its last: of the codes only those of the instructions on reals are in none of them.
+use Prim.Native.Nat.{ℕ, suc, _+_}
 use mathlib.Core.Bool.{true}
 use mathlib.Core.List.{List, [], _∷_}
 use mathlib.Core.Path.{_≡_, refl}
-use Rattle.model.specs.File.{byteAt, bodies, bodyOf, codes, insOf, isInstruction}
+use Rattle.model.specs.File.{byteAt, bodyOf, codes, insOf, isInstruction}
 use Rattle.model.specs.Control.{Machine}
+use Rattle.laws_file.specs.Codes.{realCodes}
 use Rattle.laws_file.specs.Kinds.{OneOf, NoneOf, at-each, last-code}
 use Rattle.plan_meaning.specs.Planned.{basicPlan, planOf, planned}
 use Rattle.plan_meaning.specs.declared.Plan.the-variants.{Real}
@@ -12,25 +13,18 @@ use Rattle.plan_meaning.specs.declared.Plan.the-variants.{Real}
 -- from behind: the first arm's comes last
 abbrev planArms : List (List ℕ)
 planArms =
-    (53 ∷ []) ∷ (162 ∷ []) ∷ (85 ∷ []) ∷ (83 ∷ []) ∷ (84 ∷ []) ∷ (82 ∷ []) ∷ (81 ∷ []) ∷ (80 ∷ []) ∷ (131 ∷ []) ∷ (59 ∷ [])
+    (162 ∷ []) ∷ (85 ∷ []) ∷ (83 ∷ []) ∷ (84 ∷ []) ∷ (82 ∷ []) ∷ (81 ∷ []) ∷ (80 ∷ []) ∷ (131 ∷ []) ∷ (59 ∷ [])
     ∷ (58 ∷ []) ∷ (57 ∷ []) ∷ (36 ∷ 60 ∷ 62 ∷ 64 ∷ []) ∷ (33 ∷ []) ∷ (31 ∷ []) ∷ (32 ∷ []) ∷ (30 ∷ []) ∷ (146 ∷ []) ∷ (144 ∷ [])
     ∷ (145 ∷ []) ∷ (143 ∷ []) ∷ (141 ∷ []) ∷ (142 ∷ []) ∷ (140 ∷ []) ∷ (204 ∷ []) ∷ (201 ∷ []) ∷ (198 ∷ []) ∷ (195 ∷ [])
     ∷ (130 ∷ []) ∷ (23 ∷ []) ∷ (21 ∷ []) ∷ (20 ∷ 22 ∷ 54 ∷ 56 ∷ []) ∷ (73 ∷ 161 ∷ []) ∷ (72 ∷ 160 ∷ []) ∷ (6 ∷ []) ∷ (4 ∷ [])
     ∷ (5 ∷ []) ∷ (2 ∷ []) ∷ (3 ∷ []) ∷ (1 ∷ []) ∷ []
 
-abbrev pub lastCodes : List ℕ
-lastCodes = 150 ∷ 151 ∷ 152 ∷ 153 ∷ 155 ∷ 156 ∷ []
-
-pub last-arm : (f : List ℕ) (p : ℕ) → isInstruction f p ≡ true → NoneOf planArms (byteAt f p) → OneOf lastCodes (byteAt f p)
+pub last-arm : (f : List ℕ) (p : ℕ) → isInstruction f p ≡ true → NoneOf planArms (byteAt f p) → OneOf realCodes (byteAt f p)
 unfolding isInstruction codes
-last-arm f p is h = last-code planArms lastCodes tt (byteAt f p) h is
+last-arm f p is h = last-code planArms realCodes tt (byteAt f p) h is
 
--- they have no body, and each is planned alike
-pub last-body : (k : ℕ) → OneOf lastCodes k → bodyOf k ≡ 0
-unfolding bodyOf bodies codes
-last-body k o = at-each (λ n. bodyOf n ≡ 0) lastCodes k (refl, (refl, (refl, (refl, (refl, (refl, tt)))))) o
-
-pub last-planned : (f : List ℕ) (m : Machine) (k : ℕ) → OneOf lastCodes k → Real (m .regs .place + 1) ≡ planned f m 1 k
+-- each is planned alike
+pub last-planned : (f : List ℕ) (m : Machine) (k : ℕ) → OneOf realCodes k → Real (m .regs .place + 1) ≡ planned f m (suc (bodyOf k)) k
 unfolding planned planOf basicPlan insOf
 last-planned f m k o =
-    at-each (λ n. Real (m .regs .place + 1) ≡ planned f m 1 n) lastCodes k (refl, (refl, (refl, (refl, (refl, (refl, tt)))))) o
+    at-each (λ n. Real (m .regs .place + 1) ≡ planned f m (suc (bodyOf n)) n) realCodes k (refl, (refl, (refl, (refl, (refl, (refl, (refl, tt))))))) o

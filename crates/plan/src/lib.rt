@@ -10,7 +10,7 @@ use model::PROCS_MOST;
 // family's function matches its own codes again. The compiler makes one jump table of all these matches, as long as a family that shares an arm
 // has codes that begin differently: of codes that begin alike it would first do what they share, and then ask for the code a second time. So these have
 // an arm each, and the family's function gets the code as a constant. Neighbours share no arm: together they would be a test of a range.
-// The last arm is that of 150 to 153, 155 and 156: the file has passed and the state is sound, and so a code stands here. With these codes in arms of their own
+// The last arm is that of 53, 150 to 153, 155 and 156: the file has passed and the state is sound, and so a code stands here. With these codes in arms of their own
 // the match would have more than fifty; the compiler takes each of so many for unlikely and leaves the families' functions where they are, which costs every
 // step five instructions.
 pub fn plan_at(
@@ -67,7 +67,6 @@ pub fn plan_at(
         83 => plan_vectors::ptr_elements(main, ptr, heap, regs, 83),
         85 => plan_vectors::ptr_elements(main, ptr, heap, regs, 85),
         162 => Plan::Thrown,
-        53 => Plan::Real(place + 9),
         _ => Plan::Real(place + 1),
     }
 }

@@ -225,11 +225,11 @@ module _ (f : List ℕ) (m : Machine) (q : ℕ) where
 
   -- an instruction on reals: what it comes to is the rule itself
   real-comes : (b : Basic) → onReals? b ≡ true → after f (m .regs .place) ≡ q → insAt f (m .regs .place) ≡ basic b → Apt f m (basic b) →
-      Comes (Real q) (andGo q (basicRule m b))
+      Comes (Real (m .regs .place + 1)) (andGo q (basicRule m b))
   unfolding settle rule
   real-comes b r d e A =
-      comes (ap (λ i. outcome f m (rule f m q i)) e)
-      (record { real = ap isReal? e ∙ r; next = d; inside = A .in-file; pops = rw e (A .pop-main); pushes = rw e (A .push-main) })
+      comes (rw d (ap (λ i. outcome f m (rule f m q i)) e))
+      (record { real = ap isReal? e ∙ r; body = refl; inside = A .in-file; pops = rw e (A .pop-main); pushes = rw e (A .push-main) })
 
   basic-comes : (b : Basic) → after f (m .regs .place) ≡ q → insAt f (m .regs .place) ≡ basic b → Apt f m (basic b) → Comes (basicPlan m q b) (andGo q (basicRule m b))
   unfolding basicPlan basicRule settle applied applyInto basicEffect effectOf

@@ -96,10 +96,10 @@ basicPlan m q (setElement onMain) =
     planElement (elementOf onMain (m .heap) (ptrWord m 1) (mainWord m 1)) (λ a. write StoreWord q (mtop m - 2) (ptop m - 1) a (mainWord m 2))
 basicPlan m q (setElement onPtr) =
     planElement (elementOf onPtr (m .heap) (ptrWord m 1) (mainWord m 1)) (λ a. write StorePointer q (mtop m - 1) (ptop m - 2) a (ptrWord m 2))
-basicPlan m q (realLiteral h l) = Real q
-basicPlan m q (real o) = Real q
-basicPlan m q realLess = Real q
-basicPlan m q hoop = Real q
+basicPlan m q (realLiteral h l) = Real (m .regs .place + 1)
+basicPlan m q (real o) = Real (m .regs .place + 1)
+basicPlan m q realLess = Real (m .regs .place + 1)
+basicPlan m q hoop = Real (m .regs .place + 1)
 
 -- q is the next place. 1 to 6: jumps; 72: the word and the index written are the new frame's bases; 73: back to the return place;
 -- 160, 161: the handler's record; 162: its word is raised

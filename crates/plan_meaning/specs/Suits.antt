@@ -101,10 +101,10 @@ Suits f PtrVector put m = VectorFits 2 1 (mainWord m 1) put m
 Suits f StoreWord put m = FitsIn StoreWord put m
 Suits f StorePointer put m = FitsIn StorePointer put m
 
--- 53, 150 to 153, 155, 156: the record is in the file, and q is the place behind it; the words popped are there, and those pushed fit
-pub record RealSuits (f : List ℕ) (q : ℕ) (m : Machine) : Type 0 where
+-- 53, 150 to 153, 155, 156: the record is in the file, and p is the place behind its code; the words popped are there, and those pushed fit
+pub record RealSuits (f : List ℕ) (p : ℕ) (m : Machine) : Type 0 where
   pub real : isReal? (insAt f (m .regs .place)) ≡ true
-  pub next : after f (m .regs .place) ≡ q
+  pub body : p ≡ m .regs .place + 1
   pub inside : after f (m .regs .place) ≤ length f
   pub pops : effectOf f (insAt f (m .regs .place)) .popMain ≤ mtop m
   pub pushes : mtop m - effectOf f (insAt f (m .regs .place)) .popMain + effectOf f (insAt f (m .regs .place)) .pushMain ≤ length (m .main)
@@ -119,4 +119,4 @@ Suited f m HeapFull = Unit {0}
 Suited f m NoRoom = Unit {0}
 Suited f m VectorFault = Unit {0}
 Suited f m Thrown = 1 ≤ mtop m
-Suited f m (Real q) = RealSuits f q m
+Suited f m (Real p) = RealSuits f p m

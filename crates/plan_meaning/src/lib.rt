@@ -48,7 +48,7 @@ pub enum Plan {
     NoRoom, // 5: a frame or a handler does not fit the stacks
     VectorFault, // 6: no such element, a negative length, or an object of another kind
     Thrown, // the word that instruction 162 pops
-    Real(usize), // an instruction on reals, which is done by itself; the next place
+    Real(usize), // an instruction on reals, which is done as a whole; the place behind its code
 }
 
 pub fn writes(into: Into, place: usize, mtop: usize, ptop: usize, at: usize, word: u32) -> Plan

@@ -71,12 +71,18 @@ module _ {f l : List ℕ} {r : Regs} (R : Ready f l r) where
   pops-four k o =
       at-each (λ n. effectOf f (insOf f (r .place) n) .popMain ≡ 4) (150 ∷ 151 ∷ 152 ∷ 153 ∷ 155 ∷ []) k (refl, (refl, (refl, (refl, (refl, tt))))) o
 
-  -- of the operations on two reals the first four
+  -- of the codes on two reals the first four, and of those without a body
   pub operation-four : {k : ℕ} → OneOf (150 ∷ 151 ∷ 152 ∷ 153 ∷ []) k → OneOf (150 ∷ 151 ∷ 152 ∷ 153 ∷ 155 ∷ []) k
   operation-four (inl z) = inl z
   operation-four (inr (inl z)) = inr (inl z)
   operation-four (inr (inr (inl z))) = inr (inr (inl z))
   operation-four (inr (inr (inr z))) = inr (inr (inr (inl z)))
+
+  pub operation-code : {k : ℕ} → OneOf (150 ∷ 151 ∷ 152 ∷ 153 ∷ []) k → OneOf (150 ∷ 151 ∷ 152 ∷ 153 ∷ 155 ∷ 156 ∷ []) k
+  operation-code (inl z) = inl z
+  operation-code (inr (inl z)) = inr (inl z)
+  operation-code (inr (inr (inl z))) = inr (inr (inl z))
+  operation-code (inr (inr (inr z))) = inr (inr (inr (inl z)))
 
   pub four-ready : (k : ℕ) → OneOf (150 ∷ 151 ∷ 152 ∷ 153 ∷ 155 ∷ []) k → byteAt f (r .place) ≡ k → 4 ≤ r .mtop
   unfolding insAt
@@ -100,3 +106,14 @@ module _ {f l : List ℕ} {r : Regs} (R : Ready f l r) where
       go (inr (inr (inr (inr (inl z))))) = inr (inr (inr z))
       go (inr (inr (inr (inr (inr (inl z)))))) = absurd (b z)
       go (inr (inr (inr (inr (inr (inr z)))))) = absurd (c z)
+
+-- the place behind the record of a 53, and of a code without a body
+pub after-literal : (f : List ℕ) (p b : ℕ) → byteAt f p ≡ 53 → b ≡ p + 1 → b + 8 ≡ after f p
+unfolding after bodyOf bodies codes
+after-literal f p b e d = rw e (omega arith)
+
+pub after-code : (f : List ℕ) (p b k : ℕ) → OneOf (150 ∷ 151 ∷ 152 ∷ 153 ∷ 155 ∷ 156 ∷ []) k → byteAt f p ≡ k → b ≡ p + 1 → b ≡ after f p
+unfolding after bodyOf bodies codes
+after-code f p b k o e d =
+    let z = at-each (λ n. bodyOf n ≡ 0) (150 ∷ 151 ∷ 152 ∷ 153 ∷ 155 ∷ 156 ∷ []) k (refl, (refl, (refl, (refl, (refl, (refl, tt)))))) o in
+    rw (e, z) (omega arith)

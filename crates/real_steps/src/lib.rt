@@ -138,19 +138,19 @@ fn hoop(main: &mut [u32], regs: Regs, next: usize) -> Moved
     not_finite(regs)
 }
 
-// The instruction on reals at the machine's place.
-pub fn step(file: &[u8], main: &mut [u32], regs: Regs, next: usize) -> Moved
-    requires { ⌜ Ready (now file) (now main) regs ⌝ }
-    ensures does { λ r. ⌜ Does (now (main .entry)) regs next (r .done) (r .regs) (now (main .exit)) (model.insAt (now (file .entry)) (regs .place)) ⌝ }
+// The instruction on reals at the machine's place; body is the place behind its code.
+pub fn step(file: &[u8], main: &mut [u32], regs: Regs, body: usize) -> Moved
+    requires { ⌜ Ready (now file) (now main) regs × (body ≡ regs .place + 1) ⌝ }
+    ensures does { λ r. ⌜ Does (now (main .entry)) regs (model.after (now (file .entry)) (regs .place)) (r .done) (r .regs) (now (main .exit)) (model.insAt (now (file .entry)) (regs .place)) ⌝ }
     ensures kept { λ r. ⌜ (r .done ≡ false → now (main .exit) ≡ now (main .entry)) ⌝ }
     ensures running { λ r. ⌜ r .regs .state ≡ regs .state ⌝ }
 {
     let place = regs.place;
     let kind = file[place];
     match kind {
-        53 => literal(file, main, regs, next),
-        155 => less(main, regs, next),
-        156 => hoop(main, regs, next),
-        _ => operation(main, regs, next, kind),
+        53 => literal(file, main, regs, body + 8),
+        155 => less(main, regs, body),
+        156 => hoop(main, regs, body),
+        _ => operation(main, regs, body, kind),
     }
 }

@@ -10,6 +10,7 @@ use Rattle.model.specs.Step.{Stepped, step, ran, runOn}
 use Rattle.plan_meaning.specs.Settled.{settle}
 use Rattle.apply.specs.Ended.{endedOf, went-on, went-off}
 use Rattle.apply.specs.declared.Outcome.{Outcome}
+use Rattle.theory_step.specs.Settling.{alive-plan}
 use Rattle.run_steps.specs.Going.{SameLengths, Going, Paused, going-step}
 use Rattle.run.specs.declared.Ended.{Ended}
 use Rattle.model.specs.declared.Regs.{Regs}
@@ -44,7 +45,7 @@ module _ {f table : List ℕ} {budget n : ℕ} {m₀ m : Machine} where
     -- one step further, by the plan that is settled apart; m′ is the state then
     module _ (some : 0 < n) (o : Outcome) {m′ : Machine} (e : record { on = o .on; code = o .code; state = m′ } ≡ endedOf (settle f m plan)) where
       step-is : (s : Stepped) → settle f m plan ≡ s → step f m ≡ s
-      step-is s w = sym (P .stopped some .steps) ∙ w
+      step-is s w = sym (alive-plan (P .going .runs .alive) (P .on?)) ∙ rw (← P .stopped some .is) w
 
       pub paused-uncaught : o .on ≡ false → ran (Uncaught (o .code) (m′ .regs .place) (budget - n)) m′ ≡ runOn f budget 0 m₀
       unfolding runOn

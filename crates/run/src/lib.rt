@@ -46,7 +46,7 @@ pub fn run_on(
     if regs.state == 1 {
         return answered(Answer::Finished(0), regs);
     }
-    let mut pause = run_steps::go_far(file, table, main, ptr, ctl, heap, regs, budget);
+    let mut pause = run_steps::go_on(file, table, main, ptr, ctl, heap, regs, budget);
     while 0 < pause.left {
         let after = pause.left - 1;
         let r = pause.regs;
@@ -63,7 +63,7 @@ pub fn run_on(
             let done = budget - after;
             return answered(Answer::Finished(done), next);
         }
-        pause = run_steps::go_far(file, table, main, ptr, ctl, heap, next, after);
+        pause = run_steps::go_on(file, table, main, ptr, ctl, heap, next, after);
     }
     answered(Answer::Spent(budget), pause.regs)
 }

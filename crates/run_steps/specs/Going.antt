@@ -1,6 +1,6 @@
 -- Steps of a run: what is left of the budget decides what the rest of the run comes to, and soundness is kept. Steps add up.
 use Prim.Native.Nat.{ℕ, suc, _+_, _-_, _<_, _≤_}
-use mathlib.Core.Bool.{Bool, true, false, true≢false}
+use mathlib.Core.Bool.{Bool, true, false}
 use mathlib.Core.List.{List}
 use mathlib.Core.Path.{_≡_, refl, ap, sym, _∙_, subst}
 use native.Mathlib.Omega.{arith}
@@ -8,20 +8,16 @@ use lib.ListN.{length}
 use borrow.Author.Tests.{ne-eqb}
 use Rattle.model.specs.Control.{Machine, setRegs}
 use Rattle.plan_meaning.specs.Planned.{planAt}
-use Rattle.model.specs.File.{insAt}
-use Rattle.model.specs.Instructions.{rule}
-use Rattle.model.specs.Step.{next, outcome, step, runOn}
-use Rattle.real_steps.specs.Does.{cameTo, Ready}
+use Rattle.model.specs.Step.{next, step, runOn}
 use Rattle.plan_meaning.specs.Settled.{settle}
 use Rattle.theory_step.specs.Alive.{Alive, alive-step}
-use Rattle.theory_step.specs.Settling.{alive-plan, alive-settles}
+use Rattle.theory_step.specs.Settling.{alive-plan}
 use Rattle.apply.specs.Applies.{Late, Later, appliedIf}
-use Rattle.apply.specs.Ended.{NotReal, Settles}
 use Rattle.model.specs.declared.Regs.{Regs}
 use Rattle.run_steps.specs.declared.Pause.{Pause}
 use Rattle.plan_meaning.specs.declared.Put.{Put}
 use Rattle.plan_meaning.specs.declared.Plan.{Plan}
-use Rattle.plan_meaning.specs.declared.Plan.the-variants.{Write, OutOfRange, NilObject, NoSuchWord, HeapFull, NoRoom, VectorFault, Thrown, Real}
+use Rattle.plan_meaning.specs.declared.Plan.the-variants.{Write}
 
 -- a sound state of a passed file, with some map
 pub record Runs (f table : List ℕ) (m : Machine) : Type 0 where
@@ -48,61 +44,23 @@ pub record Going (f table : List ℕ) (n : ℕ) (m : Machine) (n′ : ℕ) (m′
   pub runs : Runs f table m′
   pub alike : SameLengths m′ m
 
--- a plan that is settled apart: it comes to the step and can be settled, and it raises, is late or is done by itself
-pub record PlanPaused (f table : List ℕ) (m : Machine) (plan : Plan) : Type 0 where
-  pub steps : settle f m plan ≡ step f m
-  pub settles : Settles f table m plan
+-- a plan that is settled apart: it is that of the next instruction, and it raises or is late
+pub record PlanPaused (f : List ℕ) (m : Machine) (plan : Plan) : Type 0 where
+  pub is : plan ≡ planAt f m
   pub late : Later (m .regs) plan
-
--- the plan of the next instruction comes to the step
-plan-paused : {f table : List ℕ} {m : Machine} {plan : Plan} → Runs f table m → (m .regs .state ≡ 1 → ⊥) → plan ≡ planAt f m → Later (m .regs) plan →
-    PlanPaused f table m plan
-plan-paused R on? e L =
-    record { steps = rw e (alive-plan (R .alive) on?); settles = rw e (alive-settles (R .alive) on?); late = L }
-
 
 -- where the steps pause: at such a plan, or with no step left
 pub record Paused (f table : List ℕ) (n : ℕ) (m : Machine) (n′ : ℕ) (m′ : Machine) (plan : Plan) : Type 0 where
   pub going : Going f table n m n′ m′
   pub on? : m′ .regs .state ≡ 1 → ⊥
-  pub stopped : 0 < n′ → PlanPaused f table m′ plan
-  pub some : (q : ℕ) → plan ≡ Real q → 0 < n′
-
--- whether it is an instruction on reals: a write is none, nor is an exception
-abbrev pub real? : Plan → Bool
-real? (Write put) = false
-real? OutOfRange = false
-real? NilObject = false
-real? NoSuchWord = false
-real? HeapFull = false
-real? NoRoom = false
-real? VectorFault = false
-real? Thrown = false
-real? (Real q) = true
-
--- whether it is exception 1
-abbrev out? : Plan → Bool
-out? (Write put) = false
-out? OutOfRange = true
-out? NilObject = false
-out? NoSuchWord = false
-out? HeapFull = false
-out? NoRoom = false
-out? VectorFault = false
-out? Thrown = false
-out? (Real q) = false
-
-pub no-real : (plan : Plan) → real? plan ≡ false → NotReal plan
-no-real plan e q u = true≢false (sym (ap real? u) ∙ e)
+  pub stopped : 0 < n′ → PlanPaused f m′ plan
 
 -- no plan writes, or the write was not done: the plan is settled apart
-pub stopped-raise : {f table : List ℕ} {m : Machine} {plan : Plan} → Runs f table m → (m .regs .state ≡ 1 → ⊥) → plan ≡ planAt f m →
-    ((put : Put) → plan ≡ Write put → ⊥) → PlanPaused f table m plan
-stopped-raise R on? e never = plan-paused R on? e (λ put u. absurd (never put u))
+pub stopped-raise : {f : List ℕ} {m : Machine} {plan : Plan} → plan ≡ planAt f m → ((put : Put) → plan ≡ Write put → ⊥) → PlanPaused f m plan
+stopped-raise e never = record { is = e; late = λ put u. absurd (never put u) }
 
-stopped-late : {f table : List ℕ} {m : Machine} → Runs f table m → (m .regs .state ≡ 1 → ⊥) → (put : Put) → Write put ≡ planAt f m → Late (put .into) (m .regs) →
-    PlanPaused f table m (Write put)
-stopped-late {m = m} R on? put e L = plan-paused R on? e (λ put′ u. subst (λ (p : Put). Late (p .into) (m .regs)) (write-one put put′ u) L)
+stopped-late : (f : List ℕ) (m : Machine) (put : Put) → Write put ≡ planAt f m → Late (put .into) (m .regs) → PlanPaused f m (Write put)
+stopped-late f m put e L = record { is = e; late = λ put′ u. subst (λ (p : Put). Late (p .into) (m .regs)) (write-one put put′ u) L }
   where
     write-one : (p q : Put) → Write p ≡ Write q → p ≡ q
     write-one p q u = cc
@@ -132,7 +90,7 @@ module _ {f table : List ℕ} where
 
   -- steps before a pause
   pub paused-from : {n n′ n″ : ℕ} {m m′ m″ : Machine} {plan : Plan} → Going f table n m n′ m′ → Paused f table n′ m′ n″ m″ plan → Paused f table n m n″ m″ plan
-  paused-from G P = record { going = going-trans G (P .going); on? = P .on?; stopped = P .stopped; some = P .some }
+  paused-from G P = record { going = going-trans G (P .going); on? = P .on?; stopped = P .stopped }
 
   -- one step further: one step less is left
   pub going-step : {n₀ n : ℕ} {m₀ m m′ : Machine} → Going f table n₀ m₀ n m → 0 < n → (m .regs .state ≡ 1 → ⊥) → step f m ≡ next m′ → SameLengths m′ m →
@@ -162,50 +120,4 @@ module _ {f table : List ℕ} {n₀ n : ℕ} {m₀ m : Machine} (G : Going f tab
       Paused f table n₀ m₀ n m′ (Write put)
   paused-late q d a l =
       let k : m′ ≡ m = ap (setRegs (m′ .regs)) (rw d at a) ∙ ap (λ (x : Regs). setRegs x m) q in
-      rw k (record { going = G; on? = on?; stopped = λ h. stopped-late (G .runs) on? put e (l d); some = λ q u. absurd (no-real (Write put) refl q u) })
-
--- an instruction on reals is done by itself: what is asked for it is there; done, it is a step; where its result is not finite, exception 1 is settled apart
-module _ {f table : List ℕ} {n₀ n q : ℕ} {m₀ m : Machine} (P : Paused f table n₀ m₀ n m (Real q)) where
-  abbrev stopped-at : PlanPaused f table m (Real q)
-  stopped-at = P .stopped (P .some q refl)
-
-  pub real-ready : Ready f (m .main) (m .regs)
-  real-ready =
-      let S = stopped-at .settles .reals q refl in
-      let R = stopped-at .settles .raises (λ put u. no-real (Write put) refl q (sym u)) in
-      record { real = S .real; inside = S .inside; pops = S .pops; pushes = S .pushes; topped = R .main-top; few = R .main-most }
-
-  module _ (t : Bool) (m′ : Machine) (e : cameTo t m′ ≡ rule f m q (insAt f (m .regs .place))) where
-    came : outcome f m (cameTo t m′) ≡ step f m
-    unfolding settle
-    came = ap (outcome f m) e ∙ stopped-at .steps
-
-    pub going-real : t ≡ true → SameLengths m′ m → Going f table n₀ m₀ (n - 1) m′
-    going-real d a = going-step (P .going) (P .some q refl) (P .on?) (sym (rw d at came)) a
-
-    pub paused-real : t ≡ false → Paused f table n₀ m₀ n m OutOfRange × NotReal OutOfRange
-    unfolding settle
-    paused-real d = (
-        record {
-          going = P .going;
-          on? = P .on?;
-          stopped = λ h. record {
-            steps = rw d at came;
-            settles = record {
-              writes = λ put u. absurd (no-write put u);
-              raises = λ never. stopped-at .settles .raises (λ put u. no-real (Write put) refl q (sym u));
-              thrown = λ u. absurd (no-throw u);
-              reals = λ k u. absurd (no-real OutOfRange refl k u);
-            };
-            late = λ put u. absurd (no-write put u);
-          };
-          some = λ k u. absurd (no-real OutOfRange refl k u);
-        },
-        no-real OutOfRange refl,
-      )
-      where
-        no-write : (put : Put) → OutOfRange ≡ Write put → ⊥
-        no-write put u = true≢false (ap out? u)
-
-        no-throw : OutOfRange ≡ Thrown → ⊥
-        no-throw u = true≢false (ap out? u)
+      rw k (record { going = G; on? = on?; stopped = λ h. stopped-late f m put e (l d) })

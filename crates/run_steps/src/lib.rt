@@ -1,6 +1,5 @@
 // The steps of a run that need no loop and no raise, one after another.
 ghost use mathlib.Core.Path.{_≡_};
-ghost use Rattle.apply.specs.Ended.{NotReal};
 ghost use Rattle.run_steps.specs.Going.{Runs, Paused, pausedAt};
 use apply::Tried;
 use model::PROCS_MOST;
@@ -21,9 +20,9 @@ fn stop(plan: Plan, regs: Regs, left: u32) -> Pause
     Pause { plan, regs, left }
 }
 
-// Steps on, as far as the budget lasts, no raise and no loop is needed and no instruction on reals stands there. Soundness is what the loop keeps, so that no
-// step tests what it gives.
-fn go_on(
+// Steps on, as far as the budget lasts and no raise and no loop is needed. It is called from two places, which keeps it a function of its own
+// for the compiler: its registers are those of the steps alone. Soundness is what the loop keeps, so that no step tests what it gives.
+pub fn go_on(
     file: &[u8],
     table: &[usize; PROCS_MOST],
     main: &mut [u32],
@@ -63,54 +62,6 @@ fn go_on(
             left = after;
         } else {
             return stop(Plan::Write(put), r, left);
-        }
-    }
-    stop(Plan::Thrown, r, left)
-}
-
-// The same with instructions on reals among the steps: each is done between two runs of the loop above, whose steps so keep their registers. It is called from
-// two places, which keeps it a function of its own for the compiler: its registers are those of the steps alone.
-pub fn go_far(
-    file: &[u8],
-    table: &[usize; PROCS_MOST],
-    main: &mut [u32],
-    ptr: &mut [u32],
-    ctl: &mut [u32],
-    heap: &mut [u32],
-    regs: Regs,
-    budget: u32,
-) -> Pause
-    requires { ⌜ Runs (now file) (now table) (record { regs = regs; main = now main; ptr = now ptr; ctl = now ctl; heap = now heap }) × (regs .state ≡ 1 → ⊥) ⌝ }
-    ensures { λ r. ⌜ Paused (now (file .entry)) (now (table .entry)) budget (record {
-      regs = regs;
-      main = now (main .entry);
-      ptr = now (ptr .entry);
-      ctl = now (ctl .entry);
-      heap = now (heap .entry);
-    }) (r .left) (record {
-      regs = r .regs;
-      main = now (main .exit);
-      ptr = now (ptr .exit);
-      ctl = now (ctl .exit);
-      heap = now (heap .exit);
-    }) (r .plan) × NotReal (r .plan) ⌝ }
-{
-    let mut r = regs;
-    let mut left = budget;
-    while 0 < left {
-        let pause = go_on(file, table, main, ptr, ctl, heap, r, left);
-        let at = pause.regs;
-        let plan = pause.plan;
-        let Plan::Real(next) = plan else {
-            return pause;
-        };
-        let moved = real_steps::step(file, main, at, next);
-        let done = moved.done;
-        if done {
-            r = moved.regs;
-            left = pause.left - 1;
-        } else {
-            return stop(Plan::OutOfRange, at, pause.left);
         }
     }
     stop(Plan::Thrown, r, left)

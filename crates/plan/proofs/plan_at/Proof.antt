@@ -1,4 +1,4 @@
--- `plan::plan_at`: each arm by its function's contract, which asks for what `Arms` draws from `StepReady`; of the codes only those of the operations on reals are in no arm before the last.
+-- `plan::plan_at`: each arm by its function's contract, which asks for what `Arms` draws from `StepReady`; of the codes only those of the instructions on reals are in no arm before the last.
 use mathlib.Core.List.{[], _∷_}
 use mathlib.Core.Logic.{inl, inr}
 use mathlib.Core.Path.{_≡_, refl}
@@ -10,7 +10,7 @@ use Rattle.laws_file.specs.Kinds.{at-each}
 use Rattle.plan_meaning.specs.Planned.{basicPlan, planOf, planned}
 use Rattle.plan.specs.Arms.{place-in, place-small, main-within, ptr-within, record-in, body-here, body, pops-main, pops-ptr, on-words, jump-on}
 use Rattle.plan.specs.Arms.{main-word, ptr-word, taken-main, taken-ptr, points, callee, subject, plan-of, plan-here}
-use Rattle.plan.specs.Kinds.{last-arm, last-body, last-planned}
+use Rattle.plan.specs.Kinds.{last-arm, last-planned}
 use Rattle.plan.specs.Ready.{StepReady}
 use Rattle.plan.proofs.plan_at.Statement.{statement}
 use Rattle.plan.proofs.plan_at.Tie as tie
@@ -228,9 +228,6 @@ ptr-elements-requires-2 c κs =
 add-t13 : tie.Need-add-t13
 add-t13 c = omega (arith, place-small (ready (c .before)))
 
-add-t14 : tie.Need-add-t14
-add-t14 c = omega (arith, place-small (ready (c .before)))
-
 returns : tie.Need-returns
 unfolding bodyOf bodies codes
 returns c = let R = ready (c .before .before) in plan-here R (c .before .match .keys1) (c .jumps .ensures (subject R))
@@ -396,14 +393,9 @@ unfolding planned planOf insOf bodyOf bodies codes
 returns-39 c = plan-here (ready (c .before)) (c .match .keys39) refl
 
 returns-40 : tie.Need-returns-40
-unfolding planned planOf basicPlan insOf bodyOf bodies codes
-returns-40 c = plan-here (ready (c .before)) (c .match .keys40) refl
-
-returns-41 : tie.Need-returns-41
-returns-41 c =
+returns-40 c =
     let R = ready (c .before) in
-    let o = last-arm _ _ (R .code) (c .match .rest) in
-    plan-of R 0 (last-body _ o) (last-planned _ (subject R) _ o)
+    plan-of R _ refl (last-planned _ (subject R) _ (last-arm _ _ (R .code) (c .match .rest)))
 
 pub plan-at-spec : {M : Type 1} → statement M
 plan-at-spec =
@@ -449,7 +441,6 @@ plan-at-spec =
     ptr-elements-requires
     ptr-elements-requires-2
     add-t13
-    add-t14
     returns
     returns-2
     returns-3
@@ -489,5 +480,4 @@ plan-at-spec =
     returns-37
     returns-38
     returns-39
-    returns-40
-    returns-41)
+    returns-40)

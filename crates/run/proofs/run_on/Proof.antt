@@ -5,7 +5,7 @@ use native.Mathlib.Omega.{arith}
 use borrow.Author.Tests.{not-true, not-false}
 use borrow.Author.Needs.{needs}
 use Rattle.model.specs.Control.{Machine}
-use Rattle.apply.specs.Ended.{NotReal}
+use Rattle.theory_step.specs.Settling.{alive-settles}
 use Rattle.run_steps.specs.Going.{SameLengths, Going, Paused, going-start, alike-trans, paused-from}
 use Rattle.run.specs.Endings.{run-finished, going-finished, paused-spent, paused-uncaught, paused-on}
 use Rattle.run.proofs.run_on.Statement.{statement}
@@ -15,7 +15,6 @@ abbrev Inv-loop : tie.InvT-loop
 Inv-loop file table main₀ ptr₀ ctl₀ heap₀ budget pause₀ main ptr ctl heap pause =
     Paused file table (pause₀ .left) (record { regs = pause₀ .regs; main = main₀; ptr = ptr₀; ctl = ctl₀; heap = heap₀ })
     (pause .left) (record { regs = pause .regs; main = main; ptr = ptr; ctl = ctl; heap = heap }) (pause .plan)
-    × NotReal (pause .plan)
 
 abbrev μ-loop : tie.MeasureT-loop
 μ-loop file table main₀ ptr₀ ctl₀ heap₀ budget pause₀ main ptr ctl heap pause = pause .left
@@ -46,7 +45,7 @@ stepped c =
 paused-at : (c : tie.At-loop Inv-loop μ-loop) →
     let A = entry c .args in
     Paused (A .file .now) (A .table .now) (A .budget) (entered (entry c)) (c .loop .pause .left) (turned c) (c .loop .pause .plan)
-paused-at c = paused-from (c .before .before .before .before .before .before .before .before .before .go-far .ensures .0 .going) (c .loop .inv .0)
+paused-at c = paused-from (c .before .before .before .before .before .before .before .before .before .go-on .ensures .going) (c .loop .inv)
 
 -- `step_with` keeps the lengths
 kept-at : (c : tie.After-step-with Inv-loop μ-loop) → SameLengths (stepped c) (turned (turn c))
@@ -72,14 +71,13 @@ answered-requires c κs = search needs
 returns : tie.Need-returns Inv-loop μ-loop
 returns c = rw (c .answered .ensures) (sym (run-finished _ _ (c .before .if1 .taken)))
 
-go-far-requires : tie.Need-go-far-requires Inv-loop μ-loop
-go-far-requires c κs = (c .before .before .before .before .before .before .before .before .before .before .before .pre, c .before .before .before .before .if1 .left)
+go-on-requires : tie.Need-go-on-requires Inv-loop μ-loop
+go-on-requires c κs = (c .before .before .before .before .before .before .before .before .before .before .before .pre, c .before .before .before .before .if1 .left)
 
 loop-holds : tie.Need-loop-holds Inv-loop μ-loop
 loop-holds c =
-    let E = c .before .before .before .before .before .before .before .before .go-far .ensures in
-    let P = E .0 in
-    (record { going = going-start (P .going .runs); on? = P .on?; stopped = P .stopped; some = P .some }, E .1)
+    let P = c .before .before .before .before .before .before .before .before .go-on .ensures in
+    record { going = going-start (P .going .runs); on? = P .on?; stopped = P .stopped }
 
 sub-after : tie.Need-sub-after Inv-loop μ-loop
 sub-after c = omega (arith, c .before .if2 .taken)
@@ -88,8 +86,8 @@ step-with-requires : tie.Need-step-with-requires Inv-loop μ-loop
 step-with-requires c κs =
     let at-if2 = c .before .before .before .before .before .before in
     let I = at-if2 .before .before .loop .inv in
-    let P = I .0 .stopped (at-if2 .if2 .taken) in
-    (P .settles, P .late, I .1)
+    let P = I .stopped (at-if2 .if2 .taken) in
+    (rw (P .is) (alive-settles (I .going .runs .alive) (I .on?)), P .late)
 
 sub-done : tie.Need-sub-done Inv-loop μ-loop
 sub-done c = omega (arith, paused-at (turn (c .before .before .before .before .before .before .before .before .before .before)) .going .less)
@@ -139,23 +137,22 @@ returns-3 c =
     let at-if3 = c .before .before .before .before in
     rw (c .answered3 .ensures) (going-finished (on-at at-if3 (paused-at (turn (step at-if3)))) (c .before .if4 .taken))
 
-go-far-requires-2 : tie.Need-go-far-requires-2 Inv-loop μ-loop
-go-far-requires-2 c κs =
+go-on-requires-2 : tie.Need-go-on-requires-2 Inv-loop μ-loop
+go-on-requires-2 c κs =
     let at-if3 = c .before .before .before .before .before .before .before in
-    (on-at at-if3 (turn (step at-if3) .loop .inv .0) .runs, c .before .before .before .before .if4 .left)
+    (on-at at-if3 (turn (step at-if3) .loop .inv) .runs, c .before .before .before .before .if4 .left)
 
 loop-less : tie.Need-loop-less Inv-loop μ-loop
 loop-less c =
-    let at-go-far2 = c .before .before .before .before .before .before .before .before in
-    let at-if3 = at-go-far2 .before .before .before .before .before .before .before .before in
-    omega (arith, at-go-far2 .go-far2 .ensures .0 .going .less, step at-if3 .before .before .before .before .before .before .before .if2 .taken)
+    let at-go-on2 = c .before .before .before .before .before .before .before .before in
+    let at-if3 = at-go-on2 .before .before .before .before .before .before .before .before in
+    omega (arith, at-go-on2 .go-on2 .ensures .going .less, step at-if3 .before .before .before .before .before .before .before .if2 .taken)
 
 loop-again : tie.Need-loop-again Inv-loop μ-loop
 loop-again c =
-    let at-go-far2 = c .before .before .before .before .before .before .before .before in
-    let at-if3 = at-go-far2 .before .before .before .before .before .before .before .before in
-    let E = at-go-far2 .go-far2 .ensures in
-    (paused-from (on-at at-if3 (turn (step at-if3) .loop .inv .0)) (E .0), E .1)
+    let at-go-on2 = c .before .before .before .before .before .before .before .before in
+    let at-if3 = at-go-on2 .before .before .before .before .before .before .before .before in
+    paused-from (on-at at-if3 (turn (step at-if3) .loop .inv)) (at-go-on2 .go-on2 .ensures)
 
 answered-requires-4 : tie.Need-answered-requires-4 Inv-loop μ-loop
 answered-requires-4 c κs = search needs
@@ -183,7 +180,7 @@ run-on-spec =
     μ-loop
     answered-requires
     returns
-    go-far-requires
+    go-on-requires
     loop-holds
     sub-after
     step-with-requires
@@ -201,7 +198,7 @@ run-on-spec =
     same-length-7
     same-length-8
     returns-3
-    go-far-requires-2
+    go-on-requires-2
     loop-less
     loop-again
     answered-requires-4

@@ -5,8 +5,7 @@ use borrow.Author.Needs.{needs}
 use Rattle.apply.proofs.Tags.{no-write}
 use Rattle.theory_step.specs.Planning.{alive-ready}
 use Rattle.theory_step.specs.Settling.{alive-settles}
-use Rattle.plan_meaning.specs.declared.Plan.the-variants.{Thrown}
-use Rattle.run_steps.specs.Going.{Going, no-real, going-start, going-applied, paused-late, stopped-raise}
+use Rattle.run_steps.specs.Going.{Going, going-start, going-applied, paused-late, stopped-raise}
 use Rattle.run_steps.proofs.go_on.Statement.{statement}
 use Rattle.run_steps.proofs.go_on.Tie as tie
 
@@ -40,9 +39,8 @@ stop-requires c κs = search needs
 returns : tie.Need-returns Inv-loop μ-loop
 returns c =
     let L = c .before .before .before .before .before .before .before .before .loop in
-    let I = L .inv in
-    let late = stopped-raise (I .0 .runs) (I .1) (c .before .before .plan-at .ensures) (no-write _ (c .before .match .keys2)) in
-    rw (c .stop .ensures) (record { going = I .0; on? = I .1; stopped = λ h. late; some = λ q u. c .before .before .before .before .before .before .before .loop-test .taken })
+    let late = stopped-raise (c .before .before .plan-at .ensures) (no-write _ (c .before .match .keys2)) in
+    rw (c .stop .ensures) (record { going = L .inv .0; on? = L .inv .1; stopped = λ h. late })
 
 same-length : tie.Need-same-length Inv-loop μ-loop
 same-length c = returns c .going .alike .main
@@ -112,12 +110,7 @@ stop-requires-3 c κs = search needs
 returns-3 : tie.Need-returns-3 Inv-loop μ-loop
 returns-3 c =
     let L = c .before .before .loop in
-    rw (c .stop3 .ensures) (record {
-      going = L .inv .0;
-      on? = L .inv .1;
-      stopped = λ h. absurd (omega (arith, h, c .before .loop-test .left));
-      some = λ q u. absurd (no-real Thrown refl q u);
-    })
+    rw (c .stop3 .ensures) (record { going = L .inv .0; on? = L .inv .1; stopped = λ h. absurd (omega (arith, h, c .before .loop-test .left)) })
 
 same-length-9 : tie.Need-same-length-9 Inv-loop μ-loop
 same-length-9 c = returns-3 c .going .alike .main
