@@ -19,7 +19,6 @@ use Rattle.apply_words.specs.Asks.{Retract, plainWrite}
 use Rattle.apply_objects.specs.Asks.{MakesNew}
 use Rattle.plan_meaning.specs.Suits.{FitsIn, Suits}
 use Rattle.apply.specs.Applies.{Applies, Late, Lately}
-use Rattle.apply.specs.Ended.{NotReal}
 
 -- no position is another's
 apart : (i j : Into) → (tagOf made.the-type i ≡ tagOf made.the-type j → ⊥) → i ≡ j → ⊥
@@ -103,8 +102,8 @@ module _ {put : Put} {m : Machine} (L : Lately put m) where
 abbrev others : List ℕ
 others = 0 ∷ 1 ∷ 2 ∷ 3 ∷ 4 ∷ 5 ∷ 6 ∷ 7 ∷ []
 
-pub not-real : (plan : Plan) → OneOf others (tagOf planned.the-type plan) → NotReal plan
-not-real plan k q e = miss others 8 tt (rw e at k)
+pub not-real : (plan : Plan) → OneOf others (tagOf planned.the-type plan) → (p : ℕ) → plan ≡ Real p → ⊥
+not-real plan k p e = miss others 8 tt (rw e at k)
 
 pub real-writes : (plan : Plan) (p : ℕ) → plan ≡ Real p → (put : Put) → plan ≡ Write put → ⊥
 real-writes plan p e put u = not-real (Write put) (inl refl) p (sym u ∙ e)

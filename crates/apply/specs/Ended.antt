@@ -60,13 +60,13 @@ raisedBy main t HeapFull = codeOf heapFull
 raisedBy main t NoRoom = codeOf noRoom
 raisedBy main t VectorFault = codeOf vectorFault
 raisedBy main t Thrown = wordAt main (t - 1)
-raisedBy main t (Real q) = 0
+raisedBy main t (Real p) = codeOf outOfRange
 
--- no instruction on reals, which is done as a whole
-abbrev pub NotReal : Plan → Type 0
-NotReal plan = (q : ℕ) → plan ≡ Real q → ⊥
+-- an instruction on reals, if it is one, raises 1: its result is not finite
+abbrev pub RealRaises : List ℕ → Machine → Plan → Type 0
+RealRaises f m plan = (p : ℕ) → plan ≡ Real p → settle f m plan ≡ raised f m (codeOf outOfRange)
 
-settle-raised : (f : List ℕ) (m : Machine) (plan : Plan) → ((put : Put) → plan ≡ Write put → ⊥) → NotReal plan →
+settle-raised : (f : List ℕ) (m : Machine) (plan : Plan) → ((put : Put) → plan ≡ Write put → ⊥) → RealRaises f m plan →
     settle f m plan ≡ raised f m (raisedBy (m .main) (mtop m) plan)
 unfolding settle raisedBy
 settle-raised f m (Write put) never n = absurd (never put refl)
@@ -77,7 +77,7 @@ settle-raised f m HeapFull never n = refl
 settle-raised f m NoRoom never n = refl
 settle-raised f m VectorFault never n = refl
 settle-raised f m Thrown never n = refl
-settle-raised f m (Real q) never n = absurd (n q refl)
+settle-raised f m (Real p) never n = n p refl
 
 -- the registers in the handler
 abbrev pub resumed : Handler → ℕ → ℕ → ℕ → Regs
@@ -177,28 +177,26 @@ module _ {f table : List ℕ} {r : Regs} {main ptr ctl : List ℕ} {g : Handler}
   guard-targets = rw (ap (λ x. x .opened) e, ap (λ x. x .frame) e) (R .caught h .targets)
 
 -- what is asked where an instruction on reals is done, whose body is at p
-pub record RealSettles (f table : List ℕ) (m : Machine) (p : ℕ) : Type 0 where
-  pub suits : RealSuits f p m
-  pub raises : Raises f table (m .regs) (m .main) (m .ptr) (m .ctl)
+abbrev pub RealReady : List ℕ → List ℕ → Regs → ℕ → Type 0
+RealReady f l r p = Ready f l r × (p ≡ r .place + 1)
 
-pub real-ready : {f table : List ℕ} {m : Machine} {p : ℕ} → RealSettles f table m p → Ready f (m .main) (m .regs) × (p ≡ m .regs .place + 1)
-real-ready R =
-    let S = R .suits in
-    let T = R .raises in
-    (record { real = S .real; inside = S .inside; pops = S .pops; pushes = S .pushes; topped = T .main-top; few = T .main-most }, S .body)
+pub real-ready : {f table : List ℕ} {m : Machine} {p : ℕ} → RealSuits f p m → Raises f table (m .regs) (m .main) (m .ptr) (m .ctl) →
+    RealReady f (m .main) (m .regs) p
+real-ready S R =
+    (record { real = S .real; inside = S .inside; pops = S .pops; pushes = S .pushes; topped = R .main-top; few = R .main-most }, S .body)
 
 -- it is done, or 1 is raised
 module _ (f : List ℕ) (m : Machine) (p : ℕ) where
   abbrev realRule : Result
   realRule = rule f m (after f (m .regs .place)) (insAt f (m .regs .place))
 
-  pub real-done : (m′ : Machine) → done m′ ≡ realRule → record { on = true; code = 0; state = m′ } ≡ endedOf (settle f m (Real p))
-  unfolding endedOf settle
+  pub real-done : (m′ : Machine) → done m′ ≡ realRule → next m′ ≡ settle f m (Real p)
+  unfolding settle
   real-done m′ e = rw (← e)
 
-  pub real-raised : {x : Ended} → fails outOfRange ≡ realRule → x ≡ endedOf (raised f m 1) → x ≡ endedOf (settle f m (Real p))
+  pub real-raised : fails outOfRange ≡ realRule → settle f m (Real p) ≡ raised f m (codeOf outOfRange)
   unfolding settle
-  real-raised e d = rw (← e) d
+  real-raised e = rw (← e)
 
 -- what is asked of a plan at a machine
 pub record Settles (f table : List ℕ) (m : Machine) (plan : Plan) : Type 0 where
@@ -210,6 +208,6 @@ pub record Settles (f table : List ℕ) (m : Machine) (plan : Plan) : Type 0 whe
   pub reals : (p : ℕ) → plan ≡ Real p → RealSuits f p m
 
 -- a plan that neither writes nor is done as a whole: its exception is raised
-pub ends-raised : {f table : List ℕ} {m : Machine} {plan : Plan} {code : ℕ} {x : Ended} → Settles f table m plan → ((put : Put) → plan ≡ Write put → ⊥) → NotReal plan →
+pub ends-raised : {f table : List ℕ} {m : Machine} {plan : Plan} {code : ℕ} {x : Ended} → Settles f table m plan → ((put : Put) → plan ≡ Write put → ⊥) → RealRaises f m plan →
     code ≡ raisedBy (m .main) (mtop m) plan → x ≡ endedOf (raised f m code) → x ≡ endedOf (settle f m plan)
 ends-raised {f = f} {m = m} {plan = plan} S never n e d = rw (settle-raised f m plan never n, ← e) d

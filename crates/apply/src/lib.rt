@@ -7,12 +7,12 @@ ghost use lib.ListN.{length};
 ghost use Rattle.model.specs.File.{operand, headOf};
 ghost use Rattle.model.specs.Words.{cut};
 ghost use Rattle.model.specs.Control.{frameOf, recordWords};
-ghost use Rattle.model.specs.Step.{raised};
+ghost use Rattle.model.specs.Step.{next, raised};
 ghost use Rattle.plan_meaning.specs.Settled.{applied, settle};
 ghost use Rattle.laws.specs.Cuts.{Topped};
 ghost use Rattle.apply_words.specs.Asks.{onwards};
 ghost use Rattle.apply.specs.Applies.{Applies, Late, PutsNew, Lately, Later, tried, appliedIf};
-ghost use Rattle.apply.specs.Ended.{Targets, Raises, RealSettles, Settles, endedOf, resumed, raisedBy};
+ghost use Rattle.apply.specs.Ended.{Targets, Raises, RealReady, RealRaises, Settles, endedOf, resumed, raisedBy};
 use control_stack::Handler;
 use model::PROCS_MOST;
 use model::RECORD;
@@ -20,6 +20,7 @@ use model::Regs;
 use plan_meaning::Into;
 use plan_meaning::Plan;
 use plan_meaning::Put;
+use real_steps::Moved;
 ghost use Rattle.model.specs.Calls.{mainMost, ctlMost};
 
 // What a step leads to: on with these registers, or an exception of this code that no handler catches.
@@ -252,47 +253,27 @@ pub fn code_of(plan: Plan, main: &[u32], mtop: usize) -> u32
         Plan::NoRoom => 5,
         Plan::VectorFault => 6,
         Plan::Thrown => main[mtop - 1],
-        Plan::Real(_) => 0,
+        Plan::Real(_) => 1,
     }
 }
 
-// An instruction on reals, done as a whole; exception 1 where its result is not finite.
-fn step_real(
-    file: &[u8],
-    table: &[usize; PROCS_MOST],
-    main: &mut [u32],
-    ptr: &mut [u32],
-    ctl: &mut [u32],
-    regs: Regs,
-    body: usize,
-) -> Outcome
-    requires { ⌜ ((heap : List ℕ) → RealSettles (now file) (now table) (record { regs = regs; main = now main; ptr = now ptr; ctl = now ctl; heap = heap }) body) ⌝ }
-    ensures { λ r. ⌜ ((heap : List ℕ) → record {
-      on = r .on;
-      code = r .code;
-      state = record { regs = r .regs; main = now (main .exit); ptr = now (ptr .exit); ctl = now (ctl .exit); heap = heap };
-    } ≡ endedOf (settle (now (file .entry)) (record {
-      regs = regs;
-      main = now (main .entry);
-      ptr = now (ptr .entry);
-      ctl = now (ctl .entry);
-      heap = heap;
-    }) (Plan.Real body))) ⌝ }
+// An instruction on reals is done as a whole. With any other plan, and where the result is not finite, nothing is touched.
+fn try_real(file: &[u8], main: &mut [u32], regs: Regs, plan: Plan) -> Moved
+    requires { ⌜ ((p : ℕ) → plan ≡ Plan.Real p → RealReady (now file) (now main) regs p) ⌝ }
+    ensures done { λ r. ⌜ (r .done ≡ true → (ptr ctl heap : List ℕ) →
+        next (record { regs = r .regs; main = now (main .exit); ptr = ptr; ctl = ctl; heap = heap })
+        ≡ settle (now (file .entry)) (record { regs = regs; main = now (main .entry); ptr = ptr; ctl = ctl; heap = heap }) plan) ⌝ }
+    ensures kept { λ r. ⌜ (r .done ≡ false → now (main .exit) ≡ now (main .entry)) ⌝ }
+    ensures raises { λ r. ⌜ (r .done ≡ false → (ptr ctl heap : List ℕ) →
+        RealRaises (now (file .entry)) (record { regs = regs; main = now (main .entry); ptr = ptr; ctl = ctl; heap = heap }) plan) ⌝ }
 {
-    let moved = real_steps::step(file, main, regs, body);
-    let done = moved.done;
-    if done {
-        let next = moved.regs;
-        return Outcome {
-            on: true,
-            code: 0,
-            regs: next,
-        };
-    }
-    raise(file, table, main, ptr, ctl, regs, 1)
+    let Plan::Real(body) = plan else {
+        return Moved { done: false, regs };
+    };
+    real_steps::step(file, main, regs, body)
 }
 
-// What a plan comes to that `apply` left, or that is no write: a raise.
+// What a plan comes to that `apply` left, or that is no write: an instruction on reals or a raise, which has one call, so that it is put in here.
 pub fn step_with(
     file: &[u8],
     table: &[usize; PROCS_MOST],
@@ -322,8 +303,15 @@ pub fn step_with(
       heap = now (heap .entry);
     }) plan) ⌝ }
 {
-    if let Plan::Real(body) = plan {
-        return step_real(file, table, main, ptr, ctl, regs, body);
+    let moved = try_real(file, main, regs, plan);
+    let done = moved.done;
+    if done {
+        let next = moved.regs;
+        return Outcome {
+            on: true,
+            code: 0,
+            regs: next,
+        };
     }
     let Plan::Write(put) = plan else {
         let code = code_of(plan, main, regs.mtop);
