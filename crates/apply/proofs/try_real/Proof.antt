@@ -27,7 +27,7 @@ returns-2 c =
       λ d ptr ctl heap. real-done (A .file .now) (record { regs = A .regs; main = A .main .now; ptr = ptr; ctl = ctl; heap = heap }) _ _ (rw d at (E .0 (A .file .now) ptr ctl heap)),
       (
         E .1 .0,
-        λ d ptr ctl heap p u. real-raised (A .file .now) (record { regs = A .regs; main = A .main .now; ptr = ptr; ctl = ctl; heap = heap }) _ (rw d at (E .0 (A .file .now) ptr ctl heap))
+        λ d ptr ctl heap p u. real-raised (A .file .now) (record { regs = A .regs; main = A .main .now; ptr = ptr; ctl = ctl; heap = heap }) _ (rw d at (E .0 (A .file .now) ptr ctl heap)),
       ),
     )
 
