@@ -33,8 +33,10 @@ code-of-requires c κs =
 
 raise-requires : tie.Need-raise-requires
 raise-requires c κs =
-    let k = c .before .before .before .before .before .before .before .before .before .try-real .ensures .1 .0 (c .before .before .before .before .before .before .if1 .left) in
-    rw k (c .before .before .before .before .before .before .before .before .before .before .before .before .before .before .before .before .pre .0 .raises (no-write _ (c .before .before .before .before .before .match .keys2)))
+    let at-match = c .before .before .before .before .before in
+    let k = at-match .before .before .before .before .try-real .ensures .1 .0 (at-match .before .if1 .left) in
+    let S = at-match .before .before .before .before .before .before .before .before .before .before .before in
+    rw k (S .pre .0 .raises (no-write _ (at-match .match .keys2)))
 
 same-length-2 : tie.Need-same-length-2
 same-length-2 c = search needs
@@ -62,7 +64,7 @@ apply-late-requires c κs =
     let at-plan = c .before .before .before .before .before in
     let S = c .before .before .before .before .before .before .before .before .before .before .before .before .before .before .before .before .before in
     let e = at-plan .plan .given .1 in
-    let k = c .before .before .before .before .before .before .before .before .before .before .try-real .ensures .1 .0 (c .before .before .before .before .before .before .before .if1 .left) in
+    let k = at-plan .before .before .before .before .before .try-real .ensures .1 .0 (at-plan .before .before .if1 .left) in
     rw k (to-late (S .pre .0 .writes _ e) (S .pre .1 _ e))
 
 same-length-5 : tie.Need-same-length-5
@@ -83,7 +85,8 @@ returns-3 c =
     let at-late = c .before .before .before .before .before .before .before .before in
     let at-plan = at-late .before .before .before .before .before .before in
     let k = at-plan .before .before .before .before .before .try-real .ensures .1 .0 (at-plan .before .before .if1 .left) in
-    rw (at-plan .plan .given .1, ← (rw k at (at-late .apply-late .ensures (c .before .before .before .before .before .before .before .before .before .before .before .before .before .before .before .before .before .before .before .before .before .before .before .before .before .before .args .file .now))))
+    let S = at-plan .before .before .before .before .before .before .before .before .before .before .before .before in
+    rw (at-plan .plan .given .1, ← (rw k at (at-late .apply-late .ensures (S .args .file .now))))
 
 pub step-with-spec : {M : Type 1} → statement M
 step-with-spec =

@@ -56,26 +56,33 @@ is-finite-requires c κs = search needs
 cut-to-requires : tie.Need-cut-to-requires
 cut-to-requires c κs = search needs
 
+-- what was given, where the test is made
+abbrev entry : tie.After-is-finite → tie.Start
+entry c = c .before .before .before .before .before .before .before .before .before .before .before
+
 put-real-requires : tie.Need-put-real-requires
 put-real-requires c κs =
-    let S = c .before .before .before .before .before .before .before .before .before .before .before .before .before .before .before .before .before in
-    let t = sym (c .before .before .before .before .before .before .is-finite .ensures) ∙ c .before .before .before .before .before .if1 .taken in
-    let x = c .before .before .before .before .before .before .before .shifted .result in
+    let at-finite = c .before .before .before .before .before .before in
+    let S = entry at-finite in
+    let x = at-finite .before .shifted .result in
+    let t = sym (at-finite .is-finite .ensures) ∙ c .before .before .before .before .before .if1 .taken in
     (both-true (finite (x .across)) (finite (x .along)) t .0, omega (arith, c .before .before .before .cut-to .kept, S .pre .0 .fits, S .pre .1))
 
 add-put-real : tie.Need-add-put-real
-add-put-real c = omega (arith, c .before .before .before .before .before .before .before .before .before .before .before .before .before .before .before .before .before .before .before .before .before .pre .0 .fits, c .before .before .before .before .before .before .before .before .before .before .before .before .before .before .before .before .before .before .before .before .before .pre .1)
+add-put-real c = let S = entry (c .before .before .before .before .before .before .before .before .before .before) in omega (arith, S .pre .0 .fits, S .pre .1)
 
 put-real-requires-2 : tie.Need-put-real-requires-2
 put-real-requires-2 c κs =
-    let S = c .before .before .before .before .before .before .before .before .before .before .before .before .before .before .before .before .before .before .before .before .before in
-    let t = sym (c .before .before .before .before .before .before .before .before .before .before .is-finite .ensures) ∙ c .before .before .before .before .before .before .before .before .before .if1 .taken in
+    let at-cut = c .before .before .before .before .before .before .before in
+    let at-finite = at-cut .before .before .before in
+    let S = entry at-finite in
+    let x = at-finite .before .shifted .result in
+    let t = sym (at-finite .is-finite .ensures) ∙ at-cut .before .before .if1 .taken in
     let k = c .before .before .before .put-real .kept in
-    let x = c .before .before .before .before .before .before .before .before .before .before .before .shifted .result in
-    (both-true (finite (x .across)) (finite (x .along)) t .1, omega (arith, k, c .before .before .before .before .before .before .before .cut-to .kept, S .pre .0 .fits, S .pre .1))
+    (both-true (finite (x .across)) (finite (x .along)) t .1, omega (arith, k, at-cut .cut-to .kept, S .pre .0 .fits, S .pre .1))
 
 add-goes-on : tie.Need-add-goes-on
-add-goes-on c = omega (arith, c .before .before .before .before .before .before .before .before .before .before .before .before .before .before .before .before .before .before .before .before .before .before .before .before .pre .0 .fits, c .before .before .before .before .before .before .before .before .before .before .before .before .before .before .before .before .before .before .before .before .before .before .before .before .pre .2)
+add-goes-on c = let S = entry (c .before .before .before .before .before .before .before .before .before .before .before .before .before) in omega (arith, S .pre .0 .fits, S .pre .2)
 
 goes-on-requires : tie.Need-goes-on-requires
 goes-on-requires c κs = search needs

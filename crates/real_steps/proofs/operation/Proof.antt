@@ -47,7 +47,9 @@ returns c =
     let S = at-finite .before .before .before .before .before .before .before .before in
     let t = sym (at-finite .is-finite .ensures) ∙ at-cut .before .before .if1 .taken in
     rw (c .goes-on .ensures, c .before .before .before .put-real .ensures, at-cut .cut-to .ensures) (
-      λ f p. rw (O .code f p) (operation-done _ _ _ (S .pre .1) (O .op) _ (O .is ∙ rw (at-finite .before .before .before .before .real-at .ensures, at-finite .before .before .real-at2 .ensures)) t),
+      λ f p. rw (O .code f p)
+          (operation-done _ _ _ (S .pre .1) (O .op) _
+          (O .is ∙ rw (at-finite .before .before .before .before .real-at .ensures, at-finite .before .before .real-at2 .ensures)) t),
       (λ e. absurd (true≢false e), refl),
     )
 
@@ -62,7 +64,12 @@ returns-2 c =
     let O = c .before .before .before .operate .ensures in
     let S = c .before .before .before .before .before .before .before .before .before .before in
     let t = sym (c .before .before .is-finite .ensures) ∙ c .before .if1 .left in
-    rw (c .not-finite .ensures) (λ f p. rw (O .code f p) (operation-raises _ _ _ (S .pre .1) (O .op) _ (O .is ∙ rw (c .before .before .before .before .before .before .real-at .ensures, c .before .before .before .before .real-at2 .ensures)) t), (λ e. refl, refl))
+    let at-second = c .before .before .before .before in
+    rw (c .not-finite .ensures) (
+      λ f p. rw (O .code f p)
+          (operation-raises _ _ _ (S .pre .1) (O .op) _ (O .is ∙ rw (at-second .before .before .real-at .ensures, at-second .real-at2 .ensures)) t),
+      (λ e. refl, refl),
+    )
 
 pub operation-spec : {M : Type 1} → statement M
 operation-spec =
