@@ -22,7 +22,7 @@ use Rattle.apply.specs.declared.Outcome.{Outcome}
 use Rattle.control_stack.specs.declared.Handler.{Handler}
 use Rattle.control_stack.specs.Layout.{theHandler}
 use Rattle.laws.specs.Cuts.{Topped}
-use Rattle.real_steps.specs.Does.{Ready}
+use Rattle.real_steps.specs.Does.{RealHere}
 use Rattle.apply.specs.Applies.{Stands, Applies}
 
 -- the step leads on to a state, or to an uncaught exception, with the state that stays
@@ -178,7 +178,7 @@ module _ {f table : List ℕ} {r : Regs} {main ptr ctl : List ℕ} {g : Handler}
 
 -- what is asked where an instruction on reals is done, whose body is at p
 abbrev pub RealReady : List ℕ → List ℕ → Regs → ℕ → Type 0
-RealReady f l r p = Ready f l r × (p ≡ r .place + 1)
+RealReady f l r p = RealHere f l r × (p ≡ r .place + 1)
 
 pub real-ready : {f table : List ℕ} {m : Machine} {p : ℕ} → RealSuits f p m → Raises f table (m .regs) (m .main) (m .ptr) (m .ctl) →
     RealReady f (m .main) (m .regs) p

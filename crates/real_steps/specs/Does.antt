@@ -32,8 +32,8 @@ abbrev pub putReal : List ℕ → ℕ → Float → List ℕ
 putReal l i x = set (set l i (toBits binary64 x / wordsMany)) (i + 1) (toBits binary64 x % wordsMany)
 
 -- on to another place, with another top
-abbrev pub onward : Regs → ℕ → ℕ → Regs
-onward r q t =
+abbrev pub movedOn : Regs → ℕ → ℕ → Regs
+movedOn r q t =
     record { place = q; frame = r .frame; handler = r .handler; mtop = t; ptop = r .ptop; ctop = r .ctop; state = r .state }
 
 -- done, or that 1 is raised
@@ -49,7 +49,7 @@ Does l r q t r′ l′ i =
     ≡ rule f (record { regs = r; main = l; ptr = ptr; ctl = ctl; heap = heap }) q i
 
 -- what is asked: an instruction on reals stands at the place, its record is in the file, the words popped are there, and those pushed fit
-pub record Ready (f l : List ℕ) (r : Regs) : Type 0 where
+pub record RealHere (f l : List ℕ) (r : Regs) : Type 0 where
   pub real : isReal? (insAt f (r .place)) ≡ true
   pub inside : after f (r .place) ≤ length f
   pub pops : effectOf f (insAt f (r .place)) .popMain ≤ r .mtop
@@ -58,9 +58,9 @@ pub record Ready (f l : List ℕ) (r : Regs) : Type 0 where
   pub few : length l ≤ mainMost
 
 -- what that gives where the code is known
-module _ {f l : List ℕ} {r : Regs} (R : Ready f l r) where
-  pub place-in : r .place < length f
-  place-in = omega (arith, R .inside, after-above f (r .place))
+module _ {f l : List ℕ} {r : Regs} (R : RealHere f l r) where
+  pub real-place : r .place < length f
+  real-place = omega (arith, R .inside, after-above f (r .place))
 
   pub literal-ready : byteAt f (r .place) ≡ 53 → (r .place + 8 < length f) × (r .mtop + 1 < length l)
   unfolding after insAt insOf bodyOf bodies codes effectOf basicEffect

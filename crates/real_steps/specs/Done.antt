@@ -2,7 +2,7 @@
 -- are words pushed.
 use Prim.Native.Nat.{ℕ, _+_, _-_, _≤_}
 use mathlib.Core.Bool.{Bool, true, false, _&&_}
-use mathlib.Core.List.{List, [], _∷_}
+use mathlib.Core.List.{List}
 use mathlib.Core.Path.{_≡_, refl}
 use native.Mathlib.Omega.{arith}
 use lib.Ieee.{Float}
@@ -15,7 +15,7 @@ use Rattle.model.specs.Control.{Machine}
 use Rattle.model.specs.Moves.{popMain, pushWords}
 use Rattle.model.specs.Instructions.{Result, done, andGo, onReals, basicRule, rule}
 use Rattle.model.specs.declared.Regs.{Regs}
-use Rattle.real_steps.specs.Does.{realAt, pointAt, putReal, onward, Does}
+use Rattle.real_steps.specs.Does.{realAt, pointAt, putReal, movedOn, Does}
 
 and-true : (a b : Bool) → (a && (b && true)) ≡ (a && b)
 and-true true true = refl
@@ -41,7 +41,7 @@ module _ (l : List ℕ) (r : Regs) (q : ℕ) where
   top = r .mtop
 
   pub literal-done : (f : List ℕ) (p h w : ℕ) → h ≡ operand4 f p → w ≡ operandLow f p →
-      Does l r q true (onward r q (top + 2)) (set (set l top h) (top + 1) w) (insOf f p 53)
+      Does l r q true (movedOn r q (top + 2)) (set (set l top h) (top + 1) w) (insOf f p 53)
   unfolding rule basicRule insOf
   literal-done f p h w eh ew = λ g ptr ctl heap. let e : top + 1 + 1 ≡ top + 2 = omega arith in rw (eh, ew, e)
 
@@ -50,7 +50,7 @@ module _ (l : List ℕ) (r : Regs) (q : ℕ) where
     at = top - 4
 
     module _ (o : RealOp) (x : Float) (is : x ≡ operateReals o (realAt l at) (realAt l (at + 2))) where
-      pub operation-done : finite x ≡ true → Does l r q true (onward r q (at + 2)) (putReal (cut at l) at x) (basic (real o))
+      pub operation-done : finite x ≡ true → Does l r q true (movedOn r q (at + 2)) (putReal (cut at l) at x) (basic (real o))
       unfolding rule basicRule wordsOf allFinite
       operation-done t =
           λ f ptr ctl heap.
@@ -70,7 +70,7 @@ module _ (l : List ℕ) (r : Regs) (q : ℕ) where
           rw (e3, e2, e1, ← is, t)
 
     pub less-done : (w : ℕ) → w ≡ bit (lessReals (realAt l at) (realAt l (at + 2))) →
-        Does l r q true (onward r q (at + 1)) (set (cut at l) at w) (basic realLess)
+        Does l r q true (movedOn r q (at + 1)) (set (cut at l) at w) (basic realLess)
     unfolding rule basicRule
     less-done w is =
         λ f ptr ctl heap.
@@ -104,7 +104,7 @@ module _ (l : List ℕ) (r : Regs) (q : ℕ) where
           )
 
       pub hoop-done : (finite (p .across) && finite (p .along)) ≡ true →
-          Does l r q true (onward r q (low + 4)) (putReal (putReal (cut low l) low (p .across)) (low + 2) (p .along)) (basic hoop)
+          Does l r q true (movedOn r q (low + 4)) (putReal (putReal (cut low l) low (p .across)) (low + 2) (p .along)) (basic hoop)
       unfolding wordsOf allFinite
       hoop-done t =
           λ f ptr ctl heap.

@@ -6,14 +6,13 @@ ghost use mathlib.Core.Bool.{true, false};
 ghost use mathlib.Core.List.{List};
 ghost use mathlib.Core.Logic.{_⊎_};
 ghost use Prim.Native.Nat.{ℕ, _+_, _<_, _≤_};
-ghost use lib.Ieee.{Float};
 ghost use lib.Ieee.Scale.{finite};
 ghost use lib.ListN.{length};
 ghost use Rattle.model.specs.File as model;
 ghost use Rattle.model.specs.Calls.{mainMost};
 ghost use Rattle.laws.specs.Cuts.{Topped};
 ghost use Rattle.reals.specs.Given.{asPoint};
-ghost use Rattle.real_steps.specs.Does.{realAt, pointAt, putReal, onward, Does, Ready};
+ghost use Rattle.real_steps.specs.Does.{realAt, pointAt, putReal, movedOn, Does, RealHere};
 
 // What an instruction on reals comes to: the registers after it, or that its result is not finite, nothing being touched.
 pub struct Moved {
@@ -23,7 +22,7 @@ pub struct Moved {
 
 // On to the next place, with another top of the main stack.
 fn goes_on(regs: Regs, next: usize, top: usize) -> Moved
-    ensures { λ r. ⌜ r ≡ record { done = true; regs = onward regs next top } ⌝ }
+    ensures { λ r. ⌜ r ≡ record { done = true; regs = movedOn regs next top } ⌝ }
 {
     Moved {
         done: true,
@@ -140,7 +139,7 @@ fn hoop(main: &mut [u32], regs: Regs, next: usize) -> Moved
 
 // The instruction on reals at the machine's place; body is the place behind its code.
 pub fn step(file: &[u8], main: &mut [u32], regs: Regs, body: usize) -> Moved
-    requires { ⌜ Ready (now file) (now main) regs × (body ≡ regs .place + 1) ⌝ }
+    requires { ⌜ RealHere (now file) (now main) regs × (body ≡ regs .place + 1) ⌝ }
     ensures does { λ r. ⌜ Does (now (main .entry)) regs (model.after (now (file .entry)) (regs .place)) (r .done) (r .regs) (now (main .exit)) (model.insAt (now (file .entry)) (regs .place)) ⌝ }
     ensures kept { λ r. ⌜ (r .done ≡ false → now (main .exit) ≡ now (main .entry)) ⌝ }
     ensures running { λ r. ⌜ r .regs .state ≡ regs .state ⌝ }

@@ -1,10 +1,10 @@
 -- A real is finite exactly if the difference with itself equals 0; and one that is finite is no NaN.
 use mathlib.Core.Path.{_≡_, refl, sym, ap, _∙_, subst}
 use Prim.Native.Nat.{ℕ, _-_, _*_, _/_, _^_, _<_}
-use native.Mathlib.Nat.{lt-irrefl, zero-mul, mul-pos}
+use native.Mathlib.Nat.{zero-mul, mul-pos}
 use native.Mathlib.Omega.{arith}
 use mathlib.Core.Bool.{Bool, true, false, not, _&&_, cond}
-use lib.IntN.{ℤ, pos}
+use lib.IntN.{pos}
 use lib.Dec.{T, ltb, lit<}
 use lib.Ieee.{Float, nan, inf, fin, binary64, up, down, round, sum, add, sub, neg, eq, ofBits, toBits, fits, isNan}
 use lib.Ieee.Bits.{toBits-lt}

@@ -7,7 +7,7 @@ use denote.Ref.{now}
 use Rattle.model.specs.Checker.{basicEffect, effectOf}
 use Rattle.model.specs.File.{codes, bodies, bodyOf, makerPops, insOf}
 use Rattle.laws_file.specs.Kinds.{at-each}
-use Rattle.plan_meaning.specs.Planned.{basicPlan, planOf, planned}
+use Rattle.plan_meaning.specs.Planned.{planOf, planned}
 use Rattle.plan.specs.Arms.{place-in, place-small, main-within, ptr-within, record-in, body-here, body, pops-main, pops-ptr, on-words, jump-on}
 use Rattle.plan.specs.Arms.{main-word, ptr-word, taken-main, taken-ptr, points, callee, subject, plan-of, plan-here}
 use Rattle.plan.specs.Kinds.{last-arm, last-planned}

@@ -3,13 +3,13 @@ use Rattle.model.specs.File.{insOf, insAt}
 use native.Mathlib.Omega.{arith}
 use mathlib.Core.Logic.{inl, inr}
 use mathlib.Core.Path.{refl}
-use Rattle.real_steps.specs.Does.{place-in, literal-ready, operation-four, operation-code, four-ready, ten-ready, operation-ready, after-literal, after-code}
+use Rattle.real_steps.specs.Does.{real-place, literal-ready, operation-four, operation-code, four-ready, ten-ready, operation-ready, after-literal, after-code}
 use borrow.Author.Needs.{needs}
 use Rattle.real_steps.proofs.step.Statement.{statement}
 use Rattle.real_steps.proofs.step.Tie as tie
 
 shared-slice-read-kind : tie.Need-shared-slice-read-kind
-shared-slice-read-kind c = place-in (c .before .before .before .pre .0)
+shared-slice-read-kind c = real-place (c .before .before .before .pre .0)
 
 add-literal : tie.Need-add-literal
 add-literal c = omega (arith, c .before .before .before .before .before .pre .1, literal-ready (c .before .before .before .before .before .pre .0) (c .before .match .keys1) .0)
