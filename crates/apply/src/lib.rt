@@ -273,7 +273,7 @@ fn try_real(file: &[u8], main: &mut [u32], regs: Regs, plan: Plan) -> Moved
     real_steps::step(file, main, regs, body)
 }
 
-// What a plan comes to that `apply` left, or that is no write: an instruction on reals or a raise, which has one call, so that it is put in here.
+// What a plan comes to that `apply` left, or that is no write: an instruction on reals, or a raise. `raise` has this one call, so that the compiler puts it in here.
 pub fn step_with(
     file: &[u8],
     table: &[usize; PROCS_MOST],

@@ -1,4 +1,4 @@
-// Manual 4.31 to 4.34: the instructions on reals, done: words popped, the result worked out and tested, its words pushed.
+// Manual 4.31 to 4.34: the instructions on reals, done: the result worked out and tested, then words popped and its words pushed.
 use model::Regs;
 use reals::Point;
 ghost use mathlib.Core.Path.{_≡_};
