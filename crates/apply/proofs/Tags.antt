@@ -14,7 +14,7 @@ use Rattle.plan_meaning.specs.declared.Into.{Into}
 use Rattle.plan_meaning.specs.declared.Into.the-variants as into
 use Rattle.plan_meaning.specs.declared.Put.{Put}
 use Rattle.plan_meaning.specs.declared.Plan.{Plan}
-use Rattle.plan_meaning.specs.declared.Plan.the-variants.{Write, Real}
+use Rattle.plan_meaning.specs.declared.Plan.the-variants.{Write}
 use Rattle.apply_words.specs.Asks.{Retract, plainWrite}
 use Rattle.apply_objects.specs.Asks.{MakesNew}
 use Rattle.plan_meaning.specs.Suits.{FitsIn, Suits}
@@ -97,16 +97,6 @@ module _ {put : Put} {m : Machine} (L : Lately put m) where
       some (inr (inl (inr (inl e)))) = absurd (miss noReturn 17 tt (rw e at k))
       some (inr (inl (inr (inr e)))) = absurd (miss noReturn 18 tt (rw e at k))
       some (inr (inr e)) = absurd (miss noReturn 12 tt (rw (e .0) at k))
-
--- all plans but instructions on reals
-abbrev others : List ℕ
-others = 0 ∷ 1 ∷ 2 ∷ 3 ∷ 4 ∷ 5 ∷ 6 ∷ 7 ∷ []
-
-pub not-real : (plan : Plan) → OneOf others (tagOf planned.the-type plan) → (p : ℕ) → plan ≡ Real p → ⊥
-not-real plan k p e = miss others 8 tt (rw e at k)
-
-pub real-writes : (plan : Plan) (p : ℕ) → plan ≡ Real p → (put : Put) → plan ≡ Write put → ⊥
-real-writes plan p e put u = not-real (Write put) (inl refl) p (sym u ∙ e)
 
 -- all plans but writes
 abbrev raising : List ℕ

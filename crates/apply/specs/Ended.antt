@@ -7,13 +7,12 @@ use lib.ListN.{length, getD, set}
 use borrow.Author.Tests.{eq-eqb, ne-eqb}
 use Rattle.model.specs.Words.{wordAt, cut}
 use Rattle.model.specs.Calls.{mainMost, ctlMost}
-use Rattle.model.specs.File.{fileMost, procsMost, headOf, operand, after, insAt}
+use Rattle.model.specs.File.{fileMost, procsMost, headOf, operand}
 use Rattle.model.specs.Control.{Machine, frameOf, handlerOf, recordWords}
 use Rattle.model.specs.Moves.{mtop}
-use Rattle.model.specs.Instructions.{codeOf, outOfRange, nilObject, noSuchWord, heapFull, noRoom, vectorFault, Result, done, fails, rule}
+use Rattle.model.specs.Instructions.{codeOf, outOfRange, nilObject, noSuchWord, heapFull, noRoom, vectorFault}
 use Rattle.model.specs.Step.{Stepped, next, uncaught, caught, raised}
 use Rattle.plan_meaning.specs.Settled.{settle}
-use Rattle.plan_meaning.specs.Suits.{RealSuits}
 use Rattle.model.specs.declared.Regs.{Regs}
 use Rattle.plan_meaning.specs.declared.Put.{Put}
 use Rattle.plan_meaning.specs.declared.Plan.{Plan}
@@ -22,7 +21,6 @@ use Rattle.apply.specs.declared.Outcome.{Outcome}
 use Rattle.control_stack.specs.declared.Handler.{Handler}
 use Rattle.control_stack.specs.Layout.{theHandler}
 use Rattle.laws.specs.Cuts.{Topped}
-use Rattle.real_steps.specs.Does.{RealHere}
 use Rattle.apply.specs.Applies.{Stands, Applies}
 
 -- the step leads on to a state, or to an uncaught exception, with the state that stays
@@ -176,36 +174,12 @@ module _ {f table : List ℕ} {r : Regs} {main ptr ctl : List ℕ} {g : Handler}
   pub guard-targets : Targets f table ctl (g .opened) (g .frame)
   guard-targets = rw (ap (λ x. x .opened) e, ap (λ x. x .frame) e) (R .caught h .targets)
 
--- what is asked where an instruction on reals is done, whose body is at p
-abbrev pub RealReady : List ℕ → List ℕ → Regs → ℕ → Type 0
-RealReady f l r p = RealHere f l r × (p ≡ r .place + 1)
-
-pub real-ready : {f table : List ℕ} {m : Machine} {p : ℕ} → RealSuits f p m → Raises f table (m .regs) (m .main) (m .ptr) (m .ctl) →
-    RealReady f (m .main) (m .regs) p
-real-ready S R =
-    (record { real = S .real; inside = S .inside; pops = S .pops; pushes = S .pushes; topped = R .main-top; few = R .main-most }, S .body)
-
--- it is done, or 1 is raised
-module _ (f : List ℕ) (m : Machine) (p : ℕ) where
-  abbrev realRule : Result
-  realRule = rule f m (after f (m .regs .place)) (insAt f (m .regs .place))
-
-  pub real-done : (m′ : Machine) → done m′ ≡ realRule → next m′ ≡ settle f m (Real p)
-  unfolding settle
-  real-done m′ e = rw (← e)
-
-  pub real-raised : fails outOfRange ≡ realRule → settle f m (Real p) ≡ raised f m (codeOf outOfRange)
-  unfolding settle
-  real-raised e = rw (← e)
-
 -- what is asked of a plan at a machine
 pub record Settles (f table : List ℕ) (m : Machine) (plan : Plan) : Type 0 where
   pub writes : (put : Put) → plan ≡ Write put → Applies f put m
   pub raises : ((put : Put) → plan ≡ Write put → ⊥) → Raises f table (m .regs) (m .main) (m .ptr) (m .ctl)
   -- 162 pops a word
   pub thrown : plan ≡ Thrown → 1 ≤ mtop m
-  -- an instruction on reals is in the file, its words are there, and what it pushes fits
-  pub reals : (p : ℕ) → plan ≡ Real p → RealSuits f p m
 
 -- a plan that neither writes nor is done as a whole: its exception is raised
 pub ends-raised : {f table : List ℕ} {m : Machine} {plan : Plan} {code : ℕ} {x : Ended} → Settles f table m plan → ((put : Put) → plan ≡ Write put → ⊥) → RealRaises f m plan →

@@ -7,12 +7,12 @@ ghost use lib.ListN.{length};
 ghost use Rattle.model.specs.File.{operand, headOf};
 ghost use Rattle.model.specs.Words.{cut};
 ghost use Rattle.model.specs.Control.{frameOf, recordWords};
-ghost use Rattle.model.specs.Step.{next, raised};
+ghost use Rattle.model.specs.Step.{raised};
 ghost use Rattle.plan_meaning.specs.Settled.{applied, settle};
 ghost use Rattle.laws.specs.Cuts.{Topped};
 ghost use Rattle.apply_words.specs.Asks.{onwards};
 ghost use Rattle.apply.specs.Applies.{Applies, Late, PutsNew, Lately, Later, tried, appliedIf};
-ghost use Rattle.apply.specs.Ended.{Targets, Raises, RealReady, RealRaises, Settles, endedOf, resumed, raisedBy};
+ghost use Rattle.apply.specs.Ended.{Targets, Raises, RealRaises, Settles, endedOf, resumed, raisedBy};
 use control_stack::Handler;
 use model::PROCS_MOST;
 use model::RECORD;
@@ -20,7 +20,6 @@ use model::Regs;
 use plan_meaning::Into;
 use plan_meaning::Plan;
 use plan_meaning::Put;
-use real_steps::Moved;
 ghost use Rattle.model.specs.Calls.{mainMost, ctlMost};
 
 // What a step leads to: on with these registers, or an exception of this code that no handler catches.
@@ -257,23 +256,7 @@ pub fn code_of(plan: Plan, main: &[u32], mtop: usize) -> u32
     }
 }
 
-// An instruction on reals is done as a whole. With any other plan, and where the result is not finite, nothing is touched.
-fn try_real(file: &[u8], main: &mut [u32], regs: Regs, plan: Plan) -> Moved
-    requires { ⌜ ((p : ℕ) → plan ≡ Plan.Real p → RealReady (now file) (now main) regs p) ⌝ }
-    ensures done { λ r. ⌜ (r .done ≡ true → (ptr ctl heap : List ℕ) →
-        next (record { regs = r .regs; main = now (main .exit); ptr = ptr; ctl = ctl; heap = heap })
-        ≡ settle (now (file .entry)) (record { regs = regs; main = now (main .entry); ptr = ptr; ctl = ctl; heap = heap }) plan) ⌝ }
-    ensures kept { λ r. ⌜ (r .done ≡ false → now (main .exit) ≡ now (main .entry)) ⌝ }
-    ensures raises { λ r. ⌜ (r .done ≡ false → (ptr ctl heap : List ℕ) →
-        RealRaises (now (file .entry)) (record { regs = regs; main = now (main .entry); ptr = ptr; ctl = ctl; heap = heap }) plan) ⌝ }
-{
-    let Plan::Real(body) = plan else {
-        return Moved { done: false, regs };
-    };
-    real_steps::step(file, main, regs, body)
-}
-
-// What a plan comes to that `apply` left, or that is no write: an instruction on reals, or a raise. `raise` has this one call, so that the compiler puts it in here.
+// What a plan comes to that `apply` left, or that is no write: a raise. Of the instructions on reals only those come here whose result is not finite.
 pub fn step_with(
     file: &[u8],
     table: &[usize; PROCS_MOST],
@@ -284,7 +267,8 @@ pub fn step_with(
     regs: Regs,
     plan: Plan,
 ) -> Outcome
-    requires { ⌜ Settles (now file) (now table) (record { regs = regs; main = now main; ptr = now ptr; ctl = now ctl; heap = now heap }) plan × Later regs plan ⌝ }
+    requires { ⌜ Settles (now file) (now table) (record { regs = regs; main = now main; ptr = now ptr; ctl = now ctl; heap = now heap }) plan × Later regs plan
+        × RealRaises (now file) (record { regs = regs; main = now main; ptr = now ptr; ctl = now ctl; heap = now heap }) plan ⌝ }
     ensures { λ r. ⌜ record {
       on = r .on;
       code = r .code;
@@ -303,16 +287,6 @@ pub fn step_with(
       heap = now (heap .entry);
     }) plan) ⌝ }
 {
-    let moved = try_real(file, main, regs, plan);
-    let done = moved.done;
-    if done {
-        let next = moved.regs;
-        return Outcome {
-            on: true,
-            code: 0,
-            regs: next,
-        };
-    }
     let Plan::Write(put) = plan else {
         let code = code_of(plan, main, regs.mtop);
         return raise(file, table, main, ptr, ctl, regs, code);

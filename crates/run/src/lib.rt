@@ -47,6 +47,9 @@ pub fn run_on(
         return answered(Answer::Finished(0), regs);
     }
     let mut pause = run_steps::go_on(file, table, main, ptr, ctl, heap, regs, budget);
+    if run_reals::at_real(pause.plan) {
+        pause = run_reals::go_on(file, table, main, ptr, ctl, heap, pause);
+    }
     while 0 < pause.left {
         let after = pause.left - 1;
         let r = pause.regs;
@@ -64,6 +67,9 @@ pub fn run_on(
             return answered(Answer::Finished(done), next);
         }
         pause = run_steps::go_on(file, table, main, ptr, ctl, heap, next, after);
+        if run_reals::at_real(pause.plan) {
+            pause = run_reals::go_on(file, table, main, ptr, ctl, heap, pause);
+        }
     }
     answered(Answer::Spent(budget), pause.regs)
 }

@@ -18,7 +18,8 @@ use Rattle.model.specs.Sound.{innerAt}
 use Rattle.plan_meaning.specs.Bridge.{Apt, bridge, suited}
 use Rattle.plan_meaning.specs.Planned.{planAt}
 use Rattle.plan_meaning.specs.Settled.{settle}
-use Rattle.plan_meaning.specs.Suits.{Suited}
+use Rattle.plan_meaning.specs.Suits.{RealSuits, Suited}
+use Rattle.plan_meaning.specs.declared.Plan.the-variants.{Real}
 use Rattle.laws_file.specs.Codes.{enter-after}
 use Rattle.laws_file.specs.Procedures.{head-whole}
 use Rattle.laws_file.specs.Walk.{instruction-below, instruction-whole, proc-below}
@@ -167,8 +168,11 @@ module _ {f map table : List ℕ} {m : Machine} (A : Alive f map table m) (n i j
         writes = λ put e. record { stands = stands; suits = subst (Suited f m) e (suited f m apt) };
         raises = λ never. stands-raises f table m stands caught;
         thrown = λ e. subst (Suited f m) e (suited f m apt);
-        reals = λ q e. subst (Suited f m) e (suited f m apt);
       }
+
+  -- an instruction on reals is in the file, its words are there, and what it pushes fits
+  pub running-real : (p : ℕ) → planAt f m ≡ Real p → RealSuits f p m
+  running-real p e = subst (Suited f m) e (suited f m apt)
 
   pub running-plan : settle f m (planAt f m) ≡ step f m
   running-plan = bridge f m apt
@@ -176,6 +180,9 @@ module _ {f map table : List ℕ} {m : Machine} (A : Alive f map table m) (n i j
 module _ {f map table : List ℕ} {m : Machine} (A : Alive f map table m) (u : m .regs .state ≡ 1 → ⊥) where
   pub alive-settles : Settles f table m (planAt f m)
   alive-settles = let S = alive-running A u in running-settles A (S .0) (S .1) (S .2) (S .3)
+
+  pub alive-real : (p : ℕ) → planAt f m ≡ Real p → RealSuits f p m
+  alive-real = let S = alive-running A u in running-real A (S .0) (S .1) (S .2) (S .3)
 
   -- the plan comes to the step
   pub alive-plan : settle f m (planAt f m) ≡ step f m
