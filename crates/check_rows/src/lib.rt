@@ -1,11 +1,13 @@
 // What an instruction makes of the state before it that leads to the next one alone, or nowhere: the tests of 5, 6 and 7, and the depths
 // behind it. Each has a row of its own with its length, pops and pushes: the compiler makes of each row only the tests that it needs.
 ghost use mathlib.Core.Path.{_≡_};
+ghost use mathlib.Core.List.{List};
 ghost use mathlib.Core.Logic.{_⊎_};
-ghost use Prim.Native.Nat.{_+_, _<_, _≤_};
+ghost use Prim.Native.Nat.{ℕ, suc, _+_, _<_, _≤_};
 ghost use lib.ListN.{length};
 ghost use Rattle.model.specs.File as model;
-ghost use Rattle.laws_file.specs.Kinds.{NoneOf};
+ghost use Rattle.laws_file.specs.Codes.{realCodes};
+ghost use Rattle.laws_file.specs.Kinds.{OneOf, NoneOf};
 ghost use Rattle.check_rows.specs.Shape.{shapeOf, Next, Raise};
 ghost use Rattle.check_rows.specs.Site.{Table, Site};
 ghost use Rattle.check_rows.specs.Kinds.{NoJump, elsewhere};
@@ -237,7 +239,21 @@ fn calls(
     step(s, o, limits, p, 3, head.a, head.b, head.r, head.s)
 }
 
-// The instruction of this kind at p, of k procedures; one that has no row here is 162.
+// 53, 150 to 153, 155 and 156
+fn reals(p: usize, kind: u8, s: State, o: State, limits: Limits) -> Onward
+    requires { ⌜ (p < fileMost) × OneOf realCodes kind × Bounded (asState s) (asState o) limits ⌝ }
+    ensures { λ r. ⌜ ((f : List ℕ) → r ≡ plainly (asState s) (asState o) limits (p + suc (model.bodyOf kind)) (shapeOf f p (model.insOf f p kind))) ⌝ }
+{
+    match kind {
+        53 => step(s, o, limits, p, 9, 0, 0, 2, 0),
+        155 => step(s, o, limits, p, 1, 4, 0, 1, 0),
+        156 => step(s, o, limits, p, 1, 10, 0, 4, 0),
+        _ => step(s, o, limits, p, 1, 4, 0, 2, 0),
+    }
+}
+
+// The instruction of this kind at p, of k procedures; one that has no row here is an instruction on reals: with an arm for each of these the
+// compiler kept other things in registers, and every instruction of a file took two or three machine instructions more.
 pub fn plain_at(
     file: &[u8],
     table: &[usize; PROCS_MOST],
@@ -275,11 +291,7 @@ pub fn plain_at(
         144 | 146 => step(s, o, limits, p, 1, 1, 0, 1, 0),
         130 | 140 | 142 | 145 | 195 | 198 | 201 | 204 => step(s, o, limits, p, 1, 2, 0, 1, 0),
         141 | 143 => step(s, o, limits, p, 1, 2, 0, 1, 0),
-        53 => step(s, o, limits, p, 9, 0, 0, 2, 0),
-        150 | 152 => step(s, o, limits, p, 1, 4, 0, 2, 0),
-        151 | 153 => step(s, o, limits, p, 1, 4, 0, 2, 0),
-        155 => step(s, o, limits, p, 1, 4, 0, 1, 0),
-        156 => step(s, o, limits, p, 1, 10, 0, 4, 0),
-        _ => raises(s, o, limits, p),
+        162 => raises(s, o, limits, p),
+        _ => reals(p, kind, s, o, limits),
     }
 }

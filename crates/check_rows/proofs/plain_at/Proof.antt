@@ -1,4 +1,4 @@
--- `check_rows::plain_at`: in each row the code is known, and the definition computes; a code with no row is 162.
+-- `check_rows::plain_at`: in each row the code is known, and the definition computes; a code with no row is that of an instruction on reals (`last-row`).
 use mathlib.Core.List.{[], _∷_}
 use mathlib.Core.Logic.{_⊎_, ⊎-elim, inl, inr}
 use Prim.Native.Nat.{suc, _<_}
@@ -8,7 +8,7 @@ use Rattle.model.specs.File.{codes, bodies, bodyOf, makerPops, insOf}
 use Rattle.model.specs.Checker.{basicEffect}
 use Rattle.check_rows.specs.Shape.{Next, shapeOf}
 use Rattle.check_rows.specs.Site.{body-room, low}
-use Rattle.check_rows.specs.Kinds.{body-locals, body-blocks, ins-raise, body-raise}
+use Rattle.check_rows.specs.Kinds.{body-locals, body-blocks, last-row}
 use Rattle.check_rows.specs.Rows.{row, rowShape, at-row, at-rows}
 use Rattle.check_rows.proofs.plain_at.Statement.{statement}
 use Rattle.check_rows.proofs.plain_at.Tie as tie
@@ -87,30 +87,23 @@ step-requires-18 c κs = (c .before .before .pre .5, low (c .before .before .pre
 step-requires-19 : tie.Need-step-requires-19
 step-requires-19 c κs = (c .before .before .pre .5, low (c .before .before .pre .1), omega arith, omega arith, omega arith)
 
-step-requires-20 : tie.Need-step-requires-20
-step-requires-20 c κs = (c .before .before .pre .5, low (c .before .before .pre .1), omega arith, omega arith, omega arith)
-
-step-requires-21 : tie.Need-step-requires-21
-step-requires-21 c κs = (c .before .before .pre .5, low (c .before .before .pre .1), omega arith, omega arith, omega arith)
-
-step-requires-22 : tie.Need-step-requires-22
-step-requires-22 c κs = (c .before .before .pre .5, low (c .before .before .pre .1), omega arith, omega arith, omega arith)
-
-step-requires-23 : tie.Need-step-requires-23
-step-requires-23 c κs = (c .before .before .pre .5, low (c .before .before .pre .1), omega arith, omega arith, omega arith)
-
-step-requires-24 : tie.Need-step-requires-24
-step-requires-24 c κs = (c .before .before .pre .5, low (c .before .before .pre .1), omega arith, omega arith, omega arith)
+raises-requires : tie.Need-raises-requires
+raises-requires c κs = (c .before .before .pre .5, low (c .before .before .pre .1))
 
 locals-requires : tie.Need-locals-requires
 locals-requires c κs =
     let entry = c .before .before .before .before in
     (body-room (entry .pre .1) 2 (ap bodyOf (entry .pre .2) ∙ body-locals _ (omega arith) (omega arith)), omega arith, omega arith, entry .pre .5)
 
-raises-requires : tie.Need-raises-requires
-raises-requires c κs =
+reals-requires : tie.Need-reals-requires
+reals-requires c κs =
     let entry = c .before .before .before in
-    (entry .pre .5, low (entry .pre .1))
+    let k = entry .args .kind in
+    let out : (k < 20) ⊎ (23 < k) = ⊎-elim (λ t. inl (omega arith)) (λ t. inr (omega arith)) (c .if1 .came) in (
+      low (entry .pre .1),
+      last-row k (entry .pre .3) (entry .pre .4) out (c .before .match .rest) (λ e. (entry .pre .1 .known) (ap bodyOf (entry .pre .2) ∙ e)),
+      entry .pre .5,
+    )
 
 returns : tie.Need-returns
 unfolding insOf shapeOf basicEffect bodyOf bodies codes
@@ -206,46 +199,14 @@ returns-21 c =
 
 returns-22 : tie.Need-returns-22
 unfolding insOf shapeOf basicEffect bodyOf bodies codes
-returns-22 c = at-row _ _ _ _ _ (c .before .before .before .pre .2 ∙ c .before .match .keys22) refl refl (c .step20 .ensures)
+returns-22 c = at-row _ _ _ _ _ (c .before .before .before .pre .2 ∙ c .before .match .keys22) refl refl (c .raises .ensures)
 
 returns-23 : tie.Need-returns-23
-unfolding insOf shapeOf basicEffect bodyOf bodies codes
 returns-23 c =
-    at-rows _ _ _ _ _ 1 (rowShape Next (row 4 0 2 0 0 0)) (150 ∷ 152 ∷ [])
-    ((refl, refl), ((refl, refl), tt))
-    (c .before .before .before .pre .2) (c .before .match .keys23) (c .step21 .ensures)
-
-returns-24 : tie.Need-returns-24
-unfolding insOf shapeOf basicEffect bodyOf bodies codes
-returns-24 c =
-    at-rows _ _ _ _ _ 1 (rowShape Next (row 4 0 2 0 0 0)) (151 ∷ 153 ∷ [])
-    ((refl, refl), ((refl, refl), tt))
-    (c .before .before .before .pre .2) (c .before .match .keys24) (c .step22 .ensures)
-
-returns-25 : tie.Need-returns-25
-unfolding insOf shapeOf basicEffect bodyOf bodies codes
-returns-25 c = at-row _ _ _ _ _ (c .before .before .before .pre .2 ∙ c .before .match .keys25) refl refl (c .step23 .ensures)
-
-returns-26 : tie.Need-returns-26
-unfolding insOf shapeOf basicEffect bodyOf bodies codes
-returns-26 c = at-row _ _ _ _ _ (c .before .before .before .pre .2 ∙ c .before .match .keys26) refl refl (c .step24 .ensures)
-
-returns-27 : tie.Need-returns-27
-returns-27 c =
     at-row _ _ _ _ _ (c .before .before .before .before .before .pre .2) (ap suc (body-locals _ (omega arith) (omega arith))) refl (c .locals .ensures)
 
-returns-28 : tie.Need-returns-28
-unfolding shapeOf
-returns-28 c =
-    let entry = c .before .before .before .before in
-    let f = entry .args .file .now in
-    let p = entry .args .p in
-    let k = entry .args .kind in
-    let out : (k < 20) ⊎ (23 < k) = ⊎-elim (λ t. inl (omega arith)) (λ t. inr (omega arith)) (c .before .if1 .came) in
-    at-row f p _ _ _ (entry .pre .2)
-    (ap suc (body-raise k (entry .pre .3) (entry .pre .4) out (c .before .before .match .rest) (λ e. (entry .pre .1 .known) (ap bodyOf (entry .pre .2) ∙ e))))
-    (ap (shapeOf f p) (ins-raise k (entry .pre .3) (entry .pre .4) out (c .before .before .match .rest) f p))
-    (c .raises .ensures)
+returns-24 : tie.Need-returns-24
+returns-24 c = at-row _ _ _ _ _ (c .before .before .before .before .pre .2) refl refl (c .reals .ensures _)
 
 pub plain-at-spec : {M : Type 1} → statement M
 plain-at-spec =
@@ -272,13 +233,9 @@ plain-at-spec =
     step-requires-17
     step-requires-18
     step-requires-19
-    step-requires-20
-    step-requires-21
-    step-requires-22
-    step-requires-23
-    step-requires-24
-    locals-requires
     raises-requires
+    locals-requires
+    reals-requires
     returns
     returns-2
     returns-3
@@ -302,8 +259,4 @@ plain-at-spec =
     returns-21
     returns-22
     returns-23
-    returns-24
-    returns-25
-    returns-26
-    returns-27
-    returns-28)
+    returns-24)
