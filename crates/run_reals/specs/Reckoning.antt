@@ -22,7 +22,7 @@ use Rattle.real_steps.specs.Does.{Does, RealHere}
 use Rattle.apply.specs.Ended.{RealRaises}
 use Rattle.theory_step.specs.Planning.{alive-ready}
 use Rattle.theory_step.specs.Settling.{alive-settles, alive-real, alive-plan}
-use Rattle.run_steps.specs.Going.{Runs, Going, Paused, going-start, going-step}
+use Rattle.run_steps.specs.Going.{Runs, Going, Paused, going-start, going-trans, going-step, stopped-raise}
 
 -- whether a plan is that of an instruction on reals
 unfoldable pub atReal? : Plan → Bool
@@ -145,3 +145,34 @@ module _ {f l : List ℕ} {r : Regs} {p : ℕ} (A : AtReal f l r p) where
     -- its result was not finite
     pub reals-raise : t ≡ false → (o : Rest) (q : ℕ) → settle f (with o r l) (Real q) ≡ raised f (with o r l) (codeOf outOfRange)
     reals-raise d o q = real-raised f (with o r l) q (rw d at (D f (o .ptr) (o .ctl) (o .heap)))
+
+-- where no instruction on reals is left, or no step
+module _ {f table : List ℕ} {n n′ : ℕ} {m m′ : Machine} {plan : Plan} (P : Paused f table n m n′ m′ plan) where
+  pub rests-other : false ≡ atReal? plan → Rests f table n m n′ m′ plan
+  unfolding atReal?
+  rests-other u = record { paused = P; raises = λ h p e. absurd (true≢false (sym (ap atReal? e) ∙ sym u)) }
+
+  pub rests-spent : n′ ≤ 0 → Rests f table n m n′ m′ plan
+  rests-spent z = record { paused = P; raises = λ h. absurd (omega (arith, z, h)) }
+
+  -- from a pause past instructions on reals
+  module _ {l : List ℕ} {r : Regs} {n″ : ℕ} {finite : Bool} (K : Reckoned f (m′ .main) (m′ .regs) n′ l r n″ finite) where
+    abbrev past : Machine
+    past = record { regs = r; main = l; ptr = m′ .ptr; ctl = m′ .ctl; heap = m′ .heap }
+
+    abbrev unchanged : Rest
+    unchanged = record { table = table; ptr = m′ .ptr; ctl = m′ .ctl; heap = m′ .heap }
+
+    pub going-past : Going f table n m n″ past
+    going-past = going-trans (P .going) (K .reckons .going unchanged (P .going .runs))
+
+    pub on-past : r .state ≡ 1 → ⊥
+    on-past u = P .on? (sym (K .reckons .state) ∙ u)
+
+    pub rests-raised : finite ≡ false → Rests f table n m n″ past (Real (r .place + 1))
+    rests-raised d =
+        let e = sym (real-plan f past (K .real d)) in
+        record {
+          paused = record { going = going-past; on? = on-past; stopped = λ h. stopped-raise e (never-writes _) };
+          raises = λ h p u. K .raises d unchanged _;
+        }

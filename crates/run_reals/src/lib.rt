@@ -99,8 +99,9 @@ pub fn go_on(
         let past = reckon(file, main, at.regs, body, at.left);
         let next = past.regs;
         if !past.finite {
+            let behind = next.place + 1;
             return Pause {
-                plan: Plan::Real(next.place + 1),
+                plan: Plan::Real(behind),
                 regs: next,
                 left: past.left,
             };

@@ -25,7 +25,7 @@ abbrev entered : tie.At-loop Inv-loop μ-loop → tie.Start Inv-loop μ-loop
 entered c = c .before .before .before
 
 module _ (c : tie.After-step Inv-loop μ-loop) (finite : c .step .result .done ≡ true) where
-  abbrev now-at : AtReal _ _ _ _
+  abbrev now-at : let L = turned c .loop in AtReal (entered (turned c) .args .file .now) (L .main) (L .r) (L .at)
   now-at = turned c .loop .inv .0
 
   further-on : let S = entered (turned c) .args in
