@@ -47,7 +47,7 @@ pub fn run_on(
         return answered(Answer::Finished(0), regs);
     }
     let mut pause = run_steps::go_on(file, table, main, ptr, ctl, heap, regs, budget);
-    if run_reals::at_real(pause.plan) {
+    if run_reals::at_real(pause) {
         pause = run_reals::go_on(file, table, main, ptr, ctl, heap, pause);
     }
     while 0 < pause.left {
@@ -67,7 +67,7 @@ pub fn run_on(
             return answered(Answer::Finished(done), next);
         }
         pause = run_steps::go_on(file, table, main, ptr, ctl, heap, next, after);
-        if run_reals::at_real(pause.plan) {
+        if run_reals::at_real(pause) {
             pause = run_reals::go_on(file, table, main, ptr, ctl, heap, pause);
         }
     }

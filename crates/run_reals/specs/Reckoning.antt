@@ -22,7 +22,7 @@ use Rattle.real_steps.specs.Does.{Does, RealHere}
 use Rattle.apply.specs.Ended.{RealRaises}
 use Rattle.theory_step.specs.Planning.{alive-ready}
 use Rattle.theory_step.specs.Settling.{alive-settles, alive-real, alive-plan}
-use Rattle.run_steps.specs.Going.{Runs, Going, Paused, going-start, going-trans, going-step, stopped-raise}
+use Rattle.run_steps.specs.Going.{Runs, Going, Paused, going-start, going-trans, going-step, stopped-raise, paused-from}
 
 -- whether a plan is that of an instruction on reals
 unfoldable pub atReal? : Plan → Bool
@@ -176,3 +176,11 @@ module _ {f table : List ℕ} {n n′ : ℕ} {m m′ : Machine} {plan : Plan} (P
           paused = record { going = going-past; on? = on-past; stopped = λ h. stopped-raise e (never-writes _) };
           raises = λ h p u. K .raises d unchanged _;
         }
+
+-- steps before a rest
+pub rests-from : {f table : List ℕ} {n n′ n″ : ℕ} {m m′ m″ : Machine} {plan : Plan} → Going f table n m n′ m′ → Rests f table n′ m′ n″ m″ plan → Rests f table n m n″ m″ plan
+rests-from G R = record { paused = paused-from G (R .paused); raises = R .raises }
+
+-- a pause as the start of what follows
+pub paused-here : {f table : List ℕ} {n n′ : ℕ} {m m′ : Machine} {plan : Plan} → Paused f table n m n′ m′ plan → Paused f table n′ m′ n′ m′ plan
+paused-here P = record { going = going-start (P .going .runs); on? = P .on?; stopped = P .stopped }

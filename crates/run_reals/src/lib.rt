@@ -9,9 +9,10 @@ use plan_meaning::Plan;
 use run_steps::Pause;
 
 // Whether the steps have paused before an instruction on reals.
-pub fn at_real(plan: Plan) -> bool
-    ensures { λ r. ⌜ r ≡ atReal? plan ⌝ }
+pub fn at_real(pause: Pause) -> bool
+    ensures { λ r. ⌜ r ≡ atReal? (pause .plan) ⌝ }
 {
+    let plan = pause.plan;
     let Plan::Real(_) = plan else {
         return false;
     };
