@@ -8,10 +8,10 @@ use mathlib.Core.Bool.{Bool, true, false}
 use mathlib.Core.Path.{_≡_, refl, subst}
 use lib.Dec.{eqb}
 use borrow.Author.Tests.{ne-eqb}
-use Rattle.model.specs.File.{codes, bodies, unknown, bodyIn, bodyOf, listed, Ins, basic, jump, branch, branchKeep, call, return, enter, exit, raise, insOf, headKind}
-use Rattle.model.specs.Choice.{if_then_else_}
+use Rattle.model.specs.File.{codes, bodies, unknown, bodyOf, Ins, basic, jump, branch, branchKeep, call, return, enter, exit, raise, insOf, headKind}
 use Rattle.laws_file.specs.Codes.{realCodes, ins-if, if-same}
 use Rattle.laws_file.specs.Kinds.{OneOf, NoneOf, at-each, last-code}
+use Rattle.laws_file.specs.Walk.{found-listed}
 
 -- what holds at each of n numbers from a on
 abbrev pub EachFrom : (ℕ → Type 0) → ℕ → ℕ → Type 0
@@ -83,22 +83,12 @@ none-on : (nss mss : List (List ℕ)) (k : ℕ) → NoneOf nss k → NoneOf mss 
 none-on [] mss k h g = g
 none-on (ns ∷ nss) mss k h g = (none-on nss mss k (h .0) g, h .1)
 
--- a number with a body is in the table
-found : (rs : List (ℕ × ℕ)) (k : ℕ) → (bodyIn rs k ≡ unknown → ⊥) → listed rs k ≡ true
-found [] k some = absurd (some refl)
-found (r ∷ rs) k some = go (eqb k (r .0)) (found rs k) some
-  where
-    go : (t : Bool) → ((bodyIn rs k ≡ unknown → ⊥) → listed rs k ≡ true) → ((if t then r .1 else bodyIn rs k) ≡ unknown → ⊥) →
-        (if t then true else listed rs k) ≡ true
-    go true later some = refl
-    go false later some = later some
-
 -- of the codes only those of the instructions on reals have no row
 pub last-row : (k : ℕ) → NoJump k → NoneOf elsewhere k → (k < 20) ⊎ (23 < k) → NoneOf rowArms k → (bodyOf k ≡ unknown → ⊥) → OneOf realCodes k
 unfolding bodyOf bodies codes
 last-row k a e b h some =
     let none = none-on rowArms (elsewhere ++ ranged) k h (none-on elsewhere ranged k e (ranged-none k a b)) in
-    last-code (rowArms ++ elsewhere ++ ranged) realCodes tt k none (found codes k (rw (ne-eqb k headKind (e .0 .0 .0 .1)) at some))
+    last-code (rowArms ++ elsewhere ++ ranged) realCodes tt k none (found-listed codes k (rw (ne-eqb k headKind (e .0 .0 .0 .1)) at some))
 
 -- every other code leads to the next instruction alone, or nowhere
 abbrev pub straight? : Ins → Bool

@@ -133,7 +133,7 @@ upTo-at q (h ∷ hs) (suc n) r l b w =
     rw (le-leb h q (omega arith)) (ap suc (upTo-at q hs n (r .1) (omega arith) b (λ g m. w g (inr m))))
 
 -- Manual 3.1: a kind with a body of known length is the head's, or the table of codes has it
-found-listed : (rs : List (ℕ × ℕ)) (k : ℕ) → (bodyIn rs k ≡ unknown → ⊥) → listed rs k ≡ true
+pub found-listed : (rs : List (ℕ × ℕ)) (k : ℕ) → (bodyIn rs k ≡ unknown → ⊥) → listed rs k ≡ true
 found-listed [] k h = absurd (h refl)
 found-listed (r ∷ rs) k h = go (eqb k (r .0)) h (found-listed rs k)
   where
