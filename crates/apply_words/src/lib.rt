@@ -157,20 +157,21 @@ pub fn drop_all(main: &mut [u32], ptr: &mut [u32], regs: Regs, put: Put)
     put_back(main, ptr, put);
 }
 
-// The same where at most four words of each stack go; where more would, nothing is done.
+// The same where at most four words of each stack go; where more would, nothing is done. The pointer stack comes first: the other way round retracts took
+// 1.05 times as long, with as many instructions.
 fn drop_few(main: &mut [u32], ptr: &mut [u32], regs: Regs, put: Put) -> bool
     requires { ⌜ Dropping (now main) (now ptr) regs put ⌝ }
     ensures { λ r. ⌜ ((ctl heap : List ℕ) → record { regs = triedOn r put regs; main = now (main .exit); ptr = now (ptr .exit); ctl = ctl; heap = heap }
         ≡ triedWrite r (put .into) put (record { regs = regs; main = now (main .entry); ptr = now (ptr .entry); ctl = ctl; heap = heap })) ⌝ }
 {
-    if 4 < regs.mtop - put.mtop {
-        return false;
-    }
     if 4 < regs.ptop - put.ptop {
         return false;
     }
-    pop_four(main, put.mtop, regs.mtop);
+    if 4 < regs.mtop - put.mtop {
+        return false;
+    }
     pop_four(ptr, put.ptop, regs.ptop);
+    pop_four(main, put.mtop, regs.mtop);
     put_back(main, ptr, put);
     true
 }

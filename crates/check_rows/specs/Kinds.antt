@@ -1,4 +1,4 @@
--- What the families of codes have in common: the lengths of their bodies, and that a code in no arm is that of an instruction on reals.
+-- What the families of codes have in common: the lengths of their bodies, and that a code in no arm pops reals.
 use Prim.Native.Nat.{ℕ, zero, suc, _+_, _<_, _≤_}
 use native.Mathlib.Omega.{arith}
 use native.Mathlib.Nat.{eq-or-lt-of-le}
@@ -9,7 +9,7 @@ use mathlib.Core.Path.{_≡_, refl, subst}
 use lib.Dec.{eqb}
 use borrow.Author.Tests.{ne-eqb}
 use Rattle.model.specs.File.{codes, bodies, unknown, bodyOf, Ins, basic, jump, branch, branchKeep, call, return, enter, exit, raise, insOf, headKind}
-use Rattle.laws_file.specs.Codes.{realCodes, ins-if, if-same}
+use Rattle.laws_file.specs.Codes.{ins-if, if-same}
 use Rattle.laws_file.specs.Kinds.{OneOf, NoneOf, at-each, last-code}
 use Rattle.laws_file.specs.Walk.{found-listed}
 
@@ -49,6 +49,7 @@ elsewhere = (161 ∷ []) ∷ (160 ∷ []) ∷ (73 ∷ []) ∷ (headKind ∷ []) 
 abbrev pub rowArms : List (List ℕ)
 rowArms =
     (162 ∷ [])
+    ∷ (53 ∷ [])
     ∷ (141 ∷ 143 ∷ [])
     ∷ (130 ∷ 140 ∷ 142 ∷ 145 ∷ 195 ∷ 198 ∷ 201 ∷ 204 ∷ [])
     ∷ (144 ∷ 146 ∷ [])
@@ -83,12 +84,16 @@ none-on : (nss mss : List (List ℕ)) (k : ℕ) → NoneOf nss k → NoneOf mss 
 none-on [] mss k h g = g
 none-on (ns ∷ nss) mss k h g = (none-on nss mss k (h .0) g, h .1)
 
--- of the codes only those of the instructions on reals have no row
-pub last-row : (k : ℕ) → NoJump k → NoneOf elsewhere k → (k < 20) ⊎ (23 < k) → NoneOf rowArms k → (bodyOf k ≡ unknown → ⊥) → OneOf realCodes k
+-- the codes that pop reals
+abbrev pub popsReals : List ℕ
+popsReals = 150 ∷ 151 ∷ 152 ∷ 153 ∷ 155 ∷ 156 ∷ []
+
+-- of the codes only those have no row
+pub last-row : (k : ℕ) → NoJump k → NoneOf elsewhere k → (k < 20) ⊎ (23 < k) → NoneOf rowArms k → (bodyOf k ≡ unknown → ⊥) → OneOf popsReals k
 unfolding bodyOf bodies codes
 last-row k a e b h some =
     let none = none-on rowArms (elsewhere ++ ranged) k h (none-on elsewhere ranged k e (ranged-none k a b)) in
-    last-code (rowArms ++ elsewhere ++ ranged) realCodes tt k none (found-listed codes k (rw (ne-eqb k headKind (e .0 .0 .0 .1)) at some))
+    last-code (rowArms ++ elsewhere ++ ranged) popsReals tt k none (found-listed codes k (rw (ne-eqb k headKind (e .0 .0 .0 .1)) at some))
 
 -- every other code leads to the next instruction alone, or nowhere
 abbrev pub straight? : Ins → Bool

@@ -6,11 +6,10 @@ ghost use mathlib.Core.Logic.{_⊎_};
 ghost use Prim.Native.Nat.{ℕ, suc, _+_, _<_, _≤_};
 ghost use lib.ListN.{length};
 ghost use Rattle.model.specs.File as model;
-ghost use Rattle.laws_file.specs.Codes.{realCodes};
 ghost use Rattle.laws_file.specs.Kinds.{OneOf, NoneOf};
 ghost use Rattle.check_rows.specs.Shape.{shapeOf, Next, Raise};
 ghost use Rattle.check_rows.specs.Site.{Table, Site};
-ghost use Rattle.check_rows.specs.Kinds.{NoJump, elsewhere};
+ghost use Rattle.check_rows.specs.Kinds.{NoJump, elsewhere, popsReals};
 ghost use Rattle.check_rows.specs.Tests.{asState, stackOk, stacksOk};
 ghost use Rattle.check_rows.specs.Rows.{row, rowShape, refusal, plainly, Bounded, PushesFew};
 use check_scan::UNREACHED_DEPTH;
@@ -239,21 +238,20 @@ fn calls(
     step(s, o, limits, p, 3, head.a, head.b, head.r, head.s)
 }
 
-// 53, 150 to 153, 155 and 156
+// 150 to 153, 155 and 156
 fn reals(p: usize, kind: u8, s: State, o: State, limits: Limits) -> Onward
-    requires { ⌜ (p < fileMost) × OneOf realCodes kind × Bounded (asState s) (asState o) limits ⌝ }
+    requires { ⌜ (p < fileMost) × OneOf popsReals kind × Bounded (asState s) (asState o) limits ⌝ }
     ensures { λ r. ⌜ ((f : List ℕ) → r ≡ plainly (asState s) (asState o) limits (p + suc (model.bodyOf kind)) (shapeOf f p (model.insOf f p kind))) ⌝ }
 {
     match kind {
-        53 => step(s, o, limits, p, 9, 0, 0, 2, 0),
         155 => step(s, o, limits, p, 1, 4, 0, 1, 0),
         156 => step(s, o, limits, p, 1, 10, 0, 4, 0),
         _ => step(s, o, limits, p, 1, 4, 0, 2, 0),
     }
 }
 
-// The instruction of this kind at p, of k procedures; one that has no row here is an instruction on reals: with an arm for each of these the
-// compiler kept other things in registers, and every instruction of a file took two or three machine instructions more.
+// The instruction of this kind at p, of k procedures; one that has no row here pops reals: with an arm for each of these the compiler kept other
+// things in registers, and every instruction of a file took two or three machine instructions more.
 pub fn plain_at(
     file: &[u8],
     table: &[usize; PROCS_MOST],
@@ -291,6 +289,7 @@ pub fn plain_at(
         144 | 146 => step(s, o, limits, p, 1, 1, 0, 1, 0),
         130 | 140 | 142 | 145 | 195 | 198 | 201 | 204 => step(s, o, limits, p, 1, 2, 0, 1, 0),
         141 | 143 => step(s, o, limits, p, 1, 2, 0, 1, 0),
+        53 => step(s, o, limits, p, 9, 0, 0, 2, 0),
         162 => raises(s, o, limits, p),
         _ => reals(p, kind, s, o, limits),
     }

@@ -25,7 +25,7 @@ pop-four-requires-2 c κs = search needs
 put-back-requires : tie.Need-put-back-requires
 put-back-requires c κs =
     let at-pop = c .before .before .before .before .before .before .before .before in
-    cut-drops (at-pop .before .before .before .before .before .before .before .before .before .before .pre) (at-pop .pop-four .ensures) (c .before .before .before .before .pop-four2 .ensures)
+    cut-drops (at-pop .before .before .before .before .before .before .before .before .before .before .pre) (c .before .before .before .before .pop-four2 .ensures) (at-pop .pop-four .ensures)
 
 same-length : tie.Need-same-length
 same-length c = search needs
@@ -37,7 +37,7 @@ returns-3 : tie.Need-returns-3
 returns-3 c ctl heap =
     let at-back = c .before .before .before .before in
     let at-cut = at-back .before .before .before .before .before in
-    at-back .put-back .ensures _ (at-cut .before .before .before .before .pop-four .ensures) (at-cut .pop-four2 .ensures)
+    at-back .put-back .ensures _ (at-cut .pop-four2 .ensures) (at-cut .before .before .before .before .pop-four .ensures)
 
 pub drop-few-spec : {M : Type 1} → statement M
 drop-few-spec =

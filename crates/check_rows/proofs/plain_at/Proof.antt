@@ -1,4 +1,4 @@
--- `check_rows::plain_at`: in each row the code is known, and the definition computes; a code with no row is that of an instruction on reals (`last-row`).
+-- `check_rows::plain_at`: in each row the code is known, and the definition computes; a code with no row pops reals (`last-row`).
 use mathlib.Core.List.{[], _∷_}
 use mathlib.Core.Logic.{_⊎_, ⊎-elim, inl, inr}
 use Prim.Native.Nat.{suc, _<_}
@@ -86,6 +86,9 @@ step-requires-18 c κs = (c .before .before .pre .5, low (c .before .before .pre
 
 step-requires-19 : tie.Need-step-requires-19
 step-requires-19 c κs = (c .before .before .pre .5, low (c .before .before .pre .1), omega arith, omega arith, omega arith)
+
+step-requires-20 : tie.Need-step-requires-20
+step-requires-20 c κs = (c .before .before .pre .5, low (c .before .before .pre .1), omega arith, omega arith, omega arith)
 
 raises-requires : tie.Need-raises-requires
 raises-requires c κs = (c .before .before .pre .5, low (c .before .before .pre .1))
@@ -199,14 +202,18 @@ returns-21 c =
 
 returns-22 : tie.Need-returns-22
 unfolding insOf shapeOf basicEffect bodyOf bodies codes
-returns-22 c = at-row _ _ _ _ _ (c .before .before .before .pre .2 ∙ c .before .match .keys22) refl refl (c .raises .ensures)
+returns-22 c = at-row _ _ _ _ _ (c .before .before .before .pre .2 ∙ c .before .match .keys22) refl refl (c .step20 .ensures)
 
 returns-23 : tie.Need-returns-23
-returns-23 c =
-    at-row _ _ _ _ _ (c .before .before .before .before .before .pre .2) (ap suc (body-locals _ (omega arith) (omega arith))) refl (c .locals .ensures)
+unfolding insOf shapeOf basicEffect bodyOf bodies codes
+returns-23 c = at-row _ _ _ _ _ (c .before .before .before .pre .2 ∙ c .before .match .keys23) refl refl (c .raises .ensures)
 
 returns-24 : tie.Need-returns-24
-returns-24 c = at-row _ _ _ _ _ (c .before .before .before .before .pre .2) refl refl (c .reals .ensures _)
+returns-24 c =
+    at-row _ _ _ _ _ (c .before .before .before .before .before .pre .2) (ap suc (body-locals _ (omega arith) (omega arith))) refl (c .locals .ensures)
+
+returns-25 : tie.Need-returns-25
+returns-25 c = at-row _ _ _ _ _ (c .before .before .before .before .pre .2) refl refl (c .reals .ensures _)
 
 pub plain-at-spec : {M : Type 1} → statement M
 plain-at-spec =
@@ -233,6 +240,7 @@ plain-at-spec =
     step-requires-17
     step-requires-18
     step-requires-19
+    step-requires-20
     raises-requires
     locals-requires
     reals-requires
@@ -259,4 +267,5 @@ plain-at-spec =
     returns-21
     returns-22
     returns-23
-    returns-24)
+    returns-24
+    returns-25)
