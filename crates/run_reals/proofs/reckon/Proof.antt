@@ -113,8 +113,7 @@ loop-again : tie.Need-loop-again Inv-loop μ-loop
 unfolding insAt
 loop-again c =
     let at-step = c .before .before .before .before .before .before .before .before in
-    let d = not-false _ (c .before .before .before .before .if1 .left) in
-    (
+    let d = not-false _ (c .before .before .before .before .if1 .left) in (
       record {
         rest = now-at at-step d .rest;
         runs = still-runs at-step d;
