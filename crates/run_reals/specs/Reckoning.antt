@@ -178,7 +178,8 @@ module _ {f table : List ℕ} {n n′ : ℕ} {m m′ : Machine} {plan : Plan} (P
         }
 
 -- steps before a rest
-pub rests-from : {f table : List ℕ} {n n′ n″ : ℕ} {m m′ m″ : Machine} {plan : Plan} → Going f table n m n′ m′ → Rests f table n′ m′ n″ m″ plan → Rests f table n m n″ m″ plan
+pub rests-from : {f table : List ℕ} {n n′ n″ : ℕ} {m m′ m″ : Machine} {plan : Plan} → Going f table n m n′ m′ → Rests f table n′ m′ n″ m″ plan →
+    Rests f table n m n″ m″ plan
 rests-from G R = record { paused = paused-from G (R .paused); raises = R .raises }
 
 -- a pause as the start of what follows

@@ -197,10 +197,16 @@ go-on-requires-4 : tie.Need-go-on-requires-4 Inv-loop μ-loop
 go-on-requires-4 c κs = paused-here (c .before .before .before .before .before .before .before .before .before .before .before .before .before .before .go-on3 .ensures)
 
 loop-less : tie.Need-loop-less Inv-loop μ-loop
-loop-less c = omega (arith, fewer (c .before .before .before .before .before .before .before .before .before .before .before .before .before .before .before .before .before .before .before .before .before .before .before), c .before .before .before .before .before .before .before .before .go-on4 .ensures .paused .going .less)
+loop-less c =
+    let at-go-on4 = c .before .before .before .before .before .before .before .before in
+    let at-go-on3 = at-go-on4 .before .before .before .before .before .before .before .before .before .before .before .before .before .before .before in
+    omega (arith, fewer at-go-on3, at-go-on4 .go-on4 .ensures .paused .going .less)
 
 loop-again : tie.Need-loop-again Inv-loop μ-loop
-loop-again c = rests-from (ahead-at (c .before .before .before .before .before .before .before .before .before .before .before .before .before .before .before .before .before .before .before .before .before .before .before) .going) (c .before .before .before .before .before .before .before .before .go-on4 .ensures)
+loop-again c =
+    let at-go-on4 = c .before .before .before .before .before .before .before .before in
+    let at-go-on3 = at-go-on4 .before .before .before .before .before .before .before .before .before .before .before .before .before .before .before in
+    rests-from (ahead-at at-go-on3 .going) (at-go-on4 .go-on4 .ensures)
 
 loop-less-2 : tie.Need-loop-less-2 Inv-loop μ-loop
 loop-less-2 c = fewer (c .before .before .before .before .before .before .before .before .before .before)

@@ -81,7 +81,11 @@ go-on-requires c κs =
     (going-past P K .runs, on-past P K)
 
 loop-less : tie.Need-loop-less Inv-loop μ-loop
-loop-less c = omega (arith, c .before .before .before .before .before .before .before .before .go-on .ensures .going .less, c .before .before .before .before .before .before .before .before .before .before .before .before .before .before .before .before .before .before .reckon .ensures .further (not-false _ (c .before .before .before .before .before .before .before .before .before .before .before .before .before .if2 .left)))
+loop-less c =
+    let at-go-on = c .before .before .before .before .before .before .before .before in
+    let at-if2 = at-go-on .before .before .before .before .before in
+    let at-reckon = at-if2 .before .before .before .before .before in
+    omega (arith, at-go-on .go-on .ensures .going .less, at-reckon .reckon .ensures .further (not-false _ (at-if2 .if2 .left)))
 
 loop-again : tie.Need-loop-again Inv-loop μ-loop
 loop-again c =
