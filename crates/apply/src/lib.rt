@@ -256,7 +256,7 @@ pub fn code_of(plan: Plan, main: &[u32], mtop: usize) -> u32
     }
 }
 
-// What a plan comes to that `apply` left, or that is no write: a raise. Of the instructions on reals only those come here whose result is not finite.
+// What a plan comes to that `apply` left, or that is no write and so raises. An instruction on reals comes here only if its result is not finite.
 pub fn step_with(
     file: &[u8],
     table: &[usize; PROCS_MOST],

@@ -158,7 +158,7 @@ pub fn drop_all(main: &mut [u32], ptr: &mut [u32], regs: Regs, put: Put)
 }
 
 // The same where at most four words of each stack go; where more would, nothing is done. The pointer stack comes first: the other way round retracts took
-// 1.05 times as long, with as many instructions.
+// 2 to 3 percent longer, with as many instructions.
 fn drop_few(main: &mut [u32], ptr: &mut [u32], regs: Regs, put: Put) -> bool
     requires { ⌜ Dropping (now main) (now ptr) regs put ⌝ }
     ensures { λ r. ⌜ ((ctl heap : List ℕ) → record { regs = triedOn r put regs; main = now (main .exit); ptr = now (ptr .exit); ctl = ctl; heap = heap }

@@ -138,7 +138,7 @@ fn hoop(main: &mut [u32], regs: Regs, next: usize) -> Moved
     not_finite(regs)
 }
 
-// Whether a code stands for an instruction on reals.
+// Whether a code stands for an instruction on reals. No arm has neighbouring codes: for those the language tests a range first.
 pub fn is_real(kind: u8) -> bool
     ensures { λ r. ⌜ ((f : List ℕ) (p : ℕ) → r ≡ isReal? (model.insOf f p kind)) ⌝ }
 {

@@ -60,7 +60,7 @@ pub record Reckons (f l₀ : List ℕ) (r₀ : Regs) (n : ℕ) (l : List ℕ) (r
   pub state : r .state ≡ r₀ .state
   pub kept : length l ≡ length l₀
 
--- what instructions on reals come to: there is one at least, and the one that is left, if any, raises 1
+-- what instructions on reals come to: at least one is done, or the one that is left raises 1; `finite` tells which
 pub record Reckoned (f l₀ : List ℕ) (r₀ : Regs) (n : ℕ) (l : List ℕ) (r : Regs) (n′ : ℕ) (finite : Bool) : Type 0 where
   pub reckons : Reckons f l₀ r₀ n l r n′
   pub further : finite ≡ true → n′ < n

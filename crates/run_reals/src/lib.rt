@@ -64,8 +64,8 @@ fn reckon(file: &[u8], main: &mut [u32], regs: Regs, body: usize, budget: u32) -
     }
 }
 
-// From a pause before an instruction on reals on, as far as the budget lasts and no raise and no loop is needed. It is called from two places, which keeps it a
-// function of its own for the compiler: among the raises, which have a loop with it, it would take the registers that these need.
+// From a pause before an instruction on reals on, as far as the budget lasts and no raise and no loop is needed. Two calls keep it a function of its own for the
+// compiler: as a part of `run_on` it would take registers from the raises.
 pub fn go_on(
     file: &[u8],
     table: &[usize; PROCS_MOST],

@@ -20,7 +20,7 @@ fn stop(plan: Plan, regs: Regs, left: u32) -> Pause
     Pause { plan, regs, left }
 }
 
-// Steps on, as far as the budget lasts and no raise and no loop is needed. It is called from two places, which keeps it a function of its own
+// Steps on, as far as the budget lasts and no raise and no loop is needed. It is called from more than one place, which keeps it a function of its own
 // for the compiler: its registers are those of the steps alone. Soundness is what the loop keeps, so that no step tests what it gives.
 pub fn go_on(
     file: &[u8],
