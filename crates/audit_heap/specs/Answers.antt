@@ -13,9 +13,11 @@ use Rattle.model.specs.Words.{wordAt}
 use Rattle.model.specs.Heap.{Heap, markOf, firstObject, Objects, Audit, fault, clean, pointerWords, objectsIn, heapOf, objectsOf}
 use Rattle.audit_heap.specs.declared.HeapAudit.{HeapAudit}
 use Rattle.audit_heap.specs.declared.HeapAudit.the-variants.{Clean, Fault}
-use Rattle.audit_heap.specs.First.{firstBad, walked, freeWords, auditAnswer, orElse, orAudit, pointerAt, zeroAt, bad-append}
+use Rattle.audit_heap.specs.First.{firstBad, walked, freeWords, auditAnswer, orElse, orAudit, pointerAt, bad-append}
 use Rattle.audit_heap.specs.Audited.{heap-clean, clean-heap, heap-judged, heap-walk-fault, heap-mark-fault, walk-shows}
-use Rattle.audit_heap.specs.Table.{Marks, isMarked, markedAt, marked-pointer, Range, objectsFound, Walked, Audited}
+use Rattle.audit_words.specs.Every.{zeroAt}
+use Rattle.audit_words.specs.Table.{Marks, isMarked, markedAt, marked-pointer}
+use Rattle.audit_heap.specs.Found.{Range, objectsFound, Walked, Audited}
 use Rattle.numbers.specs.Small.{Small}
 
 -- the walk found the objects

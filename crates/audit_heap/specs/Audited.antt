@@ -23,7 +23,8 @@ use Rattle.heap.specs.Objects.{object-of, objects-snoc, same-objects}
 use Rattle.heap.specs.Pointers.{pointer-true, true-pointer}
 use Rattle.audit_heap.specs.declared.HeapAudit.{HeapAudit}
 use Rattle.audit_heap.specs.declared.HeapAudit.the-variants.{Clean, Fault}
-use Rattle.audit_heap.specs.First.{firstBad, walked, freeWords, orAudit, pointerAt, zeroAt, pointers-first, zeros-first, all-good}
+use Rattle.audit_words.specs.Every.{zeroAt}
+use Rattle.audit_heap.specs.First.{firstBad, walked, freeWords, orAudit, pointerAt, pointers-first, zeros-first, all-good}
 use Rattle.audit_heap.specs.First.{bad-in, good-below, range-mem, range-rising, mem-range}
 use Rattle.audit_heap.specs.Faults.{pointer-below, one-fault, fault-not-sound}
 

@@ -13,6 +13,7 @@ use Rattle.model.specs.Choice.{if_then_else_, Mem}
 use Rattle.model.specs.Words.{wordAt}
 use Rattle.laws.specs.Members.{Rising}
 use Rattle.model.specs.Heap.{markOf, firstObject, Audit, fault, clean, walk, isPointer, range, pointersFirst, zerosFirst}
+use Rattle.audit_words.specs.Every.{zeroAt}
 use Rattle.audit_heap.specs.declared.HeapAudit.{HeapAudit}
 use Rattle.audit_heap.specs.declared.HeapAudit.the-variants.{Clean, Fault}
 
@@ -44,9 +45,6 @@ orAudit (Fault i) b = fault i
 -- the tests of the model's audit
 abbrev pub pointerAt : List ℕ → List ℕ → ℕ → Bool
 pointerAt h os i = isPointer os (wordAt h i)
-
-unfoldable pub zeroAt : List ℕ → ℕ → Bool
-zeroAt h i = eqb (wordAt h i) 0
 
 pub pointers-first : (h os is : List ℕ) (rest : Audit) → pointersFirst h os is rest ≡ orAudit (firstBad (pointerAt h os) is) rest
 unfolding pointersFirst firstBad

@@ -17,10 +17,11 @@ use Rattle.model.specs.Heap.{markOf, firstObject, ptrsAt, sizeAt, kindOf, Objec
 use Rattle.model.specs.Heap.{badSize, walk, isPointer, range, pointerWords}
 use Rattle.audit_heap.specs.declared.HeapAudit.{HeapAudit}
 use Rattle.audit_heap.specs.declared.HeapAudit.the-variants.{Clean, Fault}
-use Rattle.audit_heap.specs.First.{firstBad, walked, orElse, orAudit, zeroAt, bad-append}
+use Rattle.audit_words.specs.Every.{zeroAt, Passing}
+use Rattle.audit_words.specs.Table.{Unmarked, Marks, isMarked, markedAt}
+use Rattle.audit_heap.specs.First.{firstBad, walked, orElse, orAudit, bad-append, none-bad, range-mem}
 use Rattle.audit_heap.specs.Audited.{good-object}
-use Rattle.audit_heap.specs.Every.{oneIf}
-use Rattle.audit_heap.specs.Table.{Unmarked, Marks, isMarked, markedAt, Range, faultAt, objectsFound, LinksCounted, Walked}
+use Rattle.audit_heap.specs.Found.{Range, faultAt, objectsFound, LinksCounted, Walked}
 use Rattle.numbers.specs.Small.{Small}
 use Rattle.model.specs.Checker.{none}
 
@@ -52,6 +53,11 @@ module _ (P : ℕ → Bool) (from end : ℕ) where
   unfolding Scan firstBad
   scan-end i S a = let e : end - i ≡ 0 = omega arith in sym (S ∙ rw e)
 
+-- every index passes
+pub every-clean : (P : ℕ → Bool) (from end : ℕ) → from ≤ end → Passing P from end → Clean ≡ firstBad P (range from (end - from))
+every-clean P from end a A =
+    sym (none-bad P (range from (end - from)) (λ j m. let r = range-mem from (end - from) j m in A j (r .0) (omega arith)))
+
 -- the tests of a word, as the code makes them
 pub pointer-bad : (h : List ℕ) (t : List Bool) (i : ℕ) (r : Bool) → r ≡ isMarked t (wordAt h i) → not r ≡ true → markedAt t h i ≡ false
 unfolding markedAt
@@ -60,10 +66,6 @@ pointer-bad h t i r e f = sym e ∙ not-true r f
 pub pointer-good : (h : List ℕ) (t : List Bool) (i : ℕ) (r : Bool) → r ≡ isMarked t (wordAt h i) → not r ≡ false → markedAt t h i ≡ true
 unfolding markedAt
 pointer-good h t i r e f = sym e ∙ not-false r f
-
-pub pointer-one : (h : List ℕ) (t : List Bool) (i r : ℕ) → Small 2 (oneIf (isMarked t (wordAt h i))) r → r ≡ oneIf (markedAt t h i)
-unfolding markedAt
-pointer-one h t i r S = S .is
 
 pub zero-bad : (h : List ℕ) (i : ℕ) → wordAt h i ≢ 0 → zeroAt h i ≡ false
 unfolding zeroAt

@@ -1,17 +1,13 @@
-// The heap's audit, for refusal 11 (Manual 6.7, 6.8), and the pointer stack's, for refusal 12.
+// The heap's audit, for refusal 11 (Manual 6.7, 6.8).
 // The audit walks the objects and marks in a table where they start; a pointer is then looked up there.
 ghost use mathlib.Core.Path.{_≡_};
-ghost use Prim.Native.Nat.{ℕ, _+_, _-_, _≤_, _<_};
-ghost use mathlib.Core.Bool.{true};
-ghost use mathlib.Core.List.{List};
-ghost use mathlib.Core.Logic.{_⊎_};
-ghost use lib.ListN.{length, drop};
+ghost use Prim.Native.Nat.{_-_, _≤_, _<_};
+ghost use lib.ListN.{length};
 ghost use Rattle.model.specs.Heap.{markOf, Objects, range, pointerWords};
-ghost use Rattle.model.specs.Sound.{pointers, zeros};
-ghost use Rattle.audit_heap.specs.First.{firstBad, zeroAt, freeWords};
-ghost use Rattle.audit_heap.specs.Every.{oneIf, Every};
-ghost use Rattle.audit_heap.specs.Table.{Unmarked, Marks, isMarked, markedAt, objectsFound, Range, faultAt, LinksCounted, Walked, Audited};
-ghost use Rattle.numbers.specs.Small.{Small};
+ghost use Rattle.audit_words.specs.Every.{zeroAt};
+ghost use Rattle.audit_words.specs.Table.{Unmarked, markedAt};
+ghost use Rattle.audit_heap.specs.First.{firstBad, freeWords};
+ghost use Rattle.audit_heap.specs.Found.{objectsFound, Range, faultAt, LinksCounted, Walked, Audited};
 ghost use Rattle.model.specs.Calls.{heapMost};
 
 // What the audit answers: the heap is sound, or the index of its first fault.
@@ -78,49 +74,17 @@ fn mark_objects(heap: &[u32], marks: &mut [bool]) -> Walk
     }
 }
 
-// 1 for a word that is marked, 0 for any other: nil counts as a pointer here and below. No branch hangs on the mark: which words are nil
-// no processor foresees.
-fn pointer_count(marks: &[bool], v: u32) -> usize
-    ensures { λ r. ⌜ Small 2 (oneIf (isMarked (now (marks .entry)) v)) r ⌝ }
-{
-    let i = numbers::word(v);
-    if marks.len() <= i {
-        return 0;
-    }
-    if marks[i] { 1 } else { 0 }
-}
-
-fn is_pointer(marks: &[bool], v: u32) -> bool
-    ensures { λ r. ⌜ r ≡ isMarked (now (marks .entry)) v ⌝ }
-{
-    pointer_count(marks, v) == 1
-}
-
-// Every word from `from` up to `end` is a pointer.
-fn all_pointers(words: &[u32], marks: &[bool], from: usize, end: usize) -> bool
-    requires { ⌜ (from ≤ end) × (end ≤ length (now words)) ⌝ }
-    ensures { λ r. ⌜ Every (markedAt (now (marks .entry)) (now (words .entry))) from end r ⌝ }
-{
-    let mut good = 0;
-    let mut i = from;
-    while i < end {
-        good += pointer_count(marks, words[i]);
-        i += 1;
-    }
-    good == end - from
-}
-
 // The first of the words from `from` up to `end` that is no pointer.
 fn bad_pointer(words: &[u32], marks: &[bool], from: usize, end: usize) -> HeapAudit
     requires { ⌜ (from ≤ end) × (end ≤ length (now words)) ⌝ }
     ensures { λ r. ⌜ r ≡ firstBad (markedAt (now (marks .entry)) (now (words .entry))) (range from (end - from)) ⌝ }
 {
-    if all_pointers(words, marks, from, end) {
+    if audit_words::all_pointers(words, marks, from, end) {
         return HeapAudit::Clean;
     }
     let mut i = from;
     while i < end {
-        if !is_pointer(marks, words[i]) {
+        if !audit_words::is_pointer(marks, words[i]) {
             return HeapAudit::Fault(i);
         }
         i += 1;
@@ -150,27 +114,13 @@ fn pointers_right(heap: &[u32], marks: &[bool], links: usize) -> HeapAudit
     HeapAudit::Clean
 }
 
-// Every word from `from` up to `end` is 0. The words are joined without a test of each, so that the compiler takes several at once.
-pub fn all_zero(words: &[u32], from: usize, end: usize) -> bool
-    requires { ⌜ end ≤ length (now words) ⌝ }
-    ensures { λ r. ⌜ Every (zeroAt (now (words .entry))) from end r ⌝ }
-{
-    let mut any = 0;
-    let mut i = from;
-    while i < end {
-        any = any | words[i];
-        i += 1;
-    }
-    any == 0
-}
-
 // The first word from the mark on that is not 0.
 fn free_zero(heap: &[u32]) -> HeapAudit
     requires { ⌜ Range (now heap) ⌝ }
     ensures { λ r. ⌜ r ≡ firstBad (zeroAt (now (heap .entry))) (freeWords (now (heap .entry))) ⌝ }
 {
     let mark = numbers::word(heap[0]);
-    if all_zero(heap, mark, heap.len()) {
+    if audit_words::all_zero(heap, mark, heap.len()) {
         return HeapAudit::Clean;
     }
     let mut i = mark;
@@ -200,7 +150,7 @@ pub fn audit_heap(heap: &[u32], marks: &mut [bool]) -> HeapAudit
     if let HeapAudit::Fault(q) = w {
         return HeapAudit::Fault(q);
     }
-    if !is_pointer(marks, heap[1]) {
+    if !audit_words::is_pointer(marks, heap[1]) {
         return HeapAudit::Fault(1);
     }
     let p = pointers_right(heap, marks, walk.links);
@@ -208,22 +158,4 @@ pub fn audit_heap(heap: &[u32], marks: &mut [bool]) -> HeapAudit
         return HeapAudit::Fault(q);
     }
     free_zero(heap)
-}
-
-fn least(a: usize, b: usize) -> usize
-    ensures { λ r. ⌜ (r ≤ b) × ((r ≡ a) ⊎ (r ≡ b)) ⌝ }
-{
-    if a < b { a } else { b }
-}
-
-// Every word of the pointer stack is nil or an object's index, provided that the words from `top` on are 0; only those below are looked at.
-// Where they are all nil, that is told sooner than by their marks.
-pub fn audit_pointers(ptr: &[u32], top: usize, marks: &[bool]) -> bool
-    ensures { λ r. ⌜ ((os : List ℕ) → Marks os (now (marks .entry)) → zeros (drop top (now (ptr .entry))) ≡ true → r ≡ pointers os (now (ptr .entry))) ⌝ }
-{
-    let n = least(top, ptr.len());
-    if all_zero(ptr, 0, n) {
-        return true;
-    }
-    all_pointers(ptr, marks, 0, n)
 }

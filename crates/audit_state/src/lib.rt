@@ -8,7 +8,7 @@ ghost use Rattle.model.specs.Heap.{objectsOf};
 ghost use Rattle.model.specs.Choice.{all};
 ghost use Rattle.model.specs.Control.{Machine, setRegs, down, recordWords};
 ghost use Rattle.model.specs.Sound.{zeros, stack?, stackTests, topmost, sound?};
-ghost use Rattle.audit_heap.specs.Table.{Marks};
+ghost use Rattle.audit_words.specs.Table.{Marks};
 ghost use Rattle.registers.specs.Registers.{RegsWords};
 ghost use Rattle.audit_places.specs.Places.{AuditReady};
 ghost use Rattle.audit_records.specs.Records.{theLook, Near};
@@ -57,7 +57,7 @@ fn records_right(
 fn zeros_from(words: &[u32], top: usize) -> bool
     ensures { λ r. ⌜ r ≡ zeros (drop top (now (words .entry))) ⌝ }
 {
-    audit_heap::all_zero(words, top, words.len())
+    audit_words::all_zero(words, top, words.len())
 }
 
 // The words of the stacks: 0 above the tops, pointers on the pointer stack.
@@ -74,7 +74,7 @@ fn words_right(main: &[u32], ptr: &[u32], ctl: &[u32], marks: &[bool], regs: Reg
     if !zeros_from(ctl, regs.ctop) {
         return false;
     }
-    audit_heap::audit_pointers(ptr, regs.ptop, marks)
+    audit_words::audit_pointers(ptr, regs.ptop, marks)
 }
 
 // The registers of a running state: the tops fit the records and the map.

@@ -2,21 +2,17 @@
 -- `tested` comes to, whatever follows.
 use Prim.Native.Nat.{ℕ, _<_, _≤_}
 use mathlib.Core.Bool.{Bool, true, false}
-use mathlib.Core.List.{List, [], _∷_}
+use mathlib.Core.List.{List}
 use mathlib.Core.Path.{_≡_, refl, ap, sym, _∙_}
 use native.Mathlib.Omega.{arith}
 use lib.ListN.{length, replicate, length-replicate}
-use lib.Dec.{eqb}
-use borrow.Author.Tests.{eq-eqb, eqb-true, le-leb}
-use Rattle.model.specs.Choice.{if_then_else_, Test, same, atMost, all, All, all-true}
+use borrow.Author.Tests.{le-leb}
+use Rattle.model.specs.Choice.{Test, all, All, all-true}
 use Rattle.model.specs.File.{headOf, fileMost, procsMost}
 use Rattle.model.specs.Heap.{clean, heapOf, objectsOf}
-use Rattle.model.specs.Sums.{sumsOf}
-use Rattle.model.specs.Control.{registerBytes, recordWords, sumsFrom}
-use Rattle.model.specs.Calls.{pass, refuse, verdictOf, Checked, checked, answered, checkOf, Lent, withMap, After, answers, demand, audited, sumTests, registerTests, lengthTests}
-use Rattle.model.specs.Calls.{afterCheck, tested, mainMost, ptrMost, ctlMost, heapMost}
+use Rattle.model.specs.Calls.{pass, refuse, verdictOf, Checked, checked, answered, checkOf, Lent, withMap, After, answers, demand, audited, registerTests, lengthTests}
+use Rattle.model.specs.Calls.{afterCheck, tested, heapMost}
 use Rattle.model.specs.Calls as model
-use Rattle.laws.specs.Tests.{fails-all, decided}
 use Rattle.theory_checker.specs.Exact.{passed-as}
 use Rattle.laws_file.specs.Procedures.{head-zero, head-whole}
 use Rattle.check_scan.specs.Heading.{Placed}
@@ -26,49 +22,21 @@ use Rattle.check_flow.specs.declared.Verdict.{Verdict}
 use Rattle.check_flow.specs.declared.Verdict.the-variants.{Pass, Refuse}
 use Rattle.code_file.specs.Heads.{HeadIs, procHead, head-of}
 use Rattle.code_file.specs.declared.Head.{Head}
-use Rattle.audit_heap.specs.Table.{Unmarked, unmarked-fresh, Marks, Audited}
+use Rattle.call_lists.specs.Lists.{belongList, belongShort, lengthList}
+use Rattle.audit_words.specs.Table.{Unmarked, unmarked-fresh, Marks}
+use Rattle.audit_heap.specs.Found.{Audited}
 use Rattle.audit_heap.specs.Answers.{audited-clean, audited-fault}
 use Rattle.audit_heap.specs.declared.HeapAudit.{HeapAudit}
 use Rattle.audit_heap.specs.declared.HeapAudit.the-variants.{Clean, Fault}
-use Rattle.model.specs.declared.Sums.{Sums}
 use Rattle.model.specs.declared.Answer.the-variants.{Passed, Refused}
-
--- refusal 13 in run, as the model's belongTests has it
-abbrev pub belongList : List ℕ → List ℕ → List Test
-belongList f b = same (length b) registerBytes ∷ sumTests (sumsFrom b) (sumsOf f)
-
-pub sums-differ : {s t s′ t′ : Sums} → s ≡ s′ → t ≡ t′ → (s .first ≡ t .first → ⊥) → false ≡ all (sumTests s′ t′)
-sums-differ {s′ = s′} {t′ = t′} e g h = fails-all 0 (sumTests s′ t′) (rw (e, g) at h)
-
-pub sums-decide : {s t s′ t′ : Sums} → s ≡ s′ → t ≡ t′ → s .first ≡ t .first → eqb (s .second) (t .second) ≡ all (sumTests s′ t′)
-sums-decide {s = s} {t = t} e g h = rw (← e, ← g) (decided 1 (sumTests s t) _ refl (λ w. (h, (eqb-true _ _ w, tt))))
 
 -- these are the tests for 13, and their outcome; it matters for a file that is not too long
 abbrev pub Asks : List Test → List ℕ → Bool → Type 0
 Asks ts f its = length f ≤ fileMost → its ≡ all ts
 
--- the same with the file's length ahead
-abbrev pub belongShort : List ℕ → List ℕ → List Test
-belongShort f b = atMost (length f) fileMost ∷ belongList f b
-
-pub file-long : (f b : List ℕ) → fileMost < length f → false ≡ all (belongShort f b)
-file-long f b h = fails-all 0 (belongShort f b) h
-
-pub length-wrong : (f b : List ℕ) → (length b ≡ registerBytes → ⊥) → false ≡ all (belongShort f b)
-length-wrong f b h = fails-all 1 (belongShort f b) h
-
-pub length-right : (t : Bool) (f b : List ℕ) → length f ≤ fileMost → length b ≡ registerBytes → t ≡ all (sumTests (sumsFrom b) (sumsOf f)) →
-    t ≡ all (belongShort f b)
-length-right t f b m h e = e ∙ rw (le-leb (length f) fileMost m, eq-eqb (length b) registerBytes h)
-
+-- the tests of run with the file's length ahead are those of run for a file that is not too long
 pub short-belongs : (t : Bool) (f b : List ℕ) → t ≡ all (belongShort f b) → Asks (belongList f b) f t
 short-belongs t f b e = λ m. e ∙ rw (le-leb (length f) fileMost m)
-
--- refusal 10 on numbers, as the model's lengthTests has it
-abbrev pub lengthList : Head → ℕ → ℕ → ℕ → ℕ → List Test
-lengthList v main ptr ctl heap =
-    atMost 1 main ∷ atMost main mainMost ∷ atMost 1 ptr ∷ atMost ptr ptrMost ∷ atMost recordWords ctl ∷ atMost ctl ctlMost ∷ atMost 2 heap ∷ atMost heap heapMost ∷ atMost (v .x) main
-    ∷ atMost (v .y) ptr ∷ []
 
 -- an empty table of heads, and one of marks, fresh and long enough for any heap that is not too long
 pub record Tables (table : List ℕ) (marks : List Bool) (heap : List ℕ) : Type 0 where
@@ -222,10 +190,6 @@ module _ {ts : List Test} {l : Lent} {map table : List ℕ} {k : ℕ} {right? : 
           };
           marks-are = λ j y. h-is .marks e;
         }
-
-pub test-self : (t : Bool) → t ≡ (if t then true else false)
-test-self true = refl
-test-self false = refl
 
 -- what start and run come to, once admitted or not
 module _ (ts : List Test) (l : Lent) (map table : List ℕ) (v : Verdict) (A : Admitted ts l map table v) (rest : Lent → After) where

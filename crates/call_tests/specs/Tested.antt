@@ -13,7 +13,7 @@ use Rattle.model.specs.Claim.{Bytes}
 use Rattle.model.specs.Calls.{Lent, withMap, machineOf, After, answers, lengthTests, belongTests, soundTests, demand, testedForRun, mainMost, ptrMost}
 use Rattle.check_flow.specs.declared.Verdict.{Verdict}
 use Rattle.check_flow.specs.declared.Verdict.the-variants.{Pass, Refuse}
-use Rattle.audit_heap.specs.Table.{Marks}
+use Rattle.audit_words.specs.Table.{Marks}
 use Rattle.audit_places.specs.Places.{AuditReady, passed-ready}
 use Rattle.call_tests.specs.Admit.{AdmitShows, AdmittedMarks, tested-refused, tested-on}
 use Rattle.call_tests.specs.declared.Tested.{Tested}

@@ -1,25 +1,17 @@
 // What start and run test: refusals 1 to 9, 13, 10 and 11; then, for run, the state.
 ghost use mathlib.Core.Path.{_≡_};
-ghost use mathlib.Core.List.{List, _∷_};
+ghost use mathlib.Core.List.{List};
 ghost use Prim.Native.Nat.{ℕ, _≤_};
 ghost use lib.ListN.{length, replicate};
-ghost use Rattle.model.specs.Choice.{Test, atMost, all};
-ghost use Rattle.model.specs.Control.{registerBytes, sumsFrom};
-ghost use Rattle.model.specs.File.{fileMost, procsMost};
-ghost use Rattle.model.specs.Sums.{sumsOf};
-ghost use Rattle.model.specs.Calls.{sumTests};
-ghost use Rattle.call_tests.specs.Admit.{belongList, lengthList, Asks, Tables, Started, AdmittedMarks};
+ghost use Rattle.model.specs.Choice.{Test};
+ghost use Rattle.model.specs.File.{procsMost};
+ghost use Rattle.call_lists.specs.Lists.{belongList};
+ghost use Rattle.call_tests.specs.Admit.{Asks, Tables, Started, AdmittedMarks};
 ghost use Rattle.call_tests.specs.Tested.{TestedAs};
 use audit_heap::HeapAudit;
 use check_flow::Verdict;
-use code_file::Head;
-use model::CTL_MOST;
-use model::FILE_MOST;
 use model::HEAP_MOST;
-use model::MAIN_MOST;
 use model::PROCS_MOST;
-use model::PTR_MOST;
-use model::RECORD;
 use model::REGISTER_BYTES;
 use model::Regs;
 
@@ -28,67 +20,6 @@ const FEW: usize = 2048;
 
 // Marks for any heap.
 const MANY: usize = HEAP_MOST;
-
-// Both sums in the registers are the file's.
-fn sums_right(file: &[u8], bytes: &[u8]) -> bool
-    requires { ⌜ (length (now file) ≤ fileMost) × (length (now bytes) ≡ registerBytes) ⌝ }
-    ensures { λ r. ⌜ r ≡ all (sumTests (sumsFrom (now (bytes .entry))) (sumsOf (now (file .entry)))) ⌝ }
-{
-    let kept = registers::sums_from(bytes);
-    let own = file_sums::sums_of(file);
-    if kept.first != own.first {
-        return false;
-    }
-    kept.second == own.second
-}
-
-// Refusal 13 in run: the register list's length, and the sums. The check has not been made yet, and the sums are of a file that is not too
-// long; a longer one is refused 1 whatever this answers.
-fn belongs(file: &[u8], bytes: &[u8]) -> bool
-    ensures { λ r. ⌜ r ≡ all (atMost (length (now (file .entry))) fileMost ∷ belongList (now (file .entry)) (now (bytes .entry))) ⌝ }
-{
-    if FILE_MOST < file.len() {
-        return false;
-    }
-    if bytes.len() != REGISTER_BYTES {
-        return false;
-    }
-    sums_right(file, bytes)
-}
-
-// Refusal 10: the lent lengths, with the head of procedure 0.
-fn lengths_right(head: Head, main: usize, ptr: usize, ctl: usize, heap: usize) -> bool
-    ensures { λ r. ⌜ r ≡ all (lengthList head main ptr ctl heap) ⌝ }
-{
-    if main < 1 {
-        return false;
-    }
-    if MAIN_MOST < main {
-        return false;
-    }
-    if ptr < 1 {
-        return false;
-    }
-    if PTR_MOST < ptr {
-        return false;
-    }
-    if ctl < RECORD {
-        return false;
-    }
-    if CTL_MOST < ctl {
-        return false;
-    }
-    if heap < 2 {
-        return false;
-    }
-    if HEAP_MOST < heap {
-        return false;
-    }
-    if main < head.x {
-        return false;
-    }
-    head.y <= ptr
-}
 
 // Refusals 1 to 9, 13, 10 and 11, for any tests for 13 whose outcome is `its`: start and run have each their own. They make them ahead, so that
 // this function need not be handed the register list, which made the audit of deep stacks slower (docs/PERFORMANCE.md). Where there is no
@@ -123,7 +54,7 @@ fn admit_with(
         return Verdict::Refuse(13, 0);
     }
     let head = code_file::head_at(file, 0);
-    if lengths_right(head, main.len(), ptr.len(), ctl.len(), heap.len()) {
+    if call_lists::lengths_right(head, main.len(), ptr.len(), ctl.len(), heap.len()) {
         let audit = audit_heap::audit_heap(heap, marks);
         match audit {
             HeapAudit::Fault(q) => Verdict::Refuse(11, q),
@@ -231,7 +162,7 @@ pub fn test_for_run(
       bytes = now (bytes .entry);
     }) (now (map .exit)) (now (table .exit)) r ⌝ }
 {
-    let its = belongs(file, bytes);
+    let its = call_lists::belongs(file, bytes);
     if heap.len() <= FEW {
         let mut few = [false; FEW];
         return test_with(its, file, map, table, &mut few, main, ptr, ctl, heap, bytes);

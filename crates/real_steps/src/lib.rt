@@ -11,7 +11,6 @@ ghost use lib.ListN.{length};
 ghost use Rattle.model.specs.File as model;
 ghost use Rattle.model.specs.Calls.{mainMost};
 ghost use Rattle.laws.specs.Cuts.{Topped};
-ghost use Rattle.laws_file.specs.Codes.{isReal?};
 ghost use Rattle.reals.specs.Given.{asPoint};
 ghost use Rattle.real_steps.specs.Does.{realAt, pointAt, putReal, movedOn, Does, RealHere};
 
@@ -136,17 +135,6 @@ fn hoop(main: &mut [u32], regs: Regs, next: usize) -> Moved
         return goes_on(regs, next, at + 4);
     }
     not_finite(regs)
-}
-
-// Whether a code stands for an instruction on reals. No arm has neighbouring codes: for those the language tests a range first.
-pub fn is_real(kind: u8) -> bool
-    ensures { λ r. ⌜ ((f : List ℕ) (p : ℕ) → r ≡ isReal? (model.insOf f p kind)) ⌝ }
-{
-    match kind {
-        53 | 150 | 152 | 155 => true,
-        151 | 153 | 156 => true,
-        _ => false,
-    }
 }
 
 // The instruction on reals at the machine's place; body is the place behind its code.

@@ -1,12 +1,15 @@
 // Reals and hoop points (Manual 2.17, 2.18): two words as an f64, its words again, and the operations, each rounded once.
 ghost use mathlib.Core.Path.{_≡_};
 ghost use mathlib.Core.Bool.{true, _&&_};
+ghost use mathlib.Core.List.{List};
 ghost use mathlib.Core.Logic.{_⊎_};
-ghost use Prim.Native.Nat.{_+_, _*_, _/_, _%_};
+ghost use Prim.Native.Nat.{ℕ, _+_, _*_, _/_, _%_};
 ghost use lib.Ieee.{binary64, toBits};
 ghost use lib.Ieee.Scale.{finite};
+ghost use Rattle.model.specs.File.{insOf};
 ghost use Rattle.model.specs.Words.{bit};
 ghost use Rattle.model.specs.Reals.{wordsMany, realOf, lessReals, scaled, shifted};
+ghost use Rattle.laws_file.specs.Codes.{isReal?};
 ghost use Rattle.reals.specs.Given.{Operates, asPoint};
 
 // A hoop point: two reals.
@@ -54,6 +57,17 @@ pub fn low_word(x: f64) -> u32
     ensures { λ r. ⌜ r ≡ toBits binary64 x % wordsMany ⌝ }
 {
     (f64::to_bits(x) % 4294967296) as u32
+}
+
+// Whether a code stands for an instruction on reals. No arm has neighbouring codes: for those the language tests a range first.
+pub fn is_real(kind: u8) -> bool
+    ensures { λ r. ⌜ ((f : List ℕ) (p : ℕ) → r ≡ isReal? (insOf f p kind)) ⌝ }
+{
+    match kind {
+        53 | 150 | 152 | 155 => true,
+        151 | 153 | 156 => true,
+        _ => false,
+    }
 }
 
 // 150 to 153.

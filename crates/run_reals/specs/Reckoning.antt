@@ -5,14 +5,13 @@ use mathlib.Core.List.{List}
 use mathlib.Core.Path.{_≡_, refl, ap, sym, _∙_}
 use native.Mathlib.Omega.{arith}
 use lib.ListN.{length}
-use Rattle.model.specs.File.{fileMost, byteAt, after, insOf, insAt}
+use Rattle.model.specs.File.{byteAt, after, insOf, insAt}
 use Rattle.model.specs.Control.{Machine}
 use Rattle.model.specs.Instructions.{codeOf, outOfRange, Result, done, fails, rule}
 use Rattle.model.specs.Step.{next, raised}
 use Rattle.model.specs.declared.Regs.{Regs}
 use Rattle.laws_file.specs.Codes.{isReal?, realCodes, real-code}
 use Rattle.laws_file.specs.Kinds.{at-each}
-use Rattle.laws_file.specs.Walk.{after-above}
 use Rattle.plan_meaning.specs.Planned.{planOf, planAt, basicPlan}
 use Rattle.plan_meaning.specs.Settled.{settle}
 use Rattle.plan_meaning.specs.declared.Put.{Put}
@@ -20,7 +19,6 @@ use Rattle.plan_meaning.specs.declared.Plan.{Plan}
 use Rattle.plan_meaning.specs.declared.Plan.the-variants.{Write, OutOfRange, NilObject, NoSuchWord, HeapFull, NoRoom, VectorFault, Thrown, Real}
 use Rattle.real_steps.specs.Does.{Does, RealHere}
 use Rattle.apply.specs.Ended.{RealRaises}
-use Rattle.theory_step.specs.Planning.{alive-ready}
 use Rattle.theory_step.specs.Settling.{alive-settles, alive-real, alive-plan}
 use Rattle.run_steps.specs.Going.{Runs, Going, Paused, going-start, going-trans, going-step, stopped-raise, paused-from}
 
@@ -73,12 +71,12 @@ pub record Rests (f table : List ℕ) (n : ℕ) (m : Machine) (n′ : ℕ) (m′
   pub raises : 0 < n′ → RealRaises f m′ plan
 
 -- a plan for an instruction on reals writes nothing
-pub never-writes : (p : ℕ) (put : Put) → Real p ≡ Write put → ⊥
+never-writes : (p : ℕ) (put : Put) → Real p ≡ Write put → ⊥
 unfolding atReal?
 never-writes p put e = true≢false (ap atReal? e)
 
 -- the plan of an instruction on reals
-pub real-plan : (f : List ℕ) (m : Machine) → isReal? (insAt f (m .regs .place)) ≡ true → planAt f m ≡ Real (m .regs .place + 1)
+real-plan : (f : List ℕ) (m : Machine) → isReal? (insAt f (m .regs .place)) ≡ true → planAt f m ≡ Real (m .regs .place + 1)
 unfolding planAt planOf basicPlan insAt insOf
 real-plan f m e =
     let p = m .regs .place in
@@ -90,10 +88,6 @@ pub real-paused : {f table : List ℕ} {m : Machine} {p : ℕ} → Runs f table 
 real-paused {table = table} {m} {p} R on? e =
     let S = alive-real (R .alive) on? p (sym e) in
     record { rest = record { table = table; ptr = m .ptr; ctl = m .ctl; heap = m .heap }; runs = R; on? = on?; real = S .real; body = S .body }
-
--- the place of a sound state is in the file
-pub place-in : {f table : List ℕ} {m : Machine} → Runs f table m → (m .regs .state ≡ 1 → ⊥) → (m .regs .place < length f) × (length f ≤ fileMost)
-place-in {f} {m = m} R on? = let Y = alive-ready (R .alive) on? in (omega (arith, Y .whole, after-above f (m .regs .place)), Y .short)
 
 -- it is done, or 1 is raised
 module _ (f : List ℕ) (m : Machine) (p : ℕ) where

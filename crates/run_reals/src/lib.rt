@@ -48,7 +48,7 @@ fn reckon(file: &[u8], main: &mut [u32], regs: Regs, body: usize, budget: u32) -
         r = moved.regs;
         left = after;
         let place = r.place;
-        if !real_steps::is_real(file[place]) {
+        if !reals::is_real(file[place]) {
             return Past {
                 finite: true,
                 regs: r,

@@ -2,7 +2,7 @@
 use mathlib.Core.Logic.{inl, inr}
 use native.Mathlib.Omega.{arith}
 use borrow.Author.Needs.{needs}
-use Rattle.audit_heap.specs.Table.{Range}
+use Rattle.audit_heap.specs.Found.{Range}
 use Rattle.audit_heap.specs.Answers.{audited-mark, audited-walk, audited-root, audited-pointer, audited-free, walked-right}
 use Rattle.audit_heap.proofs.audit_heap.Statement.{statement}
 use Rattle.audit_heap.proofs.audit_heap.Tie as tie

@@ -4,9 +4,9 @@ use Prim.Native.Nat.{_-_, _≤_}
 use mathlib.Core.Path.{subst}
 use native.Mathlib.Omega.{arith}
 use borrow.Author.Needs.{needs}
-use Rattle.audit_heap.specs.Table.{markedAt}
-use Rattle.audit_heap.specs.Every.{Every, every-clean}
-use Rattle.audit_heap.specs.Turns.{pointer-bad, pointer-good, Scan, scan-none, scan-more, scan-bad, scan-end}
+use Rattle.audit_words.specs.Every.{Every}
+use Rattle.audit_words.specs.Table.{markedAt}
+use Rattle.audit_heap.specs.Turns.{every-clean, pointer-bad, pointer-good, Scan, scan-none, scan-more, scan-bad, scan-end}
 use Rattle.audit_heap.proofs.bad_pointer.Statement.{statement}
 use Rattle.audit_heap.proofs.bad_pointer.Tie as tie
 

@@ -6,9 +6,8 @@ use native.Mathlib.Omega.{arith}
 use lib.ListN.{length}
 use borrow.Author.Needs.{needs}
 use Rattle.model.specs.Heap.{markOf}
-use Rattle.audit_heap.specs.First.{zeroAt}
-use Rattle.audit_heap.specs.Every.{Every, every-clean}
-use Rattle.audit_heap.specs.Turns.{zero-bad, zero-good, Scan, scan-none, scan-more, scan-bad, scan-end}
+use Rattle.audit_words.specs.Every.{zeroAt, Every}
+use Rattle.audit_heap.specs.Turns.{every-clean, zero-bad, zero-good, Scan, scan-none, scan-more, scan-bad, scan-end}
 use Rattle.audit_heap.proofs.free_zero.Statement.{statement}
 use Rattle.audit_heap.proofs.free_zero.Tie as tie
 

@@ -1,6 +1,6 @@
 -- Told one by one, the words from the top on are 0 exactly if `zeros` says so.
 use borrow.Author.Needs.{needs}
-use Rattle.audit_heap.specs.Stack.{zeros-told}
+use Rattle.audit_words.specs.Stack.{zeros-told}
 use Rattle.audit_state.proofs.zeros_from.Statement.{statement}
 use Rattle.audit_state.proofs.zeros_from.Tie as tie
 

@@ -1,7 +1,8 @@
 -- `call_tests::admit` meets its contract: its marks are fresh, and enough for the heap or for any that is not too long.
 use mathlib.Core.Path.{refl}
 use Rattle.model.specs.Calls.{Lent, heapMost, registerTests}
-use Rattle.call_tests.specs.Admit.{tables-fresh, test-self}
+use Rattle.call_lists.specs.Lists.{test-self}
+use Rattle.call_tests.specs.Admit.{tables-fresh}
 use borrow.Author.Needs.{needs}
 use Rattle.call_tests.proofs.admit.Statement.{statement}
 use Rattle.call_tests.proofs.admit.Tie as tie

@@ -6,7 +6,7 @@ use Prim.Native.Nat.{ℕ}
 use Rattle.model.specs.Choice.{Test, yes?}
 use Rattle.model.specs.Calls.{Lent}
 use Rattle.call_tests.specs.Admit.{Asks, first-whole, Measured, measured, heap-measured, admit-refused, admit-passes, admit-foreign, admit-lengths, admit-heap, admit-all}
-use Rattle.call_tests.specs.Admit.{test-self}
+use Rattle.call_lists.specs.Lists.{test-self}
 use borrow.Author.Needs.{needs}
 use Rattle.call_tests.proofs.admit_with.Statement.{statement}
 use Rattle.call_tests.proofs.admit_with.Tie as tie

@@ -3,8 +3,10 @@ use native.Mathlib.Omega.{arith}
 use borrow.Author.Needs.{needs}
 use borrow.Author.Tests.{not-true, not-false}
 use mathlib.Core.Path.{sym, _∙_}
+use Rattle.plan.specs.Arms.{place-small}
+use Rattle.theory_step.specs.Planning.{alive-ready}
 use Rattle.run_steps.specs.Going.{Paused, paused-from}
-use Rattle.run_reals.specs.Reckoning.{real-paused, place-in, going-past, on-past, rests-other, rests-spent, rests-raised}
+use Rattle.run_reals.specs.Reckoning.{real-paused, going-past, on-past, rests-other, rests-spent, rests-raised}
 use Rattle.run_reals.proofs.Tags.{not-real}
 use Rattle.run_reals.proofs.go_on.Statement.{statement}
 use Rattle.run_reals.proofs.go_on.Tie as tie
@@ -53,8 +55,7 @@ add-behind c =
     let at-reckon = c .before .before .before .before .before .before in
     let P = turn at-reckon .loop .inv in
     let K = at-reckon .reckon .ensures in
-    let I = place-in (going-past P K .runs) (on-past P K) in
-    omega (arith, I .0, I .1)
+    omega (arith, place-small (alive-ready (going-past P K .runs .alive) (on-past P K)))
 
 returns-2 : tie.Need-returns-2 Inv-loop μ-loop
 returns-2 c =

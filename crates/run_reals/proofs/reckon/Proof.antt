@@ -1,5 +1,5 @@
 -- `run_reals::reckon` meets its contract: each turn is one step of the model, in a run of every state that has these registers and this main stack.
-use Rattle.run_reals.specs.Reckoning.{with, AtReal, Reckons, reckons-none, real-ready, place-in, reckons-step, reals-on, reals-raise}
+use Rattle.run_reals.specs.Reckoning.{with, AtReal, Reckons, reckons-none, real-ready, reckons-step, reals-on, reals-raise}
 use native.Mathlib.Omega.{arith}
 use borrow.Author.Needs.{needs}
 use borrow.Author.Tests.{not-true, not-false}
@@ -7,6 +7,8 @@ use mathlib.Core.Bool.{true, true≢false}
 use mathlib.Core.Path.{_≡_, refl, sym, _∙_}
 use Prim.Native.Nat.{_-_, _≤_}
 use Rattle.model.specs.File.{insAt}
+use Rattle.plan.specs.Arms.{place-in, place-small}
+use Rattle.theory_step.specs.Planning.{alive-ready}
 use Rattle.run_steps.specs.Going.{Runs}
 use Rattle.run_reals.proofs.reckon.Statement.{statement}
 use Rattle.run_reals.proofs.reckon.Tie as tie
@@ -76,7 +78,7 @@ shared-slice-read-is-real : tie.Need-shared-slice-read-is-real Inv-loop μ-loop
 shared-slice-read-is-real c =
     let at-step = c .before .before .before .before .before .before in
     let d = not-false _ (c .before .before .if1 .left) in
-    place-in (still-runs at-step d) (still-on at-step d) .0
+    place-in (alive-ready (still-runs at-step d .alive) (still-on at-step d))
 
 is-real-requires : tie.Need-is-real-requires Inv-loop μ-loop
 is-real-requires c κs = search needs
@@ -101,8 +103,7 @@ add-at : tie.Need-add-at Inv-loop μ-loop
 add-at c =
     let at-step = c .before .before .before .before .before .before .before .before in
     let d = not-false _ (c .before .before .before .before .if1 .left) in
-    let P = place-in (still-runs at-step d) (still-on at-step d) in
-    omega (arith, P .0, P .1)
+    omega (arith, place-small (alive-ready (still-runs at-step d .alive) (still-on at-step d)))
 
 loop-less : tie.Need-loop-less Inv-loop μ-loop
 loop-less c =
