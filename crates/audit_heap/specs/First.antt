@@ -42,7 +42,7 @@ abbrev pub orAudit : HeapAudit → Audit → Audit
 orAudit Clean b = b
 orAudit (Fault i) b = fault i
 
--- the tests of the model's audit
+-- the model's test of a pointer, as `zeroAt` is of a free word
 abbrev pub pointerAt : List ℕ → List ℕ → ℕ → Bool
 pointerAt h os i = isPointer os (wordAt h i)
 

@@ -24,7 +24,7 @@ zeros-pointers os (v ∷ l) e =
     let b = if-both (eqb v 0) (zeros l) e in
     rw (true-pointer os v (inl (eqb-true v 0 (b .0)))) (zeros-pointers os l (b .1))
 
-pub zeros-end : (l : List ℕ) (i : ℕ) → length l ≤ i → zeros (drop i l) ≡ true
+zeros-end : (l : List ℕ) (i : ℕ) → length l ≤ i → zeros (drop i l) ≡ true
 zeros-end [] zero h = refl
 zeros-end [] (suc i) h = refl
 zeros-end (w ∷ l) zero h = absurd (omega arith)

@@ -25,7 +25,7 @@ sums-differ {s′ = s′} {t′ = t′} e g h = fails-all 0 (sumTests s′ t′)
 pub sums-decide : {s t s′ t′ : Sums} → s ≡ s′ → t ≡ t′ → s .first ≡ t .first → eqb (s .second) (t .second) ≡ all (sumTests s′ t′)
 sums-decide {s = s} {t = t} e g h = rw (← e, ← g) (decided 1 (sumTests s t) _ refl (λ w. (h, (eqb-true _ _ w, tt))))
 
--- with the file's length ahead
+-- `belongList` with the file's length ahead
 abbrev pub belongShort : List ℕ → List ℕ → List Test
 belongShort f b = atMost (length f) fileMost ∷ belongList f b
 

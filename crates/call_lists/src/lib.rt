@@ -1,4 +1,4 @@
-// What start and run test of the lists by themselves: that a state is the file's, refusal 13, and the lists' lengths, refusal 10.
+// What is tested of the lists by themselves: in run that the state is the file's, refusal 13; in start and run the lists' lengths, refusal 10.
 ghost use mathlib.Core.Path.{_≡_};
 ghost use mathlib.Core.List.{_∷_};
 ghost use Prim.Native.Nat.{_≤_};

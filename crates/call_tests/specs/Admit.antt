@@ -34,7 +34,7 @@ use Rattle.model.specs.declared.Answer.the-variants.{Passed, Refused}
 abbrev pub Asks : List Test → List ℕ → Bool → Type 0
 Asks ts f its = length f ≤ fileMost → its ≡ all ts
 
--- the tests of run with the file's length ahead are those of run for a file that is not too long
+-- run's tests for 13 with the file's length ahead come to the same for a file that is not too long
 pub short-belongs : (t : Bool) (f b : List ℕ) → t ≡ all (belongShort f b) → Asks (belongList f b) f t
 short-belongs t f b e = λ m. e ∙ rw (le-leb (length f) fileMost m)
 

@@ -1,8 +1,8 @@
 // What start and run test: refusals 1 to 9, 13, 10 and 11; then, for run, the state.
 ghost use mathlib.Core.Path.{_≡_};
 ghost use mathlib.Core.List.{List};
-ghost use Prim.Native.Nat.{ℕ, _≤_};
-ghost use lib.ListN.{length, replicate};
+ghost use Prim.Native.Nat.{ℕ};
+ghost use lib.ListN.{replicate};
 ghost use Rattle.model.specs.Choice.{Test};
 ghost use Rattle.model.specs.File.{procsMost};
 ghost use Rattle.call_lists.specs.Lists.{belongList};

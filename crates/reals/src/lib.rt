@@ -1,4 +1,4 @@
-// Reals and hoop points (Manual 2.17, 2.18): two words as an f64, its words again, and the operations, each rounded once.
+// Reals and hoop points (Manual 2.17, 2.18): two words as an f64, its words again, and the operations, each rounded once; which codes are on reals.
 ghost use mathlib.Core.Path.{_≡_};
 ghost use mathlib.Core.Bool.{true, _&&_};
 ghost use mathlib.Core.List.{List};

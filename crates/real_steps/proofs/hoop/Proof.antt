@@ -1,7 +1,7 @@
 -- `real_steps::hoop`: the point is the rule's; where both its reals are finite their words take the place of ten, else nothing is written.
 use native.Mathlib.Omega.{arith}
 use Rattle.laws.specs.Choices.{both-true}
-use mathlib.Core.Bool.{true, false, true≢false}
+use mathlib.Core.Bool.{true≢false}
 use mathlib.Core.Path.{_≡_, refl, ap, sym, _∙_}
 use Rattle.real_steps.specs.Done.{hoop-done, hoop-raises}
 use borrow.Author.Needs.{needs}

@@ -1,5 +1,5 @@
 -- `real_steps::operation`: the result is the rule's; where it is finite its words take the place of four, else nothing is written.
-use mathlib.Core.Bool.{true, false, true≢false}
+use mathlib.Core.Bool.{true≢false}
 use mathlib.Core.Path.{refl, sym, _∙_}
 use Rattle.real_steps.specs.Done.{operation-done, operation-raises}
 use borrow.Author.Needs.{needs}
