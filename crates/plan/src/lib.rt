@@ -64,7 +64,7 @@ pub fn plan_at(
         81 => plan_vectors::make_pointers(main, heap, regs),
         82 => plan_elements::word_elements(main, ptr, heap, regs, 82),
         84 => plan_elements::word_elements(main, ptr, heap, regs, 84),
-        83 => plan_elements::ptr_elements(main, ptr, heap, regs, 83),
+        0 | 83 => plan_elements::ptr_elements(main, ptr, heap, regs, 83), // 0 is no code: with it the table of jumps begins at 0
         85 => plan_elements::ptr_elements(main, ptr, heap, regs, 85),
         162 => Plan::Thrown,
         _ => Plan::Real(place + 1),

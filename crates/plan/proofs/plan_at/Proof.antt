@@ -10,7 +10,7 @@ use Rattle.laws_file.specs.Kinds.{at-each}
 use Rattle.plan_meaning.specs.Planned.{planOf, planned}
 use Rattle.plan.specs.Arms.{place-in, place-small, main-within, ptr-within, record-in, body-here, body, pops-main, pops-ptr, on-words, jump-on}
 use Rattle.plan.specs.Arms.{main-word, ptr-word, taken-main, taken-ptr, points, callee, subject, plan-of, plan-here}
-use Rattle.plan.specs.Kinds.{last-arm, last-planned}
+use Rattle.plan.specs.Kinds.{last-arm, last-planned, not-zero}
 use Rattle.plan.specs.Ready.{StepReady}
 use Rattle.plan.proofs.plan_at.Statement.{statement}
 use Rattle.plan.proofs.plan_at.Tie as tie
@@ -215,7 +215,7 @@ ptr-elements-requires : tie.Need-ptr-elements-requires
 unfolding insOf effectOf basicEffect
 ptr-elements-requires c κs =
     let R = ready (c .before) in
-    let e = c .match .keys37 in
+    let e = not-zero _ _ (R .code) (c .match .keys37) in
     (place-small R, main-within R, ptr-within R, omega (arith, pops-main R e), omega (arith, pops-ptr R e), points R _, λ z. omega (arith, z), inl refl)
 
 ptr-elements-requires-2 : tie.Need-ptr-elements-requires-2
@@ -382,7 +382,7 @@ returns-36 c = let R = ready (c .before .before) in plan-here R (c .before .matc
 
 returns-37 : tie.Need-returns-37
 unfolding bodyOf bodies codes
-returns-37 c = let R = ready (c .before .before) in plan-here R (c .before .match .keys37) (c .ptr-elements .ensures _ (subject R))
+returns-37 c = let R = ready (c .before .before) in plan-here R (not-zero _ _ (R .code) (c .before .match .keys37)) (c .ptr-elements .ensures _ (subject R))
 
 returns-38 : tie.Need-returns-38
 unfolding bodyOf bodies codes
