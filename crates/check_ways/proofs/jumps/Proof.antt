@@ -3,6 +3,8 @@ use Prim.Native.Nat.{suc}
 use mathlib.Core.Path.{_≡_, _∙_, ap, refl, sym}
 use native.Mathlib.Omega.{arith}
 use Rattle.model.specs.File.{codes, bodies, bodyOf, forwards, insOf}
+use mathlib.Core.Logic.{inr}
+use Rattle.laws_file.specs.Kinds.{other}
 use Rattle.check_rows.specs.Shape.{Jump, Branch, Keep, shapeOf}
 use Rattle.check_rows.specs.Kinds.{each-from}
 use Rattle.check_ways.specs.Ways.{leadsTo, led, target-room}
@@ -44,7 +46,8 @@ branch-requires-2 : tie.Need-branch-requires-2
 unfolding insOf shapeOf bodyOf bodies codes
 branch-requires-2 c κs =
     let entry = c .before .before .before .before .before in
-    led (entry .pre .0) 4 3 (leadsTo Branch 1 _) (c .before .before .match .keys4) refl (ap (leadsTo Branch 1) (sym (c .backwards2 .ensures .is)))
+    let is-four = other (c .before .before .match .keys4) (λ e. absurd (omega (arith, entry .pre .1, e))) in
+    led (entry .pre .0) 4 3 (leadsTo Branch 1 _) is-four refl (ap (leadsTo Branch 1) (sym (c .backwards2 .ensures .is)))
 
 forwards-requires-3 : tie.Need-forwards-requires-3
 forwards-requires-3 c κs = target-room (c .before .before .before .before .pre)
@@ -55,9 +58,10 @@ branch-requires-3 c κs =
     let entry = c .before .before .before .before .before in
     let f = entry .args .file .now in
     let p = entry .args .p in
+    let not-four : entry .args .kind ≡ 4 → ⊥ = λ e. c .before .before .match .rest .1 (inr e) in
     led (entry .pre .0) (entry .args .kind) 3 (leadsTo Keep 1 _) refl
-    (each-from (λ n. suc (bodyOf n) ≡ 3) 2 5 (refl, (refl, tt)) (entry .args .kind) (omega arith) (omega arith))
-    (each-from (λ n. shapeOf f p (insOf f p n) ≡ leadsTo Keep 1 (forwards f p)) 2 5 (refl, (refl, tt)) (entry .args .kind) (omega arith) (omega arith)
+    (each-from (λ n. suc (bodyOf n) ≡ 3) 2 5 (refl, (refl, tt)) (entry .args .kind) (omega (arith, not-four)) (omega arith))
+    (each-from (λ n. shapeOf f p (insOf f p n) ≡ leadsTo Keep 1 (forwards f p)) 2 5 (refl, (refl, tt)) (entry .args .kind) (omega (arith, not-four)) (omega arith)
     ∙ ap (leadsTo Keep 1) (sym (c .forwards3 .ensures .is)))
 
 same-length : tie.Need-same-length
