@@ -242,7 +242,7 @@ pub fn leave(file: &[u8], m: &[u16], head: usize, limits: Limits, p: usize) -> u
     0
 }
 
-// 1 to 6. No code is 0: with an arm for it the table of jumps begins at 0, and nothing is subtracted.
+// 1 to 6. 0 is no code; in an arm it makes the compiler lay out the jumps better (docs/PERFORMANCE.md).
 pub fn jumps(file: &[u8], m: &mut [u16], head: usize, limits: Limits, p: usize, kind: u8) -> u32
     requires { ⌜ Among (now file) (now m) head p limits kind × (1 ≤ kind) × (kind ≤ 6) ⌝ }
     ensures { λ r. ⌜ takeAns r (now (m .exit)) ≡ takeIn (now (file .entry)) p (now (m .entry)) ⌝ }
