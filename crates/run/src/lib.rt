@@ -22,7 +22,8 @@ fn answered(answer: Answer, regs: Regs) -> Ended
     Ended { answer, regs }
 }
 
-// The table has the heads of the file's procedures. What a run pauses with is one variable: in three, its plan was copied at each pause.
+// The table has the heads of the file's procedures. What a run pauses with is one variable, and registers are passed where they stand: in variables of their
+// own they were copied at each pause and each end.
 pub fn run_on(
     file: &[u8],
     table: &[usize; PROCS_MOST],
@@ -52,21 +53,17 @@ pub fn run_on(
     }
     while 0 < pause.left {
         let after = pause.left - 1;
-        let r = pause.regs;
         let plan = pause.plan;
-        let out = apply::step_with(file, table, main, ptr, ctl, heap, r, plan);
-        let on = out.on;
-        if !on {
+        let out = apply::step_with(file, table, main, ptr, ctl, heap, pause.regs, plan);
+        if !out.on {
             let done = budget - pause.left;
-            let stays = out.regs;
-            return answered(Answer::Uncaught(out.code, stays.place, done), stays);
+            return answered(Answer::Uncaught(out.code, out.regs.place, done), out.regs);
         }
-        let next = out.regs;
-        if next.state == 1 {
+        if out.regs.state == 1 {
             let done = budget - after;
-            return answered(Answer::Finished(done), next);
+            return answered(Answer::Finished(done), out.regs);
         }
-        pause = run_steps::go_on(file, table, main, ptr, ctl, heap, next, after);
+        pause = run_steps::go_on(file, table, main, ptr, ctl, heap, out.regs, after);
         if run_reals::at_real(pause) {
             pause = run_reals::go_on(file, table, main, ptr, ctl, heap, pause);
         }

@@ -28,13 +28,13 @@ abbrev entry : tie.Joined2 Inv-loop μ-loop → tie.Start Inv-loop μ-loop
 entry c = c .before .before .before .before .before .before .before .before .before .before .before .before .before .before .before .before .before .before .before .before .before .before
 
 abbrev turn : tie.After-step-with Inv-loop μ-loop → tie.At-loop Inv-loop μ-loop
-turn c = c .before .before .before .before .before .before .before .before .before
+turn c = c .before .before .before .before .before .before .before .before
 
 abbrev step : tie.Else4 Inv-loop μ-loop → tie.After-step-with Inv-loop μ-loop
-step c = c .before .before .before .before .before .before .before .before .before
+step c = c .before .before .before .before .before .before .before .before .before .before
 
 abbrev ahead : tie.After-go-on3 Inv-loop μ-loop → tie.Else4 Inv-loop μ-loop
-ahead c = c .before .before .before .before .before .before .before .before
+ahead c = c .before .before .before .before .before .before .before
 
 -- the machine at each
 abbrev entered : tie.Start Inv-loop μ-loop → Machine
@@ -94,7 +94,7 @@ on-at : {n : ℕ} {m : Machine} (c : tie.Else4 Inv-loop μ-loop) →
     Paused (A .file .now) (A .table .now) n m (L .left) (turned at-loop) (L .plan) → Going (A .file .now) (A .table .now) n m (L .left - 1) (stepped (step c))
 on-at c P =
     let S = step c .step-with in
-    let t = step c .before .before .before .before .before .before .before .if3 .taken in
+    let t = step c .before .before .before .before .before .before .if3 .taken in
     paused-on P t (S .result) (S .ensures) (not-false _ (c .if4 .left)) (kept-at (step c))
 
 -- and the steps after it, from the first pause on
@@ -106,7 +106,7 @@ ahead-at : (c : tie.After-go-on3 Inv-loop μ-loop) →
 ahead-at c = paused-from (on-at (ahead c) (turn (step (ahead c)) .loop .inv .paused)) (c .go-on3 .ensures)
 
 fewer : (c : tie.After-go-on3 Inv-loop μ-loop) → c .go-on3 .result .left < turn (step (ahead c)) .loop .pause .left
-fewer c = omega (arith, c .go-on3 .ensures .going .less, step (ahead c) .before .before .before .before .before .before .before .if3 .taken)
+fewer c = omega (arith, c .go-on3 .ensures .going .less, step (ahead c) .before .before .before .before .before .before .if3 .taken)
 
 answered-requires : tie.Need-answered-requires Inv-loop μ-loop
 answered-requires c κs = search needs
@@ -131,14 +131,14 @@ sub-after c = omega (arith, c .before .if3 .taken)
 
 step-with-requires : tie.Need-step-with-requires Inv-loop μ-loop
 step-with-requires c κs =
-    let at-if3 = c .before .before .before .before .before .before in
+    let at-if3 = c .before .before .before .before .before in
     let R = at-if3 .before .before .loop .inv in
     let I = R .paused in
     let P = I .stopped (at-if3 .if3 .taken) in
     (rw (P .is) (alive-settles (I .going .runs .alive) (I .on?)), P .late, R .raises (at-if3 .if3 .taken))
 
 sub-done : tie.Need-sub-done Inv-loop μ-loop
-sub-done c = omega (arith, paused-at (turn (c .before .before .before .before .before .before .before .before .before .before)) .going .less)
+sub-done c = omega (arith, paused-at (turn (c .before .before .before .before .before .before .before .before .before .before .before)) .going .less)
 
 answered-requires-2 : tie.Need-answered-requires-2 Inv-loop μ-loop
 answered-requires-2 c κs = search needs
@@ -158,12 +158,12 @@ same-length-4 c = alike-at (c .before .before .before .before .before .before .b
 returns-2 : tie.Need-returns-2 Inv-loop μ-loop
 returns-2 c =
     let at-step-with = c .before .before .before .before .before .before .before .before .before .before .before .before in
-    let t = at-step-with .before .before .before .before .before .before .before .if3 .taken in
+    let t = at-step-with .before .before .before .before .before .before .if3 .taken in
     let S = at-step-with .step-with in
-    rw (c .answered2 .ensures) (paused-uncaught (paused-at (turn at-step-with)) t (S .result) (S .ensures) (not-true _ (c .before .before .before .if4 .taken)))
+    rw (c .answered2 .ensures) (paused-uncaught (paused-at (turn at-step-with)) t (S .result) (S .ensures) (not-true _ (c .before .before .if4 .taken)))
 
 sub-done-2 : tie.Need-sub-done-2 Inv-loop μ-loop
-sub-done-2 c = omega (arith, paused-at (turn (step (c .before .before .before))) .going .less)
+sub-done-2 c = omega (arith, paused-at (turn (step (c .before .before))) .going .less)
 
 answered-requires-3 : tie.Need-answered-requires-3 Inv-loop μ-loop
 answered-requires-3 c κs = search needs
@@ -182,12 +182,12 @@ same-length-8 c = alike-at (c .before .before .before .before .before .before .b
 
 returns-3 : tie.Need-returns-3 Inv-loop μ-loop
 returns-3 c =
-    let at-if4 = c .before .before .before .before in
+    let at-if4 = c .before .before .before in
     rw (c .answered3 .ensures) (going-finished (on-at at-if4 (paused-at (turn (step at-if4)))) (c .before .if5 .taken))
 
 go-on-requires-3 : tie.Need-go-on-requires-3 Inv-loop μ-loop
 go-on-requires-3 c κs =
-    let at-if4 = c .before .before .before .before .before .before .before in
+    let at-if4 = c .before .before .before .before .before .before in
     (on-at at-if4 (turn (step at-if4) .loop .inv .paused) .runs, c .before .before .before .before .if5 .left)
 
 at-real-requires-2 : tie.Need-at-real-requires-2 Inv-loop μ-loop
