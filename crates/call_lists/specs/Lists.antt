@@ -1,12 +1,12 @@
 -- Refusals 10 and 13 as lists of tests on numbers and bytes, and what decides them.
 use Prim.Native.Nat.{ℕ, _<_, _≤_}
-use mathlib.Core.Bool.{Bool, true, false}
+use mathlib.Core.Bool.{Bool, false}
 use mathlib.Core.List.{List, [], _∷_}
 use mathlib.Core.Path.{_≡_, refl, _∙_}
 use lib.ListN.{length}
 use lib.Dec.{eqb}
 use borrow.Author.Tests.{eq-eqb, eqb-true, le-leb}
-use Rattle.model.specs.Choice.{if_then_else_, Test, same, atMost, all}
+use Rattle.model.specs.Choice.{Test, same, atMost, all}
 use Rattle.model.specs.File.{fileMost}
 use Rattle.model.specs.Sums.{sumsOf}
 use Rattle.model.specs.Control.{registerBytes, recordWords, sumsFrom}
@@ -44,7 +44,3 @@ abbrev pub lengthList : Head → ℕ → ℕ → ℕ → ℕ → List Test
 lengthList v main ptr ctl heap =
     atMost 1 main ∷ atMost main mainMost ∷ atMost 1 ptr ∷ atMost ptr ptrMost ∷ atMost recordWords ctl ∷ atMost ctl ctlMost ∷ atMost 2 heap ∷ atMost heap heapMost ∷ atMost (v .x) main
     ∷ atMost (v .y) ptr ∷ []
-
-pub test-self : (t : Bool) → t ≡ (if t then true else false)
-test-self true = refl
-test-self false = refl

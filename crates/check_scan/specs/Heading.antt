@@ -15,6 +15,7 @@ use Rattle.model.specs.File.{paramsMain, paramsPtr, fileMost, headSize}
 use Rattle.model.specs.Checker.{none, state, firsts}
 use Rattle.laws_file.specs.Walk.{instruction-below}
 use Rattle.laws_file.specs.Procedures.{head-whole}
+use Rattle.laws.specs.Choices.{if-self}
 use Rattle.laws.specs.Members.{member-in}
 use Rattle.code_file.specs.Heads.{procHead, HeadIs, head-of}
 use Rattle.code_file.specs.declared.Head.{Head}
@@ -45,10 +46,6 @@ module _ (h : Head) (k : ℕ) where
   pub number-first : k < 64 → k ≡ 0 → (h .a ≡ 0 → ⊥) → false ≡ numberOk h k
   unfolding numberOk
   number-first l z a = rw (z, ne-eqb (h .a) 0 a)
-
-  if-self : (t : Bool) → t ≡ (if t then true else false)
-  if-self true = refl
-  if-self false = refl
 
   pub number-last : k < 64 → k ≡ 0 → h .a ≡ 0 → eqb (h .b) 0 ≡ numberOk h k
   unfolding numberOk

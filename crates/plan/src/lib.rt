@@ -11,8 +11,8 @@ use model::PROCS_MOST;
 // has codes that begin differently: of codes that begin alike it would first do what they share, and then ask for the code a second time. So these have
 // an arm each, and the family's function gets the code as a constant. Neighbours share no arm: together they would be a test of a range.
 // The last arm is that of 53, 150 to 153, 155 and 156: the file has passed and the state is sound, and so a code stands here. With these codes in arms of their own
-// the match would have more than fifty. From fifty on every step had four to eight instructions more: the compiler seems to take each arm for unlikely and to put
-// the families' functions in too late. With a last arm for what is no code a step would have two more.
+// every step had four to eight instructions more, and with one number more in the arms than now each was slower: the compiler seems to take each arm for unlikely and
+// to put the families' functions in too late. With a last arm for what is no code a step would have two more.
 pub fn plan_at(
     file: &[u8],
     table: &[usize; PROCS_MOST],

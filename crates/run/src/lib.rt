@@ -3,12 +3,9 @@ ghost use mathlib.Core.Path.{_≡_};
 ghost use Rattle.model.specs.Step.{ran, runOn};
 ghost use Rattle.run_steps.specs.Going.{Runs};
 ghost use Rattle.run.specs.Endings.{endedWith};
-use apply::Outcome;
 use model::Answer;
 use model::PROCS_MOST;
 use model::Regs;
-use plan_meaning::Plan;
-use run_steps::Pause;
 
 // An answer, with the registers then.
 pub struct Ended {

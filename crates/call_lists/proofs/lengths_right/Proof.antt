@@ -1,6 +1,5 @@
 -- `call_lists::lengths_right` meets its contract: the model's tests in their order.
-use Rattle.laws.specs.Choices.{cases}
-use Rattle.call_lists.specs.Lists.{test-self}
+use Rattle.laws.specs.Choices.{cases, if-self}
 use Rattle.call_lists.proofs.lengths_right.Statement.{statement}
 use Rattle.call_lists.proofs.lengths_right.Tie as tie
 
@@ -32,7 +31,7 @@ returns-9 : tie.Need-returns-9
 returns-9 c = search cases depth 14
 
 returns-10 : tie.Need-returns-10
-returns-10 c = search (cases, test-self) depth 14
+returns-10 c = search (cases, if-self) depth 14
 
 pub lengths-right-spec : {M : Type 1} → statement M
 lengths-right-spec =

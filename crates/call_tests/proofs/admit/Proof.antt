@@ -1,7 +1,7 @@
 -- `call_tests::admit` meets its contract: its marks are fresh, and enough for the heap or for any that is not too long.
 use mathlib.Core.Path.{refl}
 use Rattle.model.specs.Calls.{Lent, heapMost, registerTests}
-use Rattle.call_lists.specs.Lists.{test-self}
+use Rattle.laws.specs.Choices.{if-self}
 use Rattle.call_tests.specs.Admit.{tables-fresh}
 use borrow.Author.Needs.{needs}
 use Rattle.call_tests.proofs.admit.Statement.{statement}
@@ -26,7 +26,7 @@ same-length c = search needs
 returns : tie.Need-returns
 returns c =
     let l = lent (c .before .before .before .before .before .before .before .before .before .before .before .before .before .before .before) in
-    c .before .before .before .admit-with .ensures (registerTests l) (l .bytes) (λ few. test-self _) .found
+    c .before .before .before .admit-with .ensures (registerTests l) (l .bytes) (λ few. if-self _) .found
 
 slice-aggregate-admit-with-2 : tie.Need-slice-aggregate-admit-with-2
 slice-aggregate-admit-with-2 c = search needs
@@ -42,7 +42,7 @@ same-length-2 c = search needs
 returns-2 : tie.Need-returns-2
 returns-2 c =
     let l = lent (c .before .before .before .before .before .before .before .before .before .before .before .before .before .before .before) in
-    c .before .before .before .admit-with2 .ensures (registerTests l) (l .bytes) (λ few. test-self _) .found
+    c .before .before .before .admit-with2 .ensures (registerTests l) (l .bytes) (λ few. if-self _) .found
 
 pub admit-spec : {M : Type 1} → statement M
 admit-spec =

@@ -6,7 +6,7 @@ use Prim.Native.Nat.{ℕ}
 use Rattle.model.specs.Choice.{Test, yes?}
 use Rattle.model.specs.Calls.{Lent}
 use Rattle.call_tests.specs.Admit.{Asks, first-whole, Measured, measured, heap-measured, admit-refused, admit-passes, admit-foreign, admit-lengths, admit-heap, admit-all}
-use Rattle.call_lists.specs.Lists.{test-self}
+use Rattle.laws.specs.Choices.{if-self}
 use borrow.Author.Needs.{needs}
 use Rattle.call_tests.proofs.admit_with.Statement.{statement}
 use Rattle.call_tests.proofs.admit_with.Tie as tie
@@ -67,7 +67,7 @@ audit-heap-requires c κs =
     let entry = at-right .before .before .before .before .before .before .before .before .before .before .before .before .before .before .before .before .before .before in
     let T = entry .pre in
     let its = entry .args .its in
-    let h = heap-measured (measured-at at-right (yes? its ∷ []) [] (λ few. test-self its)) (c .before .if2 .taken) in
+    let h = heap-measured (measured-at at-right (yes? its ∷ []) [] (λ few. if-self its)) (c .before .if2 .taken) in
     (h .0, h .1, T .room (h .1), T .fresh)
 
 enum-known-audit : tie.Need-enum-known-audit

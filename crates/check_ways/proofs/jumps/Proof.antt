@@ -2,8 +2,8 @@
 use Prim.Native.Nat.{suc}
 use mathlib.Core.Path.{_≡_, _∙_, ap, refl, sym}
 use native.Mathlib.Omega.{arith}
-use Rattle.model.specs.File.{codes, bodies, bodyOf, forwards, insOf}
 use mathlib.Core.Logic.{inr}
+use Rattle.model.specs.File.{codes, bodies, bodyOf, forwards, insOf}
 use Rattle.laws_file.specs.Kinds.{other}
 use Rattle.check_rows.specs.Shape.{Jump, Branch, Keep, shapeOf}
 use Rattle.check_rows.specs.Kinds.{each-from}
