@@ -6,12 +6,13 @@ use Rattle.std.proofs.Common.{true≢false, sym, ◌∙◌, arith}
 use Rattle.std.proofs.Math.Path.{refl, ap}
 use Rattle.std.proofs.Math.Dec.{eqb}
 use borrow.Author.Tests.{lt-ltb, le-ltb, eq-eqb, ne_eqb, eqb-true}
-use Rattle.model.specs.Choice.{Mem, member, member-in, in-member}
+use Rattle.model.specs.Choice.{Mem, member}
 use Rattle.model.specs.File.{instructions, procs, head_of, proc_at, records_of, starts, params_main, params_ptr, results_main, results_ptr, greatest_main, greatest_ptr}
 use Rattle.model.specs.Checker.{none, State}
 use Rattle.model.specs.Sound.{main_at, is_ins}
 use Rattle.model.specs.Calls.{pass, verdict_of}
 use Rattle.model.specs.Claim.{Bytes}
+use Rattle.laws.specs.Members.{member-in, in-member}
 use Rattle.laws_file.specs.Walk.{procs-some, proc-below}
 use Rattle.laws_file.specs.Procedures.{end_of, head_whole, end_low, own-head, own-end, between}
 use Rattle.theory_checker.specs.Exact.{passed-as, passed-shape, passed-rest}

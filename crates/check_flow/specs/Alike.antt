@@ -5,11 +5,12 @@ use Rattle.std.proofs.Math.Bool.{true}
 use Rattle.std.proofs.Common.{true≢false, inl, inr, sym, ◌∙◌, arith}
 use Rattle.std.proofs.Math.Path.{refl}
 use borrow.Author.Tests.{lt-ltb, eq-eqb, ne_eqb, eqb-true, eqb-false}
-use Rattle.model.specs.Choice.{if◌then◌else◌, all, all_true, Mem, member, in-member, member-in}
+use Rattle.model.specs.Choice.{if◌then◌else◌, all, all_true, Mem, member}
 use Rattle.model.specs.File.{Ins, ins_at, instructions, head_of, proc_at, greatest_main, greatest_ptr, records_of, starts}
 use Rattle.model.specs.Checker.{none, State, state, is_set, same_state, Known, state_at, innermost, passes, target_tests, next_tests, depth_tests}
 use Rattle.model.specs.Checker.{leave_tests, Taking, bad, good, need, meet, and_take, pass_all, take_with, take_one}
 use Rattle.model.specs.Claim.{Bytes}
+use Rattle.laws.specs.Members.{in-member, member-in}
 use Rattle.laws_file.specs.Walk.{instruction-below}
 use Rattle.laws_file.specs.Procedures.{DepthsWithin}
 use Rattle.theory_checker.specs.Flow.{DepthsFrom, InnerFrom, Moves, moves}

@@ -11,13 +11,13 @@ use native.Mathlib.Omega.{arith}
 use Rattle.std.proofs.Math.Dec.{ltb}
 use Rattle.std.proofs.Math.ListN.{length, get_or, drop}
 use borrow.Author.Tests.{lt-ltb, le-ltb, eq-eqb, ne_eqb, eqb-true}
-use Rattle.model.specs.Choice.{if◌then◌else◌, Mem, member, member-in, in-member, select}
-use Rattle.model.specs.File.{unknown, body_of, byte_at, after, whole?, Records, starts, records_of, starts_in, is_head, instructions, heads}
+use Rattle.model.specs.Choice.{if◌then◌else◌, Mem, member}
+use Rattle.model.specs.File.{unknown, body_of, byte_at, after, whole?, Records, starts, records_of, starts_in, is_head, select, instructions, heads}
 use Rattle.model.specs.File.{procs, head_of, proc_at, greatest_main, greatest_ptr, file_most, head_kind}
 use Rattle.model.specs.Checker.{none, State, state, is_set, Known, state_at, innermost, own, firsts, Taking, bad, good, refused, passed, go_on, take_one, take_all, flow, map_from}
 use Rattle.laws_file.specs.Walk.{instructions-others, instructions-are, Walk, walk-above, records-walk, after-above, first_head, instruction-below, HeadsHold}
 use Rattle.laws_file.specs.Procedures.{end_of, head-zero, head-none, head_whole, end_low, between}
-use Rattle.laws.specs.Members.{select_in, in-select}
+use Rattle.laws.specs.Members.{member-in, in-member, select_in, in-select}
 use Rattle.theory_checker.specs.Flow.{own-in, keeps-shape, flow-keeps, flow-rest}
 use Rattle.laws_file.specs.Rest.{rest_of, rest_end, rest-inv, whole-inside, records-first}
 use Rattle.check_scan.specs.Marks.{unreached, state_in}

@@ -7,9 +7,10 @@ use Rattle.std.proofs.Common.{ap, sym, arith, lt-ltb, le-ltb, eq-eqb, ne_eqb}
 use Rattle.std.proofs.Math.Decide.{dec_lt}
 use Rattle.std.proofs.Math.Dec.{eqb}
 use Rattle.std.proofs.Math.ListN.{length}
-use Rattle.model.specs.Choice.{if◌then◌else◌, Mem, member, member-in}
+use Rattle.model.specs.Choice.{if◌then◌else◌, Mem, member}
 use Rattle.model.specs.File.{instructions, procs, head_of, proc_at, records_of, starts}
 use Rattle.model.specs.Checker.{none, Known, own}
+use Rattle.laws.specs.Members.{member-in}
 use Rattle.laws_file.specs.Walk.{instruction-below}
 use Rattle.laws_file.specs.Procedures.{end_of, end_low, own-head, own-end, between}
 use Rattle.check_scan.specs.Marks.{PartShows, starts-here}

@@ -9,13 +9,14 @@ use Rattle.std.proofs.Math.Decide.{dec_lt}
 use native.Mathlib.Omega.{arith}
 use Rattle.std.proofs.Math.ListN.{length}
 use borrow.Author.Tests.{eq-eqb, ne_eqb, lt-ltb, le-ltb, le-leb, lt-leb}
-use Rattle.model.specs.Choice.{if◌then◌else◌, Test, same, at_most, yes?, all, All, all_true, member, member-in}
+use Rattle.model.specs.Choice.{if◌then◌else◌, Test, same, at_most, yes?, all, All, all_true, member}
 use Rattle.model.specs.File.{byte_at, starts, records_of, instructions, heads, procs, head_of, entry, head_tests, wrong, right, heads_from, heads_of}
 use Rattle.model.specs.File.{params_main, params_ptr, file_most, head_size}
 use Rattle.model.specs.Checker.{none, state, firsts}
 use Rattle.laws_file.specs.Walk.{instruction-below}
 use Rattle.laws_file.specs.Procedures.{head_whole}
 use Rattle.laws.specs.Choices.{if-self}
+use Rattle.laws.specs.Members.{member-in}
 use Rattle.code_file.specs.Heads.{proc_head, HeadIs, head-of}
 use Rattle.code_file.specs.declared.Head.{Head}
 use Rattle.check_scan.specs.Marks.{put_in, PartShows, starts-here, put-shows}

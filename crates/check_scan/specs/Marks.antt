@@ -11,8 +11,8 @@ use Rattle.std.proofs.Math.Dec.{eqb}
 use Rattle.std.proofs.Math.ListN.{length, get_or, set, length-set}
 use Rattle.std.proofs.lemmas.List.{length-replicate}
 use Rattle.std.proofs.Math.Seq.{get_or-set_same, get_or-set_other}
-use Rattle.model.specs.Choice.{if◌then◌else◌, Mem, member, select}
-use Rattle.model.specs.File.{starts, records_of, is_head, instructions}
+use Rattle.model.specs.Choice.{if◌then◌else◌, Mem, member}
+use Rattle.model.specs.File.{starts, records_of, is_head, select, instructions}
 use Rattle.model.specs.Checker.{none, State, state, unset, is_set, Known, state_at}
 use Rattle.laws_file.specs.Walk.{instructions-are}
 use Rattle.laws.specs.Members.{get_d_any}

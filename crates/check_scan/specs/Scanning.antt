@@ -10,8 +10,8 @@ use Rattle.std.proofs.Math.Dec.{ltb, eqb}
 use Rattle.std.proofs.Math.ListN.{length, get_or, get_or-eq_default}
 use Rattle.std.proofs.lemmas.List.{length-replicate}
 use borrow.Author.Tests.{eq-eqb, ne_eqb, lt-ltb, le-ltb}
-use Rattle.model.specs.Choice.{if◌then◌else◌, select}
-use Rattle.model.specs.File.{byte_at, body_of, bodies, after, whole?, broken, starts, more, records_of, is_head, head_kind, procs_most}
+use Rattle.model.specs.Choice.{if◌then◌else◌}
+use Rattle.model.specs.File.{byte_at, body_of, bodies, after, whole?, broken, starts, more, records_of, is_head, select, head_kind, procs_most}
 use Rattle.laws_file.specs.Rest.{rest_of, rest_end, rest_more, rest-broken, whole-yes, whole-unknown, whole-cut, records-first, records-other}
 use Rattle.check_scan.specs.Marks.{unreached, marked}
 use Rattle.check_scan.specs.declared.RecordsFound.{RecordsFound}

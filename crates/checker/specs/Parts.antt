@@ -8,8 +8,8 @@ use Rattle.std.proofs.Math.Path.{refl, ap}
 use Rattle.std.proofs.Math.Dec.{eqb}
 use Rattle.std.proofs.Math.ListN.{length, get_or, replicate}
 use borrow.Author.Tests.{eq-eqb, eqb-true, le-leb, lt-leb}
-use Rattle.model.specs.Choice.{if◌then◌else◌, select}
-use Rattle.model.specs.File.{byte_at, Records, records_of, starts_in, is_head, heads, wrong, right, heads_of, head_of, entry, procs, params_main}
+use Rattle.model.specs.Choice.{if◌then◌else◌}
+use Rattle.model.specs.File.{byte_at, Records, records_of, starts_in, is_head, select, heads, wrong, right, heads_of, head_of, entry, procs, params_main}
 use Rattle.model.specs.File.{params_ptr, head_tests, file_most, procs_most}
 use Rattle.model.specs.Checker.{none, Known, state_at, is_set, firsts, first, map_from}
 use Rattle.model.specs.Calls.{over_map, wiped, pass, refuse, scanned, verdict_of, checked, answered, check_of}

@@ -1,8 +1,9 @@
 -- A pointer, as the audits test it and as soundness states it: each follows from the other. By cases on nil.
 use Rattle.std.specs.Prelude.{ℕ, ◌≡◌, refl, Bool, true, false, ◌||◌, List, ◌≢◌, eqb}
 use Rattle.std.proofs.Common.{inl, inr, eq-eqb, eqb-true}
-use Rattle.model.specs.Choice.{member, Mem, member-in, in-member}
+use Rattle.model.specs.Choice.{member, Mem}
 use Rattle.model.specs.Heap.{Pointer, is_pointer}
+use Rattle.laws.specs.Members.{member-in, in-member}
 
 pub pointer-true : (os : List ℕ) (v : ℕ) → is_pointer os v ≡ true → Pointer os v
 unfolding is_pointer

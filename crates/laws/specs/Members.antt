@@ -1,7 +1,25 @@
 -- Members of a list: as a test and as a statement, by their index, of two lists joined, of a selection; lists that rise. Each law is an induction on the list.
 use Rattle.std.specs.Prelude.{ℕ, zero, suc, ◌<◌, ◌-◌, Bool, true, false, List, [], ◌∷◌, ◌++◌, ◌⊎◌, ◌≡◌, refl, eqb, length, get_or}
 use Rattle.std.proofs.Common.{true≢false, inl, inr, sym, arith, eqb-true, eq-eqb}
-use Rattle.model.specs.Choice.{member, Mem, if◌then◌else◌, select}
+use Rattle.model.specs.Choice.{member, Mem, if◌then◌else◌}
+use Rattle.model.specs.File.{select}
+
+-- members of a list
+pub member-in : (q : ℕ) (l : List ℕ) → member q l ≡ true → Mem q l
+member-in q [] e = absurd (true≢false (sym e))
+member-in q (p ∷ l) e = go (eqb q p) refl (λ h. member-in q l h) e
+  where
+    go : (t : Bool) → eqb q p ≡ t → (member q l ≡ true → Mem q l) → (if t then true else member q l) ≡ true → Mem q (p ∷ l)
+    go true h r e = inl (eqb-true q p h)
+    go false h r e = inr (r e)
+
+pub in-member : (q : ℕ) (l : List ℕ) → Mem q l → member q l ≡ true
+in-member q (p ∷ l) (inl e) = rw (eq-eqb q p e)
+in-member q (p ∷ l) (inr h) = go (eqb q p) (in-member q l h)
+  where
+    go : (t : Bool) → member q l ≡ true → (if t then true else member q l) ≡ true
+    go true e = refl
+    go false e = e
 
 -- a list that rises
 abbrev pub Rising : List ℕ → Type 0

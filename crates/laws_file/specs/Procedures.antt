@@ -9,8 +9,8 @@ use Rattle.std.proofs.Common.{arith}
 use Rattle.std.proofs.Math.Dec.{ltb}
 use Rattle.std.proofs.Math.ListN.{length, get_or, get_or-eq_default}
 use borrow.Author.Tests.{lt-ltb, le-ltb, eq-eqb}
-use Rattle.model.specs.Choice.{if◌then◌else◌, Mem, select}
-use Rattle.model.specs.File.{byte_at, head_kind, is_head, instructions, heads, procs, head_of, proc_at, up_to, records_of, starts, greatest_main, greatest_ptr}
+use Rattle.model.specs.Choice.{if◌then◌else◌, Mem}
+use Rattle.model.specs.File.{byte_at, head_kind, is_head, select, instructions, heads, procs, head_of, proc_at, up_to, records_of, starts, greatest_main, greatest_ptr}
 use Rattle.model.specs.Checker.{State}
 use Rattle.laws.specs.Members.{get_or-in}
 use Rattle.laws_file.specs.Walk.{Walk, file-walk, walk-above, after-head, first_head, head_in, heads-rise, ins-in, instruction-below, up_to-most}

@@ -7,12 +7,12 @@ use Rattle.std.proofs.Common.{true≢false, inl, inr, ap, sym, ◌∙◌, subst}
 use Rattle.std.proofs.Math.Decide.{ℕ_discrete}
 use native.Mathlib.Omega.{arith}
 use borrow.Author.Tests.{ltb-true, ltb-false, leb-true, eqb-true, eqb-false, not-true, le-leb, lt-leb, eq-eqb}
-use Rattle.model.specs.Choice.{all, All, all_true, true-all, Mem, if◌then◌else◌, member-in, select}
+use Rattle.model.specs.Choice.{all, All, all_true, true-all, Mem, if◌then◌else◌}
 use Rattle.model.specs.File.{byte_at, head_kind, head_size, codes, bodies, body_in, body_of, unknown, after, whole?, Records, broken, starts, more}
-use Rattle.model.specs.File.{records_from, records_of, starts_in, is_head, listed, is_instruction, heads, instructions, procs, head_of, entry, up_to}
+use Rattle.model.specs.File.{records_from, records_of, starts_in, is_head, listed, is_instruction, select, heads, instructions, procs, head_of, entry, up_to}
 use Rattle.model.specs.File.{proc_at, head_tests, wrong, right, heads_from, heads_of}
 use Rattle.laws.specs.Choices.{both_true}
-use Rattle.laws.specs.Members.{Rising, get_or-in, select_in, select-rising, has_some, in-select}
+use Rattle.laws.specs.Members.{Rising, get_or-in, select_in, member-in, select-rising, has_some, in-select}
 
 -- the records from p on: each begins where the last one ends
 abbrev pub Walk : List ℕ → ℕ → List ℕ → Type 0

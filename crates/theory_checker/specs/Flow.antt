@@ -10,7 +10,7 @@ use Rattle.std.proofs.Math.Path.{refl, ap}
 use Rattle.std.proofs.Math.Decide.{ℕ_discrete}
 use Rattle.std.proofs.Math.Dec.{eqb}
 use borrow.Author.Tests.{eqb-true, eqb-false, ne_eqb}
-use Rattle.model.specs.Choice.{if◌then◌else◌, all, All, all_true, true-all, Mem, member, member-in}
+use Rattle.model.specs.Choice.{if◌then◌else◌, all, All, all_true, true-all, Mem, member}
 use Rattle.model.specs.File.{byte_at, Ins, basic, jump, branch, branch_keep, call, return, enter, exit, raise, ins_of, ins_at, starts, records_of, procs}
 use Rattle.model.specs.File.{head_of, entry, proc_at, instructions, params_main, greatest_main, greatest_ptr, head_tests}
 use Rattle.model.specs.Checker.{none, State, state, unset, is_set, Known, state_at, first, firsts, Effect, effect, basic_effect, effect_of, moved}
@@ -22,6 +22,7 @@ use Rattle.theory_checker.specs.Pass as Pass
 use Rattle.theory_checker.specs.Pass.{go_on-inv, Set, Sent, Linked, innermost-none, innermost_at, Places, unset-at, Code, Taken, Laws, PassRan}
 use Rattle.theory_checker.specs.Pass.{pass-ran, ran-places, PassFound, pass-found}
 use Rattle.laws.specs.Choices.{both_true}
+use Rattle.laws.specs.Members.{member-in}
 use Rattle.laws_file.specs.Codes.{enter-byte}
 use Rattle.laws_file.specs.Procedures.{DepthsWithin}
 use Rattle.laws_file.specs.Walk.{HeadsHold, instructions-rise, entry_in, entry-proc}

@@ -14,7 +14,7 @@ use Rattle.model.specs.Instructions.{Result, done, throws, rule}
 use Rattle.model.specs.Step.{Stepped, next, uncaught, caught, raised, outcome, instruct, step, ran, and_run, run_on}
 use Rattle.model.specs.Claim.{after_steps, Stopped, Leaves, RunLeaves}
 use Rattle.model.specs.declared.Answer.{Answer}
-use Rattle.model.specs.declared.Answer.TheVariants.{Passed, Ready, Finished, Spent, Uncaught, Refused, Collected}
+use Rattle.model.specs.declared.Answer.TheVariants.{Passed, Ready, Finished, Spent, Uncaught, Refused}
 
 module _ (f : List ℕ) where
   -- what stays is the state before the instruction
@@ -44,7 +44,6 @@ module _ (f : List ℕ) where
   on n k j m (Spent i) s = (omega (arith, s.0), omega (arith, s.1), s.2)
   on n k j m (Uncaught code p i) s = (omega (arith, s.0), omega (arith, s.1), s.2, s.3, s.4)
   on n k j m (Refused i p) s = s
-  on n k j m (Collected i) s = s
 
   went : (n k : ℕ) (m : Machine) → Leaves f n k m (run_on f n k m)
   unfolding run_on

@@ -1,5 +1,5 @@
--- Demand 3 on calls, over what is proved of heaps and collections elsewhere: after a start that answered ready, every list of check, start,
--- run and collect calls keeps `HeldLists`, from which each call's claim follows. By one induction on the calls.
+-- Demand 3 on calls, over what is proved of heaps elsewhere: after a start that answered ready, every list of check, start and run calls
+-- keeps `HeldLists`, from which each call's claim follows. By one induction on the calls.
 use Rattle.std.specs.Prelude.{ℕ, ◌≡◌, true, List, [], ◌∷◌, length}
 use Rattle.std.proofs.Math.Path.{refl, ap, subst}
 use Rattle.std.proofs.Common.{sym, ◌∙◌, true≢false, inr, arith}
@@ -8,13 +8,12 @@ use Rattle.model.specs.Choice.{Test, All, true-all}
 use Rattle.model.specs.Words.{word_at, cut}
 use Rattle.model.specs.Heap.{Heap, Pointer, objects_of}
 use Rattle.model.specs.Sums.{sums_of}
-use Rattle.model.specs.Control.{Machine, set_regs, register_bytes, regs_from, sums_from, reg_bytes, with_roots}
-use Rattle.model.specs.Collect.{collected}
+use Rattle.model.specs.Control.{Machine, set_regs, register_bytes, sums_from}
 use Rattle.model.specs.Step.{next, uncaught, step}
 use Rattle.model.specs.Sound.{sound?}
-use Rattle.model.specs.Calls.{told_of, pass, verdict_of, check_of, Lent, machine_of, holding, leaving, with_map, with_bytes, length_tests, register_tests}
-use Rattle.model.specs.Calls.{belong_tests, sound_tests, After, demand, tested, started, start_of, tested_for_run, ran_from, run_of, collected_from, collect_of}
-use Rattle.model.specs.Claim.{Call, check, start, run, collect, call_of, NotRefused, Depths, Before, Claim, Bytes, CallsHold}
+use Rattle.model.specs.Calls.{told_of, pass, verdict_of, check_of, Lent, machine_of, leaving, with_map, length_tests, register_tests, belong_tests}
+use Rattle.model.specs.Calls.{sound_tests, After, demand, tested, started, start_of, ran_from, run_of}
+use Rattle.model.specs.Claim.{Call, check, start, run, call_of, NotRefused, Depths, Pointers, Before, Claim, Bytes, CallsHold}
 use Rattle.model.specs.declared.Sums.{Sums}
 use Rattle.model.specs.declared.Answer.TheVariants as answer
 use Rattle.file_sums.specs.Fits.{sums-fit}
@@ -30,7 +29,6 @@ use Rattle.theory_state.specs.Keep.{start-sound}
 use Rattle.theory_state.specs.Rules.{HeapLaws, KeptSound, kept_here, kept_on, step_keeps}
 use Rattle.theory_state.specs.Runs.{after-keeps, run-keeps}
 use Rattle.theory_state.specs.Registers.{sums-back, registers-back, sound-small}
-use Rattle.theory_state.specs.Collecting.{kept-pointers, collect-keeps}
 use Rattle.theory_state.specs.Testing.{test-cases, start-asks, run-asks, readied}
 
 -- a state between the steps of a run on the lists l
@@ -45,10 +43,6 @@ ready-told : NotRefused answer.Ready
 unfolding told_of
 ready-told e = omega arith
 
-pub collected-told : (mark : ℕ) → NotRefused (answer.Collected mark)
-unfolding told_of
-collected-told mark e = omega arith
-
 -- what holds of the lists from a ready start on
 pub record HeldLists (l : Lent) : Type 0 where
   pub bytes : Bytes l.file
@@ -57,6 +51,13 @@ pub record HeldLists (l : Lent) : Type 0 where
   pub registers : length l.bytes ≡ register_bytes
   pub sums : sums_from l.bytes ≡ sums_of l.file
   pub state : Between l (machine_of l)
+
+pointers-of : (l : Lent) (m : Machine) → Between l m → Pointers m
+pointers-of l m B = record { objects = B.objects; heap = B.heap; stack = go B.sound }
+  where
+    go : Sound l.file l.map (Pointer B.objects) m → (i : ℕ) → Pointer B.objects (word_at m.ptr i)
+    go (inl S) = S.3.words.pointers
+    go (inr D) = D.words.pointers
 
 depths-of : (l : Lent) (m : Machine) → Between l m → (m.regs.state ≡ 1 → ⊥) → Depths l.map m
 depths-of l m B u = go B.sound
@@ -86,22 +87,7 @@ module _ (H : HeapLaws) where
     pub between_stays : (m m' : Machine) (code : ℕ) → Between l m → step l.file m ≡ uncaught code m' → Between l m'
     between_stays m m' code S e = subst (Between l) (sym (uncaught-stays l.file m m' code e)) S
 
-    -- the lists as such a state leaves them are held, with registers that are its own and have the file's sums
-    held_with : (m : Machine) → Between l m → (b : List ℕ) → length b ≡ register_bytes → sums_from b ≡ sums_of l.file → regs_from b ≡ m.regs →
-        HeldLists (with_bytes b (holding l m))
-    unfolding length_tests
-    held_with m S b long sums regs =
-        let w : m ≡ machine_of (with_bytes b (holding l m)) = λ i. set_regs (sym regs i) m in
-        record {
-          bytes = B;
-          passes = P;
-          sizes = rw (S.same_main, S.same_ptr, S.same_ctl, S.same_heap) T;
-          registers = long;
-          sums = sums;
-          state = subst (λ (x : Machine). KeptSound l.file l.map x x) w (kept_here m S.objects S.heap S.sound);
-        }
-
-    -- registers and sums come back from their bytes
+    -- what a state leaves with the file's sums is held: registers and sums come back from their bytes
     left-held : (s : Sums) → s ≡ sums_of l.file → (m : Machine) → Between l m → HeldLists (leaving s l m)
     unfolding length_tests
     left-held s z m S =
@@ -111,11 +97,19 @@ module _ (H : HeapLaws) where
         let small =
         sound-small l.file l.map (Pointer S.objects) m L (omega arith) (omega arith) (omega arith) (omega arith) (omega arith)
         S.sound in
+        let r = registers-back s m.regs small in
+        let w : m ≡ machine_of (leaving s l m) = λ i. set_regs (sym r i) m in
         let fit = sums-fit l.file B (passed-as l.file l.map l.map P).formed.few in
         let first = ap (λ (x : Sums). x.first) z in
         let second = ap (λ (x : Sums). x.second) z in
-        held_with m S (reg_bytes s m.regs) (registers-length s m.regs) (sums-back s m.regs (omega arith) (omega arith) ∙ z)
-        (registers-back s m.regs small)
+        record {
+          bytes = B;
+          passes = P;
+          sizes = rw (S.same_main, S.same_ptr, S.same_ctl, S.same_heap) T;
+          registers = registers-length s m.regs;
+          sums = sums-back s m.regs (omega arith) (omega arith) ∙ z;
+          state = subst (λ (x : Machine). KeptSound l.file l.map x x) w (kept_here m S.objects S.heap S.sound);
+        }
 
     start-held : (os : List ℕ) → Heap l.heap os → HeldLists (leaving (sums_of l.file) l (started l))
     unfolding length_tests started
@@ -155,35 +149,13 @@ module _ (H : HeapLaws) where
       (λ v p. rw (H.clean_audit l.heap I.state.objects I.state.heap) (true-pointer I.state.objects v p))
       I.state.sound)
 
-  -- the tests of a call that is handed a state pass, and the rest follows, by the map that they left
-  pub state-taken : (l : Lent) → HeldLists l → (rest : Lent → After) → tested_for_run l rest ≡ rest l
-  state-taken l I rest =
-      tests-pass (belong_tests l) l I (run-asks l (I.registers, I.sums)) (λ l'. demand (sound_tests l') 12 l' (rest l')) ∙ rw (audited-sound l I)
-
+  -- a run's tests pass, and the run follows, by the map that they left
   run_is : (n : ℕ) (l : Lent) → HeldLists l → run_of n l ≡ ran_from n l
   unfolding run_of
-  run_is n l I = state-taken l I (ran_from n)
+  run_is n l I = tests-pass (belong_tests l) l I (run-asks l (I.registers, I.sums)) (λ l'. demand (sound_tests l') 12 l' (ran_from n l')) ∙ rw (audited-sound l I)
 
-  -- a start that answers ready passed each test
-  ready_held : (l : Lent) → Bytes l.file → (start_of l).answer ≡ answer.Ready → HeldLists (start_of l).lists
-  unfolding start_of
-  ready_held l B =
-      test-cases {P = λ a. a.answer ≡ answer.Ready → HeldLists a.lists}
-      (record {
-        by_check = λ n p map v e. absurd (true≢false (cc));
-        by_registers = λ map v n e. absurd (true≢false (cc));
-        by_lengths = λ map v T n e. absurd (true≢false (cc));
-        by-heap = λ map q v T L h e. absurd (true≢false (cc));
-        by-none = λ map os v T L h e. start-held (with_map map l) B (passed-again l.file l.map map v) L os (H.audit_clean l.heap os h);
-      })
-
-  pub collect-held : (l : Lent) → HeldLists l → HeldLists (collected_from l).lists
-  unfolding collected with_roots
-  collect-held l I =
-      held_with l I.bytes I.passes I.sizes (collected (machine_of l)) (collect-keeps I.state) l.bytes I.registers I.sums refl
-
-  pub call-held : (c : Call) (l : Lent) → HeldLists l → NotRefused (call_of c l).answer × HeldLists (call_of c l).lists
-  unfolding call_of check_of start_of collect_of
+  call-held : (c : Call) (l : Lent) → HeldLists l → NotRefused (call_of c l).answer × HeldLists (call_of c l).lists
+  unfolding call_of check_of start_of
   call-held check l I = rw I.passes (passed-told, I)
   call-held start l I =
       rw (tests-pass (register_tests l) l I (start-asks l I.registers) readied)
@@ -193,7 +165,6 @@ module _ (H : HeapLaws) where
       let S = between_stays l I.bytes I.passes I.sizes in
       let R = run-keeps l.file (Between l) B S n 0 (machine_of l) I.state in
       rw (run_is n l I) (R.1, left-held l I.bytes I.passes I.sizes (sums_from l.bytes) I.sums _ R.0)
-  call-held collect l I = rw (state-taken l I collected_from) (collected-told _, collect-held l I)
 
   before : (c : Call) (l : Lent) → HeldLists l → Before c l
   before check l I = tt
@@ -206,20 +177,32 @@ module _ (H : HeapLaws) where
         right =
             λ k m h e u.
             let T = after-keeps l.file (Between l) B S k (machine_of l) m I.state e in
-            record { depths = depths-of l m T u; pointers = kept-pointers T };
+            record { depths = depths-of l m T u; pointers = pointers-of l m T };
       })
-  before collect l I = tt
 
   pub claims : (cs : List Call) (l : Lent) → HeldLists l → Claim cs l
   claims [] l I = tt
   claims (c ∷ cs) l I =
       let r = call-held c l I in
       let l' = (call_of c l).lists in (
-        record { not_refused = r.0; before = before c l I; pointers = kept-pointers r.1.state },
+        record { not_refused = r.0; before = before c l I; pointers = pointers-of l' (machine_of l') r.1.state },
         claims cs l' r.1,
       )
+
+  -- a start that answers ready passed each test
+  ready_held : (l : Lent) → Bytes l.file → (start_of l).answer ≡ answer.Ready → HeldLists (start_of l).lists
+  unfolding start_of
+  ready_held l B =
+      test-cases {P = λ a. a.answer ≡ answer.Ready → HeldLists a.lists}
+      (record {
+        by_check = λ n p map v e. absurd (true≢false (cc));
+        by_registers = λ map v n e. absurd (true≢false (cc));
+        by_lengths = λ map v T e. absurd (true≢false (cc));
+        by-heap = λ map q v T L h e. absurd (true≢false (cc));
+        by-none = λ map os v T L h e. start-held (with_map map l) B (passed-again l.file l.map map v) L os (H.audit_clean l.heap os h);
+      })
 
   pub calls : CallsHold
   calls l B e =
       let I = ready_held l B e in
-      (kept-pointers I.state, λ cs. claims cs (start_of l).lists I)
+      (pointers-of (start_of l).lists (machine_of (start_of l).lists) I.state, λ cs. claims cs (start_of l).lists I)

@@ -1,15 +1,13 @@
--- Demand 3 on calls, and what is promised of the collecting call, whole: the heap's laws, as the heap's theory has them, put into the claims.
+-- Demand 3 on calls, whole: the heap's laws, as the heap's theory has them, put into the claim over lists of calls.
 use Rattle.std.specs.Prelude.{◌+◌, ◌<◌, [], ◌∷◌, ◌++◌, length}
 use Rattle.std.proofs.Common.{arith}
 use Rattle.model.specs.Heap.{mark_of}
 use Rattle.model.specs.Claim.{CallsHold, HeapExactly}
-use Rattle.model.specs.CollectClaim.{LeavesCollected, SoundAgain, NothingMore}
 use Rattle.audit_heap.specs.Audited.{clean-heap, heap_clean}
 use Rattle.heap.specs.Stores.{store-plain, store-ptr, store-root}
 use Rattle.heap.specs.Made.{pointer-more, pointer-new, made_kept}
 use Rattle.theory_state.specs.Rules.{HeapLaws}
 use Rattle.theory_state.specs.Claims.{calls}
-use Rattle.theory_state.specs.Collects.{leaves-collected, sound-again, nothing-more}
 
 pub heap-laws : HeapLaws
 heap-laws =
@@ -31,20 +29,10 @@ heap-laws =
           };
     }
 
--- for every list of check, start, run and collect calls after a start that answered ready
+-- for every list of check, start and run calls after a start that answered ready
 pub calls-hold : CallsHold
 calls-hold = calls heap-laws
 
 -- what is sound of a heap is what the audit lets through
 pub heap-exact : HeapExactly
 heap-exact h os = (heap_clean h os, clean-heap h os)
-
--- what collect does not refuse it leaves collected, sound again, and once more it changes nothing
-pub collect-leaves : LeavesCollected
-collect-leaves = leaves-collected heap-laws
-
-pub collect-sound : SoundAgain
-collect-sound = sound-again heap-laws
-
-pub collect-twice : NothingMore
-collect-twice = nothing-more heap-laws

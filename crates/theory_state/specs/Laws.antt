@@ -6,7 +6,7 @@ use Rattle.std.proofs.Math.Bool.{false}
 use Rattle.std.proofs.Common.{inl, inr, arith}
 use Rattle.std.proofs.Math.Dec.{eqb}
 use borrow.Author.Tests.{eqb-false, not-true}
-use Rattle.model.specs.Choice.{Mem, member-in, in-member}
+use Rattle.model.specs.Choice.{Mem}
 use Rattle.laws.specs.Choices.{taken-most}
 use Rattle.model.specs.File.{Ins, call, return, enter, exit, after, procs, proc_at, entry, head_tests, instructions, operand, ins_at, params_main}
 use Rattle.model.specs.File.{params_ptr, results_main, results_ptr, greatest_main, greatest_ptr}
@@ -16,6 +16,7 @@ use Rattle.model.specs.Calls.{pass, verdict_of}
 use Rattle.model.specs.Claim.{Bytes, assigned, InOrder}
 use Rattle.model.specs.Sound.{main_at, ptr_at, inner_at, is_ins}
 use Rattle.laws_file.specs.Codes.{byte-enter}
+use Rattle.laws.specs.Members.{member-in, in-member}
 use Rattle.laws_file.specs.Walk.{instruction-below, procs-some, entry-proc}
 use Rattle.theory_checker.specs.Flow.{OpenHandler, StateShape, moves}
 use Rattle.theory_checker.specs.Exact.{passed-as, passed-keeps, passed-shape}

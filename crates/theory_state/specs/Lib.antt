@@ -5,11 +5,8 @@ pub mod Keep
 pub mod Rules
 pub mod Runs
 pub mod Registers
-pub mod Collecting
 pub mod Testing
-pub mod Taken
 pub mod Claims
-pub mod Collects
 pub mod FaultPlace
 pub mod OtherFile
 pub mod Demand

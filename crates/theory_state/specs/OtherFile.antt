@@ -1,16 +1,16 @@
--- Refusal 13: start, run and collect answer it exactly where the check passes and the registers are not what it asks for (`refused-thirteen`). The
--- registers of a start have its file's sums, and no other call changes a sum, so that a state is refused by every file with other sums
+-- Refusal 13: start and run answer it exactly where the check passes and the registers are not what it asks for (`refused-thirteen`). The
+-- registers of a start have its file's sums, and no run changes a sum, so that a state is refused by every file with other sums
 -- (`other-file`). The tests are met in their order; no other answers 13.
-use Rattle.std.specs.Prelude.{ℕ, Bool, true, false, List, [], ◌∷◌, ◌≡◌, length}
+use Rattle.std.specs.Prelude.{ℕ, Bool, List, [], ◌∷◌, ◌≡◌, length}
+use Rattle.std.proofs.Math.Bool.{true, false}
 use Rattle.std.proofs.Common.{true≢false, ap, ◌∙◌, arith}
 use Rattle.std.proofs.Math.Path.{refl, sym}
-use Rattle.model.specs.Choice.{if◌then◌else◌, Test, all, All}
+use Rattle.model.specs.Choice.{if◌then◌else◌, Test, all, All, all_true}
 use Rattle.model.specs.Sums.{sums_of}
 use Rattle.model.specs.Control.{sums_from, reg_bytes}
 use Rattle.model.specs.Calls.{Verdict, pass, refuse, verdict_of, answered, check_of, Lent, with_map, register_tests, belong_tests, sound_tests}
-use Rattle.model.specs.Calls.{After, answers, after_check, tested, start_of}
-use Rattle.model.specs.Claim.{Call, check, start, run, collect, call_of, TakesState, Bytes, StateRegisters, WrongRegisters, turned_away}
-use Rattle.model.specs.Claim.{RefusedThirteen, StartSums, SumsStay, HandedOn, OtherFile}
+use Rattle.model.specs.Calls.{After, answers, after_check, tested, start_of, ran_from, run_of}
+use Rattle.model.specs.Claim.{Bytes, RunRegisters, WrongRegisters, turned_away, RefusedThirteen, StartSums, RunSums, HandedOn, OtherFile}
 use Rattle.model.specs.declared.Regs.{Regs}
 use Rattle.model.specs.declared.Sums.{Sums}
 use Rattle.model.specs.declared.Answer.TheVariants.{Passed, Ready, Refused}
@@ -20,7 +20,7 @@ use Rattle.theory_checker.specs.Numbers.{verdict-number}
 use Rattle.registers.specs.Registers.{registers-length}
 use Rattle.theory_state.specs.Registers.{sums-back}
 use Rattle.theory_state.specs.Testing.{test-cases, start-asks, asks-start, run-asks, asks-run, refused-number, refused-place, Never, ready-never}
-use Rattle.theory_state.specs.Testing.{fails, rest_of, takes-is, state-never}
+use Rattle.theory_state.specs.Testing.{run-never}
 
 -- ts are the tests for 13, which say what it asks
 module _ {Registers : Type 0} (ts : List Test) (says : All ts → Registers) (said : Registers → All ts) (l : Lent) (rest : Lent → After) where
@@ -31,7 +31,7 @@ module _ {Registers : Type 0} (ts : List Test) (says : All ts → Registers) (sa
       (record {
         by_check = λ n q map v e. absurd (omega (arith, verdict-number l.file l.map map n q v, refused-number n 13 q p e));
         by_registers = λ map v n e. record { passes = rw v; wrong = λ I. n (said I); place = sym (refused-place 13 13 0 p e) };
-        by_lengths = λ map v T n e. absurd (omega (arith, refused-number 10 13 0 p e));
+        by_lengths = λ map v T e. absurd (omega (arith, refused-number 10 13 0 p e));
         by-heap = λ map q v T L h e. absurd (omega (arith, refused-number 11 13 q p e));
         by-none = λ map os v T L h e. absurd (B (with_map map l) p e);
       })
@@ -40,21 +40,24 @@ module _ {Registers : Type 0} (ts : List Test) (says : All ts → Registers) (sa
   unfolding check_of
   thirteen-tested p F = go (verdict_of l.file l.map) refl F.passes
     where
+      fails : (t : Bool) → all ts ≡ t → t ≡ false
+      fails true e = absurd (F.wrong (says (all_true ts e)))
+      fails false e = refl
+
       go : (v : Verdict) → verdict_of l.file l.map ≡ v → (answered v).answer ≡ Passed → after_check ts l rest v ≡ turned_away 13 p l
-      go (pass map) v e = rw (v, fails ts (λ T. F.wrong (says T)), F.place)
+      go (pass map) v e = rw (v, fails (all ts) refl, F.place)
       go (refuse n q map) v e = cc
 
 pub refused-thirteen : RefusedThirteen
-unfolding start_of
+unfolding start_of run_of
 refused-thirteen l =
     let S = register_tests l in
     let R = belong_tests l in (
       λ p. (tested-thirteen S (asks-start l) (start-asks l) l _ p (ready-never 13), thirteen-tested S (asks-start l) (start-asks l) l _ p),
-      λ c t p.
-          rw (takes-is c t l) (
-            tested-thirteen R (asks-run l) (run-asks l) l _ p (state-never c t 13 (λ e. omega arith)),
-            thirteen-tested R (asks-run l) (run-asks l) l _ p,
-          ),
+      λ n p. (
+        tested-thirteen R (asks-run l) (run-asks l) l _ p (run-never 13 n (λ e. omega arith)),
+        thirteen-tested R (asks-run l) (run-asks l) l _ p,
+      ),
     )
 
 -- a file's sums come back from the registers that they travel in
@@ -72,63 +75,45 @@ start-sums l B =
     (record {
       by_check = λ n p map v e. absurd (true≢false (cc));
       by_registers = λ map v n e. absurd (true≢false (cc));
-      by_lengths = λ map v T n e. absurd (true≢false (cc));
+      by_lengths = λ map v T e. absurd (true≢false (cc));
       by-heap = λ map q v T L h e. absurd (true≢false (cc));
       by-none = λ map os v T L h e. (registers-length _ _, sums-left l.file l.map map B v (sums_of l.file) refl _);
     })
 
--- as many bytes of registers, with the same sums
-abbrev SameSums : List ℕ → List ℕ → Type 0
-SameSums b d = (length d ≡ length b) × (sums_from d ≡ sums_from b)
-
--- what follows the tests leaves the sums
-rest-sums : (c : Call) (t : TakesState c) (l : Lent) (map : List ℕ) → Bytes l.file → verdict_of l.file l.map ≡ pass map → StateRegisters l →
-    SameSums l.bytes (rest_of c t (with_map map l)).lists.bytes
-rest-sums check t l map B v I = absurd t
-rest-sums start t l map B v I = absurd t
-rest-sums (run n) t l map B v I = (registers-length _ _ ∙ sym I.0, sums-left l.file l.map map B v (sums_from l.bytes) I.1 _)
-rest-sums collect t l map B v I = (refl, refl)
-
-taken-sums : (c : Call) → TakesState c → (l : Lent) → Bytes l.file → SameSums l.bytes (call_of c l).lists.bytes
-taken-sums c t l B =
-    rw (takes-is c t l)
-    (test-cases {P = λ a. SameSums l.bytes a.lists.bytes}
+pub run-sums : RunSums
+unfolding run_of
+run-sums n l B =
+    test-cases {P = λ a. (length a.lists.bytes ≡ length l.bytes) × (sums_from a.lists.bytes ≡ sums_from l.bytes)}
     (record {
       by_check = λ k p map v. (refl, refl);
       by_registers = λ map v k. (refl, refl);
-      by_lengths = λ map v T n. (refl, refl);
+      by_lengths = λ map v T. (refl, refl);
       by-heap = λ map q v T L h. (refl, refl);
-      by-none = λ map os v T L h. go map (rest-sums c t l map B v (asks-run l T)) (all (sound_tests (with_map map l)));
-    }))
+      by-none = λ map os v T L h. go map v (asks-run l T) (all (sound_tests (with_map map l)));
+    })
   where
-    go : (map : List ℕ) → SameSums l.bytes (rest_of c t (with_map map l)).lists.bytes → (b : Bool) →
-        SameSums l.bytes (if b then rest_of c t (with_map map l) else answers (Refused 12 0) (with_map map l)).lists.bytes
-    go map S true = S
-    go map S false = (refl, refl)
+    go : (map : List ℕ) → verdict_of l.file l.map ≡ pass map → RunRegisters l → (t : Bool) →
+        let a = if t then ran_from n (with_map map l) else answers (Refused 12 0) (with_map map l) in
+        (length a.lists.bytes ≡ length l.bytes) × (sums_from a.lists.bytes ≡ sums_from l.bytes)
+    go map v I true = (registers-length _ _ ∙ sym I.0, sums-left l.file l.map map B v (sums_from l.bytes) I.1 _)
+    go map v I false = (refl, refl)
 
-pub sums-stay : SumsStay
-unfolding call_of
-sums-stay check n l B = (refl, refl)
-sums-stay start n l B = absurd (n refl)
-sums-stay (run k) n l B = taken-sums (run k) tt l B
-sums-stay collect n l B = taken-sums collect tt l B
-
--- so do these calls, one after the other
-handed-on : (b : List ℕ) (cs : List (Call × Lent)) (d : List ℕ) → HandedOn b cs d → SameSums b d
-handed-on b [] d e = (ap length e, ap sums_from e)
-handed-on b ((c, l) ∷ cs) d P =
-    let e = P.1 in
-    let r = sums-stay c P.0 l P.2 in
-    let q = handed-on (call_of c l).lists.bytes cs d P.3 in
+-- so do runs, one after the other
+handed-on : (b : List ℕ) (rs : List (ℕ × Lent)) (c : List ℕ) → HandedOn b rs c → (length c ≡ length b) × (sums_from c ≡ sums_from b)
+handed-on b [] c e = (ap length e, ap sums_from e)
+handed-on b ((n, l) ∷ rs) c P =
+    let e = P.0 in
+    let r = run-sums n l P.1 in
+    let q = handed-on (run_of n l).lists.bytes rs c P.2 in
     (q.0 ∙ r.0 ∙ ap length e, q.1 ∙ r.1 ∙ ap sums_from e)
 
 pub other-file : OtherFile
-other-file l B e cs k p f c t =
+other-file l B e rs k p c n =
     let S = start-sums l B e in
-    let R = handed-on (start_of l).lists.bytes cs k.bytes p in
+    let R = handed-on (start_of l).lists.bytes rs k.bytes p in
     let its = R.1 ∙ S.1 in
-    let T = (refused-thirteen k).1 c t in
+    let T = (refused-thirteen k).1 n in
     record {
-      differ = λ h. (T 0).1 (record { passes = f; wrong = λ I. h (sym I.1 ∙ its); place = refl });
+      differ = λ h. (T 0).1 (record { passes = c; wrong = λ I. h (sym I.1 ∙ its); place = refl });
       agree = λ h q z. ((T q).0 z).wrong (R.0 ∙ S.0, its ∙ sym h);
     }

@@ -1,14 +1,13 @@
 -- Sound states as a statement, `Sound`, which model's `sound?` computes exactly (`sound?-true`, `true-sound?`), each test saying one field;
 -- and the depth claim: in a running state each top is the running frame's base plus the map's depth, the base being in its record.
-use Rattle.std.specs.Prelude.{ℕ, ◌+◌, ◌-◌, ◌*◌, ◌≤◌, ◌≡◌, refl, true, List, ◌⊎◌, length, eqb}
+use Rattle.std.specs.Prelude.{ℕ, ◌+◌, ◌-◌, ◌*◌, ◌≤◌, ◌≡◌, true, List, ◌⊎◌, length, eqb}
 use Rattle.std.proofs.Math.Logic.{inl, inr}
 use native.Mathlib.Omega.{arith}
 use borrow.Author.Tests.{eq-eqb, ne_eqb, eqb-true}
 use Rattle.model.specs.Choice.{All, all_true, true-all}
 use Rattle.model.specs.File.{results_main, results_ptr}
 use Rattle.model.specs.Heap.{is_pointer, objects_of}
-use Rattle.model.specs.Words.{word_at}
-use Rattle.model.specs.Control.{Machine, set_ptr, set_heap, down, record_words, records, root_words}
+use Rattle.model.specs.Control.{Machine, down, record_words, records, root_words}
 use Rattle.model.specs.Sound.{main_at, ptr_at, inner_at, Look, topmost, stack_tests, running_tests, finished_tests, sound?}
 use Rattle.model.specs.Claim.{Depths}
 use Rattle.laws.specs.Choices.{if-cases}
@@ -21,6 +20,10 @@ pub record StackWords (Ptr : ℕ → Type 0) (m : Machine) : Type 0 where
   pub zero_ptr : Zero m.regs.ptop m.ptr
   pub zero_ctl : Zero m.regs.ctop m.ctl
   pub pointers : Each Ptr m.ptr
+
+words-with : (P Q : ℕ → Type 0) (m : Machine) → ((v : ℕ) → P v → Q v) → StackWords P m → StackWords Q m
+words-with P Q m k W =
+    record { zero_main = W.zero_main; zero_ptr = W.zero_ptr; zero_ctl = W.zero_ctl; pointers = λ i. k _ (W.pointers i) }
 
 -- how the records are looked at from the registers, with these bases
 abbrev pub looking : List ℕ → Machine → ℕ → ℕ → Look
@@ -57,52 +60,35 @@ pub record Finished (f : List ℕ) (Ptr : ℕ → Type 0) (m : Machine) : Type 0
 abbrev pub Sound : List ℕ → List ℕ → (ℕ → Type 0) → Machine → Type 0
 Sound f map Ptr m = ((n : ℕ) × (i : ℕ) × (j : ℕ) × Running f map Ptr m n i j) ⊎ Finished f Ptr m
 
--- with another heap and other words on the pointer stack: as many, none but zeros from the top on, and every one a pointer by another statement
-pub sound-other : (f map : List ℕ) (P Q : ℕ → Type 0) (m : Machine) (ptr heap : List ℕ) → length ptr ≡ length m.ptr →
-    (Zero m.regs.ptop m.ptr → Zero m.regs.ptop ptr) → Each Q ptr → Sound f map P m → Sound f map Q (set_ptr ptr (set_heap heap m))
-sound-other f map P Q m ptr heap long zero each S = go S
-  where
-    words : StackWords P m → StackWords Q (set_ptr ptr (set_heap heap m))
-    words W = record { zero_main = W.zero_main; zero_ptr = zero W.zero_ptr; zero_ctl = W.zero_ctl; pointers = each }
-
-    go : Sound f map P m → Sound f map Q (set_ptr ptr (set_heap heap m))
-    go (inl T) =
-        let R = T.3 in
-        inl (
-          T.0,
-          T.1,
-          T.2,
-          record {
-            main_top = R.main_top;
-            ptr_top = R.ptr_top;
-            ctl_top = R.ctl_top;
-            state_is = R.state_is;
-            room = R.room;
-            stack = rw long R.stack;
-            words = words R.words;
-          },
-        )
-    go (inr D) =
-        inr (record {
-          state_is = D.state_is;
-          place_is = D.place_is;
-          frame_is = D.frame_is;
-          handler_is = D.handler_is;
-          ctl_top = D.ctl_top;
-          main_top = D.main_top;
-          ptr_top = D.ptr_top;
-          words = words D.words;
-        })
-
--- what every word of a sound state's pointer stack is
-pub sound-each : (f map : List ℕ) (P : ℕ → Type 0) (m : Machine) → Sound f map P m → Each P m.ptr
-sound-each f map P m (inl S) = S.3.words.pointers
-sound-each f map P m (inr D) = D.words.pointers
-
 -- with another statement on pointers
 pub sound-with : (f map : List ℕ) (P Q : ℕ → Type 0) (m : Machine) → ((v : ℕ) → P v → Q v) → Sound f map P m → Sound f map Q m
-sound-with f map P Q m k S =
-    sound-other f map P Q m m.ptr m.heap refl (λ z. z) (λ i. k (word_at m.ptr i) (sound-each f map P m S i)) S
+sound-with f map P Q m k (inl S) =
+    let R = S.3 in
+    inl (
+      S.0,
+      S.1,
+      S.2,
+      record {
+        main_top = R.main_top;
+        ptr_top = R.ptr_top;
+        ctl_top = R.ctl_top;
+        state_is = R.state_is;
+        room = R.room;
+        stack = R.stack;
+        words = words-with P Q m k R.words;
+      },
+    )
+sound-with f map P Q m k (inr D) =
+    inr (record {
+      state_is = D.state_is;
+      place_is = D.place_is;
+      frame_is = D.frame_is;
+      handler_is = D.handler_is;
+      ctl_top = D.ctl_top;
+      main_top = D.main_top;
+      ptr_top = D.ptr_top;
+      words = words-with P Q m k D.words;
+    })
 
 -- a pointer, as the audit tests it
 abbrev pub TestedPointer : Machine → ℕ → Type 0

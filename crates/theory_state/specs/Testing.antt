@@ -1,5 +1,5 @@
--- What the tests of start, run and collect come to, in their order: one of four refusals, or what follows them, with all that was found. What
--- follows them refuses with 12 at most; what follows 12 in run and collect refuses no more.
+-- What the tests of start and run come to, in their order: one of four refusals, or what follows them, with all that was found. What
+-- follows them refuses with 12 at most.
 use Rattle.std.specs.Prelude.{ℕ, Bool, true, false, List, ◌≡◌, refl}
 use Rattle.std.proofs.Common.{true≢false, ap, sym, ◌∙◌, subst, arith}
 use Rattle.model.specs.Choice.{if◌then◌else◌, Test, all, All, all_true, true-all}
@@ -7,8 +7,8 @@ use Rattle.model.specs.Heap.{Audit, fault, clean, heap_of}
 use Rattle.model.specs.Sums.{sums_of}
 use Rattle.model.specs.Step.{run_on}
 use Rattle.model.specs.Calls.{Verdict, pass, refuse, verdict_of, Lent, machine_of, with_map, length_tests, register_tests, belong_tests, sound_tests}
-use Rattle.model.specs.Calls.{After, answers, demand, audited, after_check, tested, leaving, started, tested_for_run, ran_from, run_of, collected_from, collect_of}
-use Rattle.model.specs.Claim.{Call, check, start, run, collect, call_of, TakesState, Stopped, StartRegisters, StateRegisters}
+use Rattle.model.specs.Calls.{After, answers, demand, audited, after_check, tested, leaving, started, ran_from}
+use Rattle.model.specs.Claim.{Stopped, StartRegisters, RunRegisters}
 use Rattle.model.specs.declared.Sums.{Sums}
 use Rattle.model.specs.declared.Answer.TheVariants.{Ready, Refused}
 use Rattle.theory_checker.specs.Leaves.{run-leaves}
@@ -17,9 +17,7 @@ use Rattle.theory_checker.specs.Leaves.{run-leaves}
 pub record TestCases (P : After → Type 0) (ts : List Test) (l : Lent) (rest : Lent → After) : Type 0 where
   pub by_check : (n p : ℕ) (map : List ℕ) → verdict_of l.file l.map ≡ refuse n p map → P (answers (Refused n p) (with_map map l))
   pub by_registers : (map : List ℕ) → verdict_of l.file l.map ≡ pass map → (All ts → ⊥) → P (answers (Refused 13 0) (with_map map l))
-  pub by_lengths :
-      (map : List ℕ) → verdict_of l.file l.map ≡ pass map → All ts → (All (length_tests (with_map map l)) → ⊥) →
-      P (answers (Refused 10 0) (with_map map l))
+  pub by_lengths : (map : List ℕ) → verdict_of l.file l.map ≡ pass map → All ts → P (answers (Refused 10 0) (with_map map l))
   pub by-heap :
       (map : List ℕ) (q : ℕ) → verdict_of l.file l.map ≡ pass map → All ts → All (length_tests (with_map map l)) → heap_of l.heap ≡ fault q →
       P (answers (Refused 11 q) (with_map map l))
@@ -30,13 +28,6 @@ pub record TestCases (P : After → Type 0) (ts : List Test) (l : Lent) (rest : 
 -- a list of tests does not hold
 failed : (ts : List Test) → all ts ≡ false → All ts → ⊥
 failed ts e T = true≢false (sym (true-all ts T) ∙ e)
-
-pub fails : (ts : List Test) → (All ts → ⊥) → all ts ≡ false
-fails ts n = go (all ts) refl
-  where
-    go : (t : Bool) → all ts ≡ t → t ≡ false
-    go true e = absurd (n (all_true ts e))
-    go false e = refl
 
 module _ {P : After → Type 0} {ts : List Test} {l : Lent} {rest : Lent → After} (C : TestCases P ts l rest) where
   module _ (map : List ℕ) (v : verdict_of l.file l.map ≡ pass map) where
@@ -50,7 +41,7 @@ module _ {P : After → Type 0} {ts : List Test} {l : Lent} {rest : Lent → Aft
     lengths : All ts → (t : Bool) → all (length_tests now) ≡ t →
         P (if t then audited (heap_of l.heap) now (rest now) else answers (Refused 10 0) now)
     lengths T true e = heap T (all_true (length_tests now) e) (heap_of l.heap) refl
-    lengths T false e = C.by_lengths map v T (failed (length_tests now) e)
+    lengths T false e = C.by_lengths map v T
 
     registers : (t : Bool) → all ts ≡ t →
         P (if t then demand (length_tests now) 10 now (audited (heap_of l.heap) now (rest now)) else answers (Refused 13 0) now)
@@ -71,10 +62,10 @@ start-asks l I = (I, tt)
 pub asks-start : (l : Lent) → All (register_tests l) → StartRegisters l
 asks-start l T = T.0
 
-pub run-asks : (l : Lent) → StateRegisters l → All (belong_tests l)
+pub run-asks : (l : Lent) → RunRegisters l → All (belong_tests l)
 run-asks l I = (I.0, (ap (λ (s : Sums). s.first) I.1, (ap (λ (s : Sums). s.second) I.1, tt)))
 
-pub asks-run : (l : Lent) → All (belong_tests l) → StateRegisters l
+pub asks-run : (l : Lent) → All (belong_tests l) → RunRegisters l
 asks-run l T = let e = T.1.0 in let g = T.1.1.0 in (T.0, λ i. record { first = e i; second = g i })
 
 -- equal refusals have equal numbers and places
@@ -95,34 +86,16 @@ readied l = answers Ready (leaving (sums_of l.file) l (started l))
 pub ready-never : (k : ℕ) → Never k readied
 ready-never k l p e = let z : ◌≡◌ {A = ℕ} 0 1 = cc in omega arith
 
--- what a call that is handed a state does where its tests find nothing
-abbrev pub rest_of : (c : Call) → TakesState c → Lent → After
-rest_of check t l = absurd t
-rest_of start t l = absurd t
-rest_of (run n) t l = ran_from n l
-rest_of collect t l = collected_from l
-
-pub takes-is : (c : Call) (t : TakesState c) (l : Lent) → call_of c l ≡ tested_for_run l (rest_of c t)
-unfolding call_of run_of collect_of
-takes-is check t l = absurd t
-takes-is start t l = absurd t
-takes-is (run n) t l = refl
-takes-is collect t l = refl
-
--- it never refuses
-pub rest-never : (c : Call) (t : TakesState c) (k : ℕ) → Never k (rest_of c t)
-rest-never check t k l p e = t
-rest-never start t k l p e = t
-rest-never (run n) t k l p e =
+-- a run never refuses
+ran-never : (k n : ℕ) → Never k (ran_from n)
+ran-never k n l p e =
     let r = run_on l.file n 0 (machine_of l) in
     let L = run-leaves l.file n 0 (machine_of l) in
     subst (Stopped l.file n 0 L.steps r.state) e L.stopped
-rest-never collect t k l p e = let z : ◌≡◌ {A = ℕ} 0 1 = cc in omega arith
 
--- nor do the tests of the state, but with 12
-pub state-never : (c : Call) (t : TakesState c) (k : ℕ) → (k ≡ 12 → ⊥) → Never k (λ l. demand (sound_tests l) 12 l (rest_of c t l))
-state-never c t k h l p e = go (all (sound_tests l)) e
+pub run-never : (k n : ℕ) → (k ≡ 12 → ⊥) → Never k (λ l. demand (sound_tests l) 12 l (ran_from n l))
+run-never k n h l p e = go (all (sound_tests l)) e
   where
-    go : (b : Bool) → (if b then rest_of c t l else answers (Refused 12 0) l).answer ≡ Refused k p → ⊥
-    go true e = rest-never c t k l p e
+    go : (t : Bool) → (if t then ran_from n l else answers (Refused 12 0) l).answer ≡ Refused k p → ⊥
+    go true e = ran-never k n l p e
     go false e = h (sym (refused-number 12 k 0 p e))

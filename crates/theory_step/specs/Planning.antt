@@ -3,14 +3,14 @@
 use Rattle.std.specs.Prelude.{ℕ, ◌+◌, ◌-◌, ◌<◌, ◌≤◌, ◌≡◌, true, List, length}
 use Rattle.std.proofs.Math.Path.{refl, ap}
 use native.Mathlib.Omega.{arith}
-use Rattle.model.specs.Choice.{All, Mem, member-in}
+use Rattle.model.specs.Choice.{All, Mem}
 use Rattle.model.specs.File.{local, assign, on_main, on_ptr, call, procs, records_of, starts_in, is_instruction, instructions, greatest_main, greatest_ptr}
 use Rattle.model.specs.Checker.{effect_of, depth_tests, target_tests}
 use Rattle.model.specs.Heap.{Pointer}
 use Rattle.model.specs.Control.{Machine, running, down}
 use Rattle.model.specs.Moves.{mtop, ptop}
 use Rattle.model.specs.Sound.{is_ins, frame_tests}
-use Rattle.laws.specs.Members.{select_in}
+use Rattle.laws.specs.Members.{member-in, select_in}
 use Rattle.laws_file.specs.Walk.{instruction-whole}
 use Rattle.laws_file.specs.Procedures.{head_whole}
 use Rattle.theory_state.specs.Stack.{stack-frame, stack-numbers}
