@@ -1,4 +1,6 @@
 // What a plan comes to: its writes applied, or its exception raised, all in one step (Manual 4.25).
+#![tactic(auto)]
+
 ghost use Rattle.std.specs.Prelude.{◌≡◌, true, false, List, ℕ, ◌+◌, ◌*◌, ◌<◌, ◌≤◌, length};
 ghost use Rattle.model.specs.File.{operand, head_of};
 ghost use Rattle.model.specs.Words.{cut};
@@ -16,7 +18,7 @@ use model::{PROCS_MOST, RECORD, Regs};
 use plan_meaning::{Into, Plan, Put};
 
 // What a step leads to: on with these registers, or an exception of this code that no handler catches.
-#[derive(Drop)]
+#[derive(Clone, Copy)]
 pub struct Outcome {
     pub on: bool,
     pub code: u32,
@@ -39,7 +41,7 @@ fn onward(regs: Regs, put: Put) -> Regs
 }
 
 // What applying a plan's writes comes to: the registers then, or that it is left to `apply_late`, nothing being touched.
-#[derive(Drop)]
+#[derive(Clone, Copy)]
 pub struct Tried {
     pub done: bool,
     pub regs: Regs,

@@ -1,5 +1,7 @@
 // New objects in the heap: a view of words that are popped, and vectors (Manual 4.11, 4.28). All of them begin by one function, which alone
 // writes the mark.
+#![tactic(auto)]
+
 ghost use Rattle.std.specs.Prelude.{◌≡◌, List, [], ◌∷◌, ℕ, ◌+◌, ◌-◌, ◌≤◌, length, replicate};
 ghost use Rattle.std.proofs.lemmas.List.Edits.{sets};
 ghost use Rattle.std.proofs.Math.Seq.{slice};

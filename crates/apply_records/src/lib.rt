@@ -1,4 +1,6 @@
 // Records of the control stack, pushed and taken away.
+#![tactic(auto)]
+
 ghost use Rattle.std.specs.Prelude.{◌≡◌, List, ℕ, ◌+◌, ◌*◌, ◌<◌, ◌≤◌, length};
 ghost use Rattle.model.specs.File.{after, file_most};
 ghost use Rattle.model.specs.Control.{record_words};

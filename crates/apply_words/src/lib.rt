@@ -1,4 +1,6 @@
 // The writes of a plan into the stacks and into a heap word: words popped, and a word stored. Also the end of a run.
+#![tactic(auto)]
+
 ghost use Rattle.std.specs.Prelude.{◌≡◌, false, List, ℕ, ◌+◌, ◌<◌, ◌≤◌, length};
 ghost use Rattle.model.specs.Words.{cut};
 ghost use Rattle.model.specs.Control.{Machine};

@@ -1,5 +1,7 @@
 // Arithmetic and comparisons on words, which are whole numbers in two's complement (Manual 2.1, 4.17 to 4.20, 4.29).
 // A word becomes a signed number, is computed with, and becomes a word again.
+#![tactic(auto)]
+
 ghost use Rattle.std.specs.Prelude.{true, false, ◌≡◌, pos, neg_ℤ, ◌+ℤ◌, ◌-ℤ◌, ◌*ℤ◌};
 ghost use Rattle.arithmetic.specs.Distance.{negative?};
 ghost use Rattle.model.specs.Words.{signed, to_word, in_range, Op, operate, Op1, operate1};

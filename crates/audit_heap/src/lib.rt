@@ -1,5 +1,7 @@
 // The heap's audit, for refusal 11 (Manual 6.7, 6.8).
 // The audit walks the objects and marks in a table where they start; a pointer is then looked up there.
+#![tactic(auto)]
+
 ghost use Rattle.std.specs.Prelude.{◌≡◌, ◌-◌, ◌≤◌, ◌<◌, length};
 ghost use Rattle.model.specs.Heap.{mark_of, Objects, range, pointer_words};
 ghost use Rattle.audit_words.specs.Every.{zero_at};
@@ -9,14 +11,14 @@ ghost use Rattle.audit_heap.specs.Found.{objects_found, Range, fault_at, LinksCo
 ghost use Rattle.model.specs.Calls.{heap_most};
 
 // What the audit answers: the heap is sound, or the index of its first fault.
-#[derive(Drop)]
+#[derive(Clone, Copy)]
 pub enum HeapAudit {
     Clean,
     Fault(usize),
 }
 
 // What the walk over the objects answers, and how many pointer words they have together.
-#[derive(Drop)]
+#[derive(Clone, Copy)]
 struct Walk {
     answer: HeapAudit,
     links: usize,

@@ -1,5 +1,7 @@
 // What the audit reads at a place: a byte or an operand of the file, the map's numbers, the procedure with its head.
 // The place may be no instruction, or lie past the file's end.
+#![tactic(auto)]
+
 ghost use Rattle.std.specs.Prelude.{◌≡◌, ◌+◌, ◌*◌, ◌<◌, get_or};
 ghost use Rattle.model.specs.File.{byte_at, operand};
 ghost use Rattle.model.specs.Sound.{main_at, ptr_at, inner_at};

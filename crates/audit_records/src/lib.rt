@@ -1,5 +1,7 @@
 // One control record against a passed file and its map: its tests, and what it tells of the records below.
 // Manual 6.11.
+#![tactic(auto)]
+
 ghost use Rattle.std.specs.Prelude.{◌≡◌, List, ℕ, ◌+◌, ◌-◌, ◌*◌, ◌<◌, length};
 ghost use Rattle.model.specs.Choice.{all};
 ghost use Rattle.model.specs.File.{ins_at};
@@ -26,7 +28,7 @@ pub fn less(a: usize, b: usize) -> usize
 }
 
 // What the records above tell of the frame that is still to be read.
-#[derive(Drop)]
+#[derive(Clone, Copy)]
 pub struct Look {
     pub inner: usize, // its innermost handler that is still to be read, or 65,535
     pub place: usize, // its place, or the call that it waits for
@@ -172,7 +174,7 @@ fn outside_of(map: &[u16], w: Handler, s: Look) -> Look
 }
 
 // What a record tells: the verdict, or what to read on with.
-#[derive(Drop)]
+#[derive(Clone, Copy)]
 pub enum Below {
     End(bool),
     On(Look),

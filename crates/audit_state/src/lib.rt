@@ -1,5 +1,7 @@
 // Refusal 12: registers, stacks and control records against a passed file and its map.
 // Manual 6.10 to 6.12. The records are read from the top downwards, each once.
+#![tactic(auto)]
+
 ghost use Rattle.std.specs.Prelude.{◌≡◌, List, ℕ, ◌*◌, ◌<◌, ◌≤◌, length, drop};
 ghost use Rattle.model.specs.Heap.{objects_of};
 ghost use Rattle.model.specs.Choice.{all};

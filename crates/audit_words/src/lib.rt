@@ -1,4 +1,6 @@
 // Words of a list looked up in a table of marks, or compared with 0: which are pointers, and the pointer stack's test for refusal 12.
+#![tactic(auto)]
+
 ghost use Rattle.std.specs.Prelude.{◌≡◌, true, List, ◌⊎◌, ℕ, ◌≤◌, length, drop};
 ghost use Rattle.model.specs.Sound.{pointers, zeros};
 ghost use Rattle.numbers.specs.Small.{Small};

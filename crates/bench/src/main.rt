@@ -1,4 +1,6 @@
 // Reads a code file on standard input, runs it on the bench, and prints one line.
+#![tactic(auto)]
+
 use libc::STDIN_FILENO;
 
 fn main() {

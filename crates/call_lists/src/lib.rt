@@ -1,4 +1,6 @@
 // What is tested of the lists by themselves: in run that the state is the file's, refusal 13; in start and run the lists' lengths, refusal 10.
+#![tactic(auto)]
+
 ghost use Rattle.std.specs.Prelude.{◌≡◌, ◌∷◌, ◌≤◌, length};
 ghost use Rattle.model.specs.Choice.{at_most, all};
 ghost use Rattle.model.specs.Control.{register_bytes, sums_from};

@@ -1,4 +1,6 @@
 // What start and run test: refusals 1 to 9, 13, 10 and 11; then, for run, the state.
+#![tactic(auto)]
+
 ghost use Rattle.std.specs.Prelude.{◌≡◌, List, ℕ, replicate};
 ghost use Rattle.model.specs.Choice.{Test};
 ghost use Rattle.model.specs.File.{procs_most};
@@ -93,7 +95,7 @@ pub fn admit(
 }
 
 // What the tests of a run find: a sound state of a file with so many procedures, and its registers; or a refusal, its number and its place.
-#[derive(Drop)]
+#[derive(Clone, Copy)]
 pub enum Tested {
     Sound(usize, Regs),
     Unfit(u32, usize),

@@ -1,4 +1,6 @@
 // start and run over lent lists.
+#![tactic(auto)]
+
 ghost use Rattle.std.specs.Prelude.{◌≡◌};
 ghost use Rattle.model.specs.Words.{cut};
 ghost use Rattle.model.specs.Calls.{answers, start_of, run_of};

@@ -1,4 +1,6 @@
 // Refusals 5 to 9: the flow of depths and open handlers through the instructions of a file, in the part of the map that is its.
+#![tactic(auto)]
+
 ghost use Rattle.std.specs.Prelude.{◌≡◌, ◌+◌, ◌<◌, ◌≤◌, length};
 ghost use Rattle.model.specs.File.{head_kind, procs_most};
 ghost use Rattle.check_rows.specs.Site.{Table};
@@ -44,7 +46,7 @@ fn end_of(table: &[usize; PROCS_MOST], k: usize, c: usize, n: usize) -> usize
 }
 
 // What the tests find: the file passes and has so many procedures, or it is refused with a number and a place.
-#[derive(Drop)]
+#[derive(Clone, Copy)]
 pub enum Verdict {
     Pass(usize),
     Refuse(u32, usize),

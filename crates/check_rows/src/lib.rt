@@ -1,5 +1,7 @@
 // What an instruction makes of the state before it that leads to the next one alone, or nowhere: the tests of 5, 6 and 7, and the depths
 // behind it. Each has a row of its own with its length, pops and pushes: the compiler makes of each row only the tests that it needs.
+#![tactic(auto)]
+
 ghost use Rattle.std.specs.Prelude.{◌≡◌, List, ◌⊎◌, ℕ, suc, ◌+◌, ◌<◌, ◌≤◌, length};
 ghost use Rattle.model.specs.File as model;
 ghost use Rattle.laws_file.specs.Kinds.{OneOf, NoneOf};
@@ -15,7 +17,7 @@ use check_scan::UNREACHED_DEPTH;
 use model::PROCS_MOST;
 
 // The depths before an instruction, and the place of the innermost open 160 or 65,535.
-#[derive(Drop)]
+#[derive(Clone, Copy)]
 pub struct State {
     pub main: usize,
     pub ptr: usize,
@@ -23,7 +25,7 @@ pub struct State {
 }
 
 // What holds throughout a procedure: where it ends, and its greatest depths.
-#[derive(Drop)]
+#[derive(Clone, Copy)]
 pub struct Limits {
     pub end: usize,
     pub x: usize,
@@ -31,7 +33,7 @@ pub struct Limits {
 }
 
 // What an instruction pops and pushes.
-#[derive(Drop)]
+#[derive(Clone, Copy)]
 pub struct Row {
     pub popm: usize, // words popped from the main stack
     pub popp: usize, // and from the pointer stack
@@ -42,7 +44,7 @@ pub struct Row {
 }
 
 // What an instruction comes to: the number of its refusal, or 0; the place behind it; whether its state passes there, and the depths then.
-#[derive(Drop)]
+#[derive(Clone, Copy)]
 pub struct Onward {
     pub fault: u32,
     pub goes: bool,

@@ -1,4 +1,6 @@
 // Refusals 3 and 4: the records and the heads of a file, in the part of the map that is its.
+#![tactic(auto)]
+
 ghost use Rattle.std.specs.Prelude.{◌≡◌, ◌+◌, ◌*◌, ◌<◌, ◌≤◌, length, replicate, set};
 ghost use Rattle.model.specs.File as model;
 ghost use Rattle.model.specs.Checker.{state, none};
@@ -18,7 +20,7 @@ pub const UNREACHED_DEPTH: usize = 65534; // the same, as a number
 const UNKNOWN: usize = 255;
 
 // What the records of a file come to.
-#[derive(Drop)]
+#[derive(Clone, Copy)]
 pub enum RecordsFound {
     Broken(usize), // the place of the first that is at fault
     Whole(usize, usize), // the number of heads, and the place of the 65th
@@ -160,7 +162,7 @@ pub fn put(m: &mut [u16], q: usize, main: u16, ptr: u16, inner: u16)
 }
 
 // What the heads of a file come to: the place of the first one at fault, or their number.
-#[derive(Drop)]
+#[derive(Clone, Copy)]
 pub enum Heads {
     Wrong(usize),
     Right(usize),

@@ -1,4 +1,6 @@
 // Refusals 5 to 9 for one instruction: what it leads to, a function for each way, in the part of the map that is the file's.
+#![tactic(auto)]
+
 ghost use Rattle.std.specs.Prelude.{◌≡◌, ◌+◌, ◌*◌, ◌<◌, ◌≤◌, ◌∷◌, [], length};
 ghost use Rattle.model.specs.Choice.{if◌then◌else◌};
 ghost use Rattle.model.specs.File.{file_most};
@@ -268,7 +270,7 @@ pub fn jumps(file: &[u8], m: &mut [u16], head: usize, limits: Limits, p: usize, 
 }
 
 // What taking an instruction comes to: the number of its refusal, or 0 and the place behind it.
-#[derive(Drop)]
+#[derive(Clone, Copy)]
 pub struct Taken {
     pub fault: u32,
     pub next: usize,

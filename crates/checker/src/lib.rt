@@ -1,4 +1,6 @@
 // The checker: refusals 1 to 9, and the map.
+#![tactic(auto)]
+
 ghost use Rattle.std.specs.Prelude.{◌≡◌, ◌*◌, ◌<◌, replicate};
 ghost use Rattle.check_scan.specs.Heading.{ScanMarked};
 ghost use Rattle.checker.specs.Parts.{Lengths, Looked, Filled, Checks};

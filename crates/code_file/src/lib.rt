@@ -1,4 +1,6 @@
 // The code file (Manual 3): body lengths, operands, jump targets, procedure heads.
+#![tactic(auto)]
+
 ghost use Rattle.std.specs.Prelude.{◌≡◌, ◌+◌, ◌<◌, length};
 ghost use Rattle.model.specs.File as model;
 ghost use Rattle.numbers.specs.Small.{Small};
@@ -347,7 +349,7 @@ pub fn backwards(file: &[u8], p: usize) -> usize
 }
 
 // A procedure head's six bytes.
-#[derive(Drop)]
+#[derive(Clone, Copy)]
 pub struct Head {
     pub a: usize, // main parameters
     pub b: usize, // pointer parameters

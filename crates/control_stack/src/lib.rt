@@ -1,4 +1,6 @@
 // The five words of a control record, read and written by name (Manual 2.10 to 2.12).
+#![tactic(auto)]
+
 ghost use Rattle.std.specs.Prelude.{◌≡◌, ℕ, ◌+◌, ◌*◌, ◌/◌, ◌<◌, ◌≤◌, length};
 ghost use Rattle.model.specs.Words.{word_at, cut};
 ghost use Rattle.model.specs.Control.{frame_rec, handler_rec, as_handler, rec_at, put_rec, frame_of, record_words};
@@ -29,7 +31,7 @@ const FRAME: usize = 3;
 const OUTER: usize = 4;
 
 // A frame's record.
-#[derive(Drop)]
+#[derive(Clone, Copy)]
 pub struct Frame {
     pub main_base: usize,
     pub ptr_base: usize,
@@ -39,7 +41,7 @@ pub struct Frame {
 }
 
 // A handler's record.
-#[derive(Drop)]
+#[derive(Clone, Copy)]
 pub struct Handler {
     pub opened: usize, // the place of its 160
     pub main_top: usize, // the tops then

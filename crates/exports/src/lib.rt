@@ -1,4 +1,6 @@
 // The calls that firmware reaches: check, start and run on numbers and lists. An answer travels as four numbers.
+#![tactic(auto)]
+
 ghost use Rattle.std.specs.Prelude.{◌≡◌};
 ghost use Rattle.model.specs.Calls.{told, told_of, check_of, start_of, run_of};
 ghost use Rattle.exports.specs.Replies.{as_told, replies, replies_to, checks, checks_to};
@@ -6,7 +8,7 @@ ghost use Rattle.exports.specs.Replies.{as_told, replies, replies_to, checks, ch
 use model::Answer;
 
 #[repr(C)]
-#[derive(Drop)]
+#[derive(Clone, Copy)]
 pub struct Reply {
     pub kind: u32, // 0 passed, 1 ready, 2 finished, 3 spent, 4 uncaught, 5 refused
     pub number: u32, // the number of a refusal, the code of an uncaught exception, else 0

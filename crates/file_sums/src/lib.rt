@@ -1,4 +1,6 @@
 // A file's two sums (Manual 2.16), byte by byte. Of at most 4,096 bytes neither sum wraps.
+#![tactic(auto)]
+
 ghost use Rattle.std.specs.Prelude.{◌≡◌, ◌≤◌, length};
 ghost use Rattle.model.specs.File.{file_most};
 ghost use Rattle.model.specs.Sums.{sums_of};

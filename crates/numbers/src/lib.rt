@@ -1,4 +1,6 @@
 // Bytes, half words and words as numbers that count and index. Functions of their own show once that nothing is lost.
+#![tactic(auto)]
+
 ghost use Rattle.numbers.specs.Small.{Small};
 
 pub fn byte(b: u8) -> usize

@@ -1,4 +1,6 @@
 // Manual 4: what the instruction at the machine's place is about to do. Nothing is written here.
+#![tactic(auto)]
+
 ghost use Rattle.std.specs.Prelude.{◌≡◌};
 ghost use Rattle.plan_meaning.specs.Planned.{plan_at};
 ghost use Rattle.plan.specs.Ready.{StepReady};

@@ -1,5 +1,7 @@
 // Manual 4.29 and 4.30: what an instruction is about to do that reads an element of a vector or stores in one. Nothing is written here. Words and pointers
 // have functions of their own, since their vectors lie otherwise in the heap.
+#![tactic(auto)]
+
 ghost use Rattle.std.specs.Prelude.{◌≡◌, List, ◌⊎◌, ℕ, ◌-◌, ◌<◌, ◌≤◌};
 ghost use Rattle.model.specs.Words.{word_at};
 ghost use Rattle.model.specs.File.{file_most};

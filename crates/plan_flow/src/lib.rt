@@ -1,5 +1,7 @@
 // Manual 4: what an instruction is about to do that leads elsewhere, or opens or closes a record of
 // the control stack. Nothing is written here. Codes of one family share a function.
+#![tactic(auto)]
+
 ghost use Rattle.std.specs.Prelude.{◌≡◌, List, ◌⊎◌, ℕ, ◌<◌, ◌≤◌};
 ghost use Rattle.model.specs.Control.{Machine, set_regs, set_main, set_ptr, set_ctl};
 ghost use Rattle.plan_meaning.specs.Planned.{planned};

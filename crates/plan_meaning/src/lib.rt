@@ -1,9 +1,11 @@
 // What the code plans for an instruction, and what writing it comes to. `Bridge` shows that it is the model's step.
+#![tactic(auto)]
+
 ghost use Rattle.std.specs.Prelude.{◌≡◌};
 ghost use Rattle.plan_meaning.specs.Planned.{write};
 
 // What an instruction writes, beside the tops and the place.
-#[derive(Drop)]
+#[derive(Clone, Copy)]
 pub enum Into {
     Nothing,
     Pop, // nothing; the topmost word of the main stack goes
@@ -30,7 +32,7 @@ pub enum Into {
 
 // The writes of an instruction. Both stacks are cut to their new tops, then a word is written, a new object with its pointer, or nothing; what
 // opens or closes a record of the control stack leaves both stacks as they are.
-#[derive(Drop)]
+#[derive(Clone, Copy)]
 pub struct Put {
     pub into: Into,
     pub place: usize, // the next place
@@ -41,7 +43,7 @@ pub struct Put {
 }
 
 // What an instruction is about to do: its writes, or the exception that it raises before any write.
-#[derive(Drop)]
+#[derive(Clone, Copy)]
 pub enum Plan {
     Write(Put),
     OutOfRange, // 1: a result outside the range of a word, or a divisor of 0

@@ -1,5 +1,7 @@
 // Manual 4: what an instruction is about to do that works on objects or pointers, or drops words of both
 // stacks. Nothing is written here. Codes of one family share a function.
+#![tactic(auto)]
+
 ghost use Rattle.std.specs.Prelude.{◌≡◌, List, ◌⊎◌, ℕ, ◌+◌, ◌-◌, ◌<◌, ◌≤◌, length};
 ghost use Rattle.model.specs.Words.{word_at};
 ghost use Rattle.model.specs.File as model;

@@ -1,4 +1,6 @@
 // Manual 4.28: what an instruction is about to do that makes a vector. Nothing is written here.
+#![tactic(auto)]
+
 ghost use Rattle.std.specs.Prelude.{◌≡◌, List, ℕ, ◌+◌, ◌<◌, ◌≤◌, leb, length};
 ghost use Rattle.model.specs.File.{file_most};
 ghost use Rattle.model.specs.Calls.{ptr_most};

@@ -1,5 +1,7 @@
 // Manual 4: what an instruction is about to do that works on words of the frame, on literals or on
 // plain words. Nothing is written here. Codes of one family share a function.
+#![tactic(auto)]
+
 ghost use Rattle.std.specs.Prelude.{◌≡◌, List, ◌⊎◌, ℕ, suc, ◌+◌, ◌<◌, ◌≤◌};
 ghost use Rattle.model.specs.Words.{value_of};
 ghost use Rattle.model.specs.File as model;

@@ -1,4 +1,6 @@
 // Manual 4.31 to 4.34: the instructions on reals, done: the result worked out and tested, then words popped and its words pushed.
+#![tactic(auto)]
+
 ghost use Rattle.std.specs.Prelude.{◌≡◌, true, false, List, ◌⊎◌, ℕ, ◌+◌, ◌<◌, ◌≤◌, length};
 ghost use Rattle.std.specs.Float.Ieee.Scale.{finite};
 ghost use Rattle.model.specs.File as model;
@@ -11,14 +13,14 @@ use model::Regs;
 use reals::Point;
 
 // What an instruction on reals comes to: the registers after it, or that its result is not finite, nothing being touched.
-#[derive(Drop)]
+#[derive(Clone, Copy)]
 pub struct Moved {
     pub done: bool,
     pub regs: Regs,
 }
 
 // On to the next place, with another top of the main stack.
-fn goes-on(regs: Regs, next: usize, top: usize) -> Moved
+fn goes_on(regs: Regs, next: usize, top: usize) -> Moved
     ensures { result ≡ record { done = true; regs = moved_on regs next top } }
 {
     Moved {
@@ -80,7 +82,7 @@ fn literal(file: &[u8], main: &mut [u32], regs: Regs, next: usize) -> Moved
     let top = regs.mtop;
     main[top] = code_file::operand4(file, regs.place);
     main[top + 1] = code_file::operand_low(file, regs.place);
-    goes-on(regs, next, top + 2)
+    goes_on(regs, next, top + 2)
 }
 
 // 150 to 153.
@@ -95,7 +97,7 @@ fn operation(main: &mut [u32], regs: Regs, next: usize, kind: u8) -> Moved
     if reals::is_finite(x) {
         apply_words::cut_to(main, at, regs.mtop);
         put_real(main, at, x);
-        return goes-on(regs, next, at + 2);
+        return goes_on(regs, next, at + 2);
     }
     not_finite(regs)
 }
@@ -111,7 +113,7 @@ fn less(main: &mut [u32], regs: Regs, next: usize) -> Moved
     let word = reals::less(real_at(main, at), real_at(main, at + 2));
     apply_words::cut_to(main, at, regs.mtop);
     main[at] = word;
-    goes-on(regs, next, at + 1)
+    goes_on(regs, next, at + 1)
 }
 
 // 156.
@@ -129,7 +131,7 @@ fn hoop(main: &mut [u32], regs: Regs, next: usize) -> Moved
         apply_words::cut_to(main, at, regs.mtop);
         put_real(main, at, point.across);
         put_real(main, at + 2, point.along);
-        return goes-on(regs, next, at + 4);
+        return goes_on(regs, next, at + 4);
     }
     not_finite(regs)
 }

@@ -1,4 +1,6 @@
 // Reals and hoop points (Manual 2.17, 2.18): two words as an f64, its words again, and the operations, each rounded once; which codes are on reals.
+#![tactic(auto)]
+
 ghost use Rattle.std.specs.Prelude.{◌≡◌, true, ◌&&◌, List, ◌⊎◌, ℕ, ◌+◌, ◌*◌, ◌/◌, ◌%◌};
 ghost use Rattle.std.specs.Float.{binary64};
 ghost use Rattle.std.specs.Float.Ieee.{to_bits};
@@ -10,7 +12,7 @@ ghost use Rattle.laws_file.specs.Codes.{is_real?};
 ghost use Rattle.reals.specs.Given.{Operates, as_point};
 
 // A hoop point: two reals.
-#[derive(Drop)]
+#[derive(Clone, Copy)]
 pub struct Point {
     pub across: f64,
     pub along: f64,

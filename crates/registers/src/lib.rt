@@ -1,5 +1,7 @@
 // Registers as bytes: nine words, most significant byte first (Manual 2.14). Those that the steps work on and the sums are read and put
 // apart: no step has to do with the sums.
+#![tactic(auto)]
+
 ghost use Rattle.std.specs.Prelude.{◌≡◌, ◌+◌, ◌*◌, ◌/◌, ◌<◌, length};
 ghost use Rattle.model.specs.Control.{registers, register_bytes, word_from, regs_from, sums_from, reg_bytes};
 ghost use Rattle.numbers.specs.Small.{Small};

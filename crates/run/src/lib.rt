@@ -1,4 +1,6 @@
 // A run: steps until the machine is finished, the budget is spent, or an exception is not caught.
+#![tactic(auto)]
+
 ghost use Rattle.std.specs.Prelude.{◌≡◌};
 ghost use Rattle.model.specs.Step.{ran, run_on};
 ghost use Rattle.run_steps.specs.Going.{Runs};
@@ -7,7 +9,7 @@ ghost use Rattle.run.specs.Endings.{ended_with};
 use model::{Answer, PROCS_MOST, Regs};
 
 // An answer, with the registers then.
-#[derive(Drop)]
+#[derive(Clone, Copy)]
 pub struct Ended {
     pub answer: Answer,
     pub regs: Regs,
@@ -44,9 +46,9 @@ pub fn run_on(
     if regs.state == 1 {
         return answered(Answer::Finished(0), regs);
     }
-    let mut pause = run_steps::go-on(file, table, main, ptr, ctl, heap, regs, budget);
+    let mut pause = run_steps::go_on(file, table, main, ptr, ctl, heap, regs, budget);
     if run_reals::at_real(pause) {
-        pause = run_reals::go-on(file, table, main, ptr, ctl, heap, pause);
+        pause = run_reals::go_on(file, table, main, ptr, ctl, heap, pause);
     }
     while 0 < pause.left {
         let after = pause.left - 1;
@@ -60,9 +62,9 @@ pub fn run_on(
             let done = budget - after;
             return answered(Answer::Finished(done), out.regs);
         }
-        pause = run_steps::go-on(file, table, main, ptr, ctl, heap, out.regs, after);
+        pause = run_steps::go_on(file, table, main, ptr, ctl, heap, out.regs, after);
         if run_reals::at_real(pause) {
-            pause = run_reals::go-on(file, table, main, ptr, ctl, heap, pause);
+            pause = run_reals::go_on(file, table, main, ptr, ctl, heap, pause);
         }
     }
     answered(Answer::Spent(budget), pause.regs)

@@ -1,4 +1,6 @@
 // The steps of a run from an instruction on reals on: such instructions one after another, and the steps between them.
+#![tactic(auto)]
+
 ghost use Rattle.std.specs.Prelude.{◌≡◌, ◌<◌};
 ghost use Rattle.run_steps.specs.Going.{Paused};
 ghost use Rattle.run_reals.specs.Reckoning.{at_real?, AtReal, Reckoned, Rests};
@@ -19,7 +21,7 @@ pub fn at_real(pause: Pause) -> bool
 }
 
 // Where instructions on reals leave the machine: behind them, or before one whose result is not finite.
-#[derive(Drop)]
+#[derive(Clone, Copy)]
 struct Past {
     finite: bool,
     regs: Regs,
@@ -66,7 +68,7 @@ fn reckon(file: &[u8], main: &mut [u32], regs: Regs, body: usize, budget: u32) -
 
 // From a pause before an instruction on reals on, as far as the budget lasts and no raise and no loop is needed. Two calls keep it a function of its own for the
 // compiler: as a part of `run_on` it would take registers from the raises.
-pub fn go-on(
+pub fn go_on(
     file: &[u8],
     table: &[usize; PROCS_MOST],
     main: &mut [u32],
@@ -107,7 +109,7 @@ pub fn go-on(
                 left: past.left,
             };
         }
-        at = run_steps::go-on(file, table, main, ptr, ctl, heap, next, past.left);
+        at = run_steps::go_on(file, table, main, ptr, ctl, heap, next, past.left);
     }
     at
 }

@@ -1,4 +1,6 @@
 // The steps of a run that need no loop and no raise, one after another.
+#![tactic(auto)]
+
 ghost use Rattle.std.specs.Prelude.{◌≡◌};
 ghost use Rattle.run_steps.specs.Going.{Runs, Paused, paused_at};
 
@@ -7,7 +9,7 @@ use model::{PROCS_MOST, Regs};
 use plan_meaning::{Plan, Put};
 
 // Where the steps pause: before an instruction whose plan is settled apart, or with no step left of the budget.
-#[derive(Drop)]
+#[derive(Clone, Copy)]
 pub struct Pause {
     pub plan: Plan,
     pub regs: Regs,
@@ -22,7 +24,7 @@ fn stop(plan: Plan, regs: Regs, left: u32) -> Pause
 
 // Steps on, as far as the budget lasts and no raise and no loop is needed. It is called from more than one place, which keeps it a function of its own
 // for the compiler: its registers are those of the steps alone. Soundness is what the loop keeps, so that no step tests what it gives.
-pub fn go-on(
+pub fn go_on(
     file: &[u8],
     table: &[usize; PROCS_MOST],
     main: &mut [u32],

@@ -1,6 +1,8 @@
 // Code files worked out by hand from the manual, each run on the bench or on lists of its own: a line for each run, in
 // the bench's wording. Standard input has the files (crates/samples/stdin), a line each: a name, a colon and the
 // bytes in decimal; behind a slash the two budgets of a run cut in two. A line that starts with # is a comment.
+#![tactic(auto)]
+
 ghost use Rattle.std.specs.Prelude.{◌≤◌, length};
 ghost use Rattle.io.specs.Counts.{IsPrefixLen};
 

@@ -1,4 +1,6 @@
 // start and run over lent lists, with the bench's line printed.
+#![tactic(auto)]
+
 mod line;
 
 use model::{Answer, FILE_MOST, REGISTER_BYTES};

@@ -2,7 +2,7 @@
 -- the rules; and an assignment that keeps them has depths within its procedure's and open handlers below their places,
 -- because each state comes from an earlier instruction of the same procedure.
 use Prim.Native.Nat.{ℕ, zero, suc, ◌+◌, ◌-◌, ◌<◌, ◌≤◌}
-use Rattle.std.specs.Prelude.{Bool, ◌&&◌, List, ◌∷◌, ◌⊎◌, ◌≡◌}
+use Rattle.std.specs.Prelude.{Bool, ◌&&◌, List, [], ◌∷◌, ◌⊎◌, ◌≡◌}
 use Rattle.std.proofs.Math.Bool.{true, false}
 use Rattle.std.proofs.Common.{true≢false, inr, sym, ◌∙◌, subst, arith}
 use Rattle.std.proofs.Math.Logic.{inl}

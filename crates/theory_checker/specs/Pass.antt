@@ -72,6 +72,7 @@ put-new k q s e =
 
     put_in : (r : ℕ) (t : State) → Sent r t ((q, s) ∷ []) → state_at ((q, s) ∷ k) r ≡ t
     put_in r t (inl p) = here r (ap (λ (x : ℕ × State). x.0) p) ∙ sym (ap (λ (x : ℕ × State). x.1) p)
+    put_in r t (inr m) = elim m [ ]
 
     came : (r : ℕ) → Set (state_at ((q, s) ∷ k) r) → Dec (r ≡ q) →
         Set (state_at k r) ⊎ Sent r (state_at ((q, s) ∷ k) r) ((q, s) ∷ [])
@@ -83,6 +84,7 @@ put-old k q s e = record { grown = λ r h. refl; there = λ r t m. put_in r t m;
   where
     put_in : (r : ℕ) (t : State) → Sent r t ((q, s) ∷ []) → state_at k r ≡ t
     put_in r t (inl p) = ap (λ (x : ℕ × State). state_at k x.0) p ∙ e ∙ sym (ap (λ (x : ℕ × State). x.1) p)
+    put_in r t (inr m) = elim m [ ]
 
 -- one state passed to a place: it is new there, or the same was there
 abbrev Met : Known → ℕ × State → Known → Type 0

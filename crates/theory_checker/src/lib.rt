@@ -1,1 +1,2 @@
 // No code: the theory of the checker's definitions is in specs/.
+#![tactic(auto)]

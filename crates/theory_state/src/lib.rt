@@ -1,1 +1,2 @@
 // No code: the theory of sound states stands in specs/.
+#![tactic(auto)]

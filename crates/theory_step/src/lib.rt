@@ -1,1 +1,2 @@
 // No code: theorems in specs/. A sound state has what planning and settling a step ask for.
+#![tactic(auto)]

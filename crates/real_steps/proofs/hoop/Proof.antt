@@ -97,7 +97,7 @@ returns c =
     let at-finite = at_cut.before.before.before in
     let S = at-finite.before.before.before.before.before.before.before.before.before.before.before in
     let t = sym at-finite.is_finite.ensures ∙ at_cut.before.before.if1.true in
-    rw (c.goes-on.ensures, c.before.before.before.put-real2.ensures, at_first.put-real.ensures, at_cut.cut-to.ensures) (
+    rw (c.goes_on.ensures, c.before.before.before.put-real2.ensures, at_first.put-real.ensures, at_cut.cut-to.ensures) (
       hoop-done _ _ _ S.requires.1 (as_point _) (point-is at-finite) t,
       (λ e. absurd (true≢false e), refl),
     )

@@ -43,7 +43,7 @@ returns : tie.Need-returns
 returns c =
     let at_less = c.before.before.before.before.before in
     let S = at_less.before.before.before.before.before.before.before in
-    rw (c.goes-on.ensures, c.before.before.before.cut-to.ensures) (
+    rw (c.goes_on.ensures, c.before.before.before.cut-to.ensures) (
       less_done _ _ _ S.requires.1 _ (at_less.less.ensures ∙ rw (at_less.before.before.before.real-at.ensures, at_less.before.real-at2.ensures)),
       (λ e. absurd (true≢false e), refl),
     )

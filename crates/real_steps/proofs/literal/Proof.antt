@@ -38,7 +38,7 @@ same_length c = search rules
 
 returns : tie.Need-returns
 returns c =
-    rw c.goes-on.ensures (
+    rw c.goes_on.ensures (
       literal-done _ _ _ _ _ _ _ c.before.before.operand4.ensures.is c.before.Operand-low.ensures.is,
       (λ e. absurd (true≢false e), refl),
     )

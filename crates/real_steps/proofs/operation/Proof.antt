@@ -46,7 +46,7 @@ returns c =
     let O = at-finite.before.operate.ensures in
     let S = at-finite.before.before.before.before.before.before.before.before in
     let t = sym at-finite.is_finite.ensures ∙ at_cut.before.before.if1.true in
-    rw (c.goes-on.ensures, c.before.before.before.put-real.ensures, at_cut.cut-to.ensures) (
+    rw (c.goes_on.ensures, c.before.before.before.put-real.ensures, at_cut.cut-to.ensures) (
       λ f p. rw (O.code f p)
           (operation-done _ _ _ S.requires.1 O.op _
           (O.is ∙ rw (at-finite.before.before.before.before.real-at.ensures, at-finite.before.before.real-at2.ensures)) t),

@@ -53,8 +53,8 @@ stepped c =
 
 abbrev went : tie.After-go-on3 invariant-loop decreases-loop → Machine
 went c =
-    let l = c.go-on3.new.1.1 in
-    record { regs = c.go-on3.result.regs; main = l.0; ptr = l.1.0; ctl = l.1.1.0; heap = l.1.1.1.0 }
+    let l = c.go_on3.new.1.1 in
+    record { regs = c.go_on3.result.regs; main = l.0; ptr = l.1.0; ctl = l.1.1.0; heap = l.1.1.1.0 }
 
 -- a rest at what is equal
 rests-at : {f table main main' ptr ptr' ctl ctl' heap heap' : List ℕ} {n : ℕ} {m : Machine} {a a' : Pause} →
@@ -68,7 +68,7 @@ rests-first : (c : tie.Joined2 invariant-loop decreases-loop) →
     let A = (entry c).args in
     Rests A.file.now A.table.now A.budget (entered (entry c)) c.if2.pause.left (begun c) c.if2.pause.plan
 rests-first c =
-    let P = c.before.before.before.before.before.before.before.before.before.before.go-on.ensures in
+    let P = c.before.before.before.before.before.before.before.before.before.before.go_on.ensures in
     ⊎_elim (λ w. rests-at w.14 w.15 w.16 w.17 w.18 (rests-from P.going w.5.ensures))
     (λ w. rests-at w.1 w.2 w.3 w.4 w.5 (rests-other P (sym w.0.left ∙ c.before.at-real.ensures)))
     c.if2.branch
@@ -101,12 +101,12 @@ on-at c P =
 ahead-at : (c : tie.After-go-on3 invariant-loop decreases-loop) →
     let first = (turn (step (ahead c))).before in
     let A = (entry first).args in
-    let R = c.go-on3.result in
+    let R = c.go_on3.result in
     Paused A.file.now A.table.now first.if2.pause.left (begun first) R.left (went c) R.plan
-ahead-at c = paused-from (on-at (ahead c) (turn (step (ahead c))).loop.inv.paused) c.go-on3.ensures
+ahead-at c = paused-from (on-at (ahead c) (turn (step (ahead c))).loop.inv.paused) c.go_on3.ensures
 
-fewer : (c : tie.After-go-on3 invariant-loop decreases-loop) → c.go-on3.result.left < (turn (step (ahead c))).loop.pause.left
-fewer c = omega (arith, c.go-on3.ensures.going.less, (step (ahead c)).before.before.before.before.before.before.if3.taken)
+fewer : (c : tie.After-go-on3 invariant-loop decreases-loop) → c.go_on3.result.left < (turn (step (ahead c))).loop.pause.left
+fewer c = omega (arith, c.go_on3.ensures.going.less, (step (ahead c)).before.before.before.before.before.before.if3.taken)
 
 answered-requires : tie.Need-answered-requires invariant-loop decreases-loop
 answered-requires c κs = search rules
@@ -121,7 +121,7 @@ at-real-requires : tie.Need-at-real-requires invariant-loop decreases-loop
 at-real-requires c κs = search rules
 
 go-on-requires-2 : tie.Need-go-on-requires-2 invariant-loop decreases-loop
-go-on-requires-2 c κs = paused-here c.before.before.before.before.before.before.before.before.before.before.before.before.before.before.go-on.ensures
+go-on-requires-2 c κs = paused-here c.before.before.before.before.before.before.before.before.before.before.before.before.before.before.go_on.ensures
 
 loop-holds : tie.Need-loop-init invariant-loop decreases-loop
 loop-holds c = let R = rests-first c in record { paused = paused-here R.paused; raises = R.raises }
@@ -194,19 +194,19 @@ at-real-requires-2 : tie.Need-at-real-requires-2 invariant-loop decreases-loop
 at-real-requires-2 c κs = search rules
 
 go-on-requires-4 : tie.Need-go-on-requires-4 invariant-loop decreases-loop
-go-on-requires-4 c κs = paused-here c.before.before.before.before.before.before.before.before.before.before.before.before.before.before.go-on3.ensures
+go-on-requires-4 c κs = paused-here c.before.before.before.before.before.before.before.before.before.before.before.before.before.before.go_on3.ensures
 
 loop-less : tie.Need-loop-smaller invariant-loop decreases-loop
 loop-less c =
     let at-go-on4 = c.before.before.before.before.before.before.before.before in
     let at-go-on3 = at-go-on4.before.before.before.before.before.before.before.before.before.before.before.before.before.before.before in
-    omega (arith, fewer at-go-on3, at-go-on4.go-on4.ensures.paused.going.less)
+    omega (arith, fewer at-go-on3, at-go-on4.go_on4.ensures.paused.going.less)
 
 loop-again : tie.Need-loop-preserved invariant-loop decreases-loop
 loop-again c =
     let at-go-on4 = c.before.before.before.before.before.before.before.before in
     let at-go-on3 = at-go-on4.before.before.before.before.before.before.before.before.before.before.before.before.before.before.before in
-    rests-from (ahead-at at-go-on3).going at-go-on4.go-on4.ensures
+    rests-from (ahead-at at-go-on3).going at-go-on4.go_on4.ensures
 
 loop-less-2 : tie.Need-loop-smaller-2 invariant-loop decreases-loop
 loop-less-2 c = fewer c.before.before.before.before.before.before.before.before.before.before

@@ -1,4 +1,4 @@
--- `run_reals::go-on` meets its contract: instructions on reals and the steps between them are steps of the run; it ends where neither goes on.
+-- `run_reals::go_on` meets its contract: instructions on reals and the steps between them are steps of the run; it ends where neither goes on.
 use native.Mathlib.Omega.{arith}
 use borrow.Author.Rules.{rules}
 use borrow.Author.Tests.{not-true, not-false}
@@ -8,8 +8,8 @@ use Rattle.theory_step.specs.Planning.{alive-ready}
 use Rattle.run_steps.specs.Going.{Paused, paused-from}
 use Rattle.run_reals.specs.Reckoning.{real-paused, going-past, on-past, rests-other, rests-spent, rests-raised}
 use Rattle.run_reals.proofs.Tags.{not-real}
-use Rattle.run_reals.proofs.go-on.Statement.{statement}
-use Rattle.run_reals.proofs.go-on.Tie as tie
+use Rattle.run_reals.proofs.go_on.Statement.{statement}
+use Rattle.run_reals.proofs.go_on.Tie as tie
 
 abbrev invariant-loop : tie.invariant-loop
 invariant-loop file table main₀ ptr₀ ctl₀ heap₀ at₀ main ptr ctl heap at =
@@ -86,12 +86,12 @@ loop-less c =
     let at-go-on = c.before.before.before.before.before.before.before.before in
     let at-if2 = at-go-on.before.before.before.before.before in
     let at-reckon = at-if2.before.before.before.before.before in
-    omega (arith, at-go-on.go-on.ensures.going.less, at-reckon.reckon.ensures.further (not-false _ at-if2.if2.false))
+    omega (arith, at-go-on.go_on.ensures.going.less, at-reckon.reckon.ensures.further (not-false _ at-if2.if2.false))
 
 loop-again : tie.Need-loop-preserved invariant-loop decreases-loop
 loop-again c =
     let at-reckon = c.before.before.before.before.before.before.before.before.before.before.before.before.before.before.before.before.before.before in
-    paused-from (going-past (turn at-reckon).loop.invariant at-reckon.reckon.ensures) c.before.before.before.before.before.before.before.before.go-on.ensures
+    paused-from (going-past (turn at-reckon).loop.invariant at-reckon.reckon.ensures) c.before.before.before.before.before.before.before.before.go_on.ensures
 
 returns-3 : tie.Need-returns-3 invariant-loop decreases-loop
 returns-3 c = rests-spent c.before.before.loop.invariant c.if1.false

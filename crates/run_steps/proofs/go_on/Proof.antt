@@ -1,4 +1,4 @@
--- `run_steps::go-on` meets its contract: each turn is one step of the model, done without a loop; soundness, kept by each step, gives what the plan and its writes ask.
+-- `run_steps::go_on` meets its contract: each turn is one step of the model, done without a loop; soundness, kept by each step, gives what the plan and its writes ask.
 use mathlib.Core.Path.{◌≡◌, refl, sym, ◌∙◌}
 use native.Mathlib.Omega.{arith}
 use borrow.Author.Rules.{rules}
@@ -6,8 +6,8 @@ use Rattle.apply.proofs.Tags.{no_write}
 use Rattle.theory_step.specs.Planning.{alive-ready}
 use Rattle.theory_step.specs.Settling.{alive-settles}
 use Rattle.run_steps.specs.Going.{Going, going_start, going-applied, paused-late, stopped-raise}
-use Rattle.run_steps.proofs.go-on.Statement.{statement}
-use Rattle.run_steps.proofs.go-on.Tie as tie
+use Rattle.run_steps.proofs.go_on.Statement.{statement}
+use Rattle.run_steps.proofs.go_on.Tie as tie
 
 abbrev invariant-loop : tie.invariant-loop
 invariant-loop file table main₀ ptr₀ ctl₀ heap₀ budget r₀ left₀ main ptr ctl heap r left =
