@@ -20,6 +20,7 @@ in-member q (p ∷ l) (inr h) = go (eqb q p) (in-member q l h)
     go : (t : Bool) → member q l ≡ true → (if t then true else member q l) ≡ true
     go true e = refl
     go false e = e
+in-member q [] x' = elim x' [ ]
 
 -- a list that rises
 abbrev pub Rising : List ℕ → Type 0
@@ -34,6 +35,7 @@ get_or-in (a ∷ l) (suc n) d h = inr (get_or-in l n d (omega arith))
 
 pub has_some : (a : ℕ) (l : List ℕ) → Mem a l → 0 < length l
 has_some a (b ∷ l) h = omega arith
+has_some a [] h = elim h [ ]
 
 -- the members of two lists joined
 pub mem-append : (i : ℕ) (l r : List ℕ) → Mem i (l ++ r) → Mem i l ⊎ Mem i r
@@ -48,6 +50,7 @@ mem-append i (a ∷ l) r (inr m) = go (mem-append i l r m)
 pub mem-more : (i : ℕ) (l r : List ℕ) → Mem i l → Mem i (l ++ r)
 mem-more i (a ∷ l) r (inl e) = inl e
 mem-more i (a ∷ l) r (inr m) = inr (mem-more i l r m)
+mem-more i [] r x' = elim x' [ ]
 
 pub mem-right : (i : ℕ) (l r : List ℕ) → Mem i r → Mem i (l ++ r)
 mem-right i [] r m = m
@@ -80,6 +83,7 @@ module _ (t : ℕ → Bool) where
       go : (b : Bool) → Mem q (select t l) → Mem q (if b then p ∷ select t l else select t l)
       go true r = inr r
       go false r = r
+  in-select [] q x'' e = elim x'' [ ]
 
   pub select-rising : (l : List ℕ) → Rising l → Rising (select t l)
   select-rising [] r = tt

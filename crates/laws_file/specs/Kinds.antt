@@ -32,6 +32,7 @@ pub at_each : (P : ℕ → Type 0) (ns : List ℕ) (k : ℕ) → AtEach P ns →
 at_each P (n ∷ []) k h e = rw e h.0
 at_each P (n ∷ m ∷ ns) k h (inl e) = rw e h.0
 at_each P (n ∷ m ∷ ns) k h (inr o) = at_each P (m ∷ ns) k h.1 o
+at_each P [] k h e = elim e [ ]
 
 pub and_both : (t u : Bool) → T (if t then u else false) → T t × T u
 and_both true u h = (tt, h)

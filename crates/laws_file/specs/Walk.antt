@@ -63,6 +63,7 @@ walk-above f p (r ∷ ps) w q (inr h) =
     let a = walk-above f (after f p) ps w.3 q h in
     let b = after-above f p in
     (omega arith, a.1)
+walk-above f p [] w q x'' = elim x'' [ ]
 
 walk-rising : (f : List ℕ) (p : ℕ) (ps : List ℕ) → Walk f p ps → Rising ps
 walk-rising f p [] w = tt
@@ -87,6 +88,7 @@ walk-gap f p (t ∷ ps) w q r (inr e) (inl h) l =
     let c = w.0 in
     absurd (omega arith)
 walk-gap f p (t ∷ ps) w q r (inr e) (inr h) l = walk-gap f (after f p) ps w.3 q r e h l
+walk-gap f p [] w q r x4 _ l = elim x4 [ ]
 
 -- the number of heads up to a place
 pub up_to-most : (p : ℕ) (hs : List ℕ) → up_to p hs ≤ length hs

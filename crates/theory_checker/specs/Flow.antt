@@ -111,6 +111,13 @@ module _ (f : List ℕ) (p : ℕ) (s o : State) where
       (record { main = λ l. omega arith; ptr = λ l. l; alike = inl refl }) h
   moves-by exit e t n d q u (inl h) = moves-to q _ u _ n.0 (inr (refl, refl)) (inr (inr refl)) (same-high s o o.inner) h
   moves-by raise e t n d q u h = absurd h
+  moves-by (basic b) e t n d q u (inr x6) = elim x6 [ ]
+  moves-by (jump r) e t n d q u (inr x7) = elim x7 [ ]
+  moves-by (branch b r) e t n d q u (inr (inr x9)) = elim x9 [ ]
+  moves-by (branch_keep b r) e t n d q u (inr (inr x10)) = elim x10 [ ]
+  moves-by (call m) e t n d q u (inr x10) = elim x10 [ ]
+  moves-by (enter m) e t n d q u (inr (inr x12)) = elim x12 [ ]
+  moves-by exit e t n d q u (inr x12) = elim x12 [ ]
 
   pub moves : TestsHold f p s o → (q : ℕ) (u : State) → Sent q u (passes f p (ins_at f p) s o) → Moves f p s o q u
   moves F = moves-by (ins_at f p) refl F.targets F.nexts F.depths
@@ -189,6 +196,7 @@ taken-targets f (q ∷ ps) k k' e p m =
         All (target_tests f p (ins_at f p))
     go T r (inl z) = rw z T.fits.targets
     go T r (inr h) = r h
+taken-targets f [] k k' e p m = elim m [ ]
 
 -- a state with a byte for its main depth is known
 byte-set : (s : State) → s.main < 256 → Set s

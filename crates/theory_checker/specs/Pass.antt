@@ -134,6 +134,7 @@ put_all (o ∷ os) k k' g e =
             Set (state_at k r) ⊎ Sent r (state_at k' r) (o ∷ os)
         first r h (inl x) = inl x
         first r h (inr (inl x)) = inr (inl (pair refl (R.grown r h) ∙ x))
+        first r h (inr (inr x4)) = elim x4 [ ]
 
         came : (r : ℕ) → Set (state_at m r) ⊎ Sent r (state_at k' r) os → Set (state_at k r) ⊎ Sent r (state_at k' r) (o ∷ os)
         came r (inl h) = first r h (P.from r h)
@@ -376,6 +377,7 @@ module _ (C : Code) where
       where
         once : (q : ℕ) (s : State) → Sent q s (o ∷ []) → A q ≡ s
         once q s (inl h) = e q s (inl h)
+        once q s (inr x3) = elim x3 [ ]
 
     -- where an assignment keeps the rules, the pass goes through, and knows of every instruction the assignment's state
     pub record PassFound (ps : List ℕ) (k : Known) (A : ℕ → State) : Type 0 where

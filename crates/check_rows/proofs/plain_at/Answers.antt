@@ -1,0 +1,213 @@
+-- `check_rows::plain_at`: in each row the code is known, and the definition computes; a code with no row pops reals (`last_row`).
+use mathlib.Core.List.{[], ◌∷◌}
+use mathlib.Core.Logic.{◌⊎◌, ⊎_elim, inl, inr}
+use Prim.Native.Nat.{suc, ◌<◌}
+use mathlib.Core.Path.{◌∙◌, refl, ap}
+use native.Mathlib.Omega.{arith}
+use Rattle.model.specs.File.{codes, bodies, body_of, maker_pops, ins_of}
+use Rattle.model.specs.Checker.{basic_effect}
+use Rattle.check_rows.specs.Shape.{Next, shape_of}
+use Rattle.check_rows.specs.Site.{body-room, low}
+use Rattle.check_rows.specs.Kinds.{body-locals, body-blocks, last_row}
+use Rattle.check_rows.specs.Rows.{row, row_shape, at_row, at_rows}
+use Rattle.check_rows.proofs.plain_at.Goals as goal
+
+pub step-requires : goal.step-requires
+step-requires c = (c.requires.5, low c.requires.1, omega arith, omega arith, omega arith)
+
+pub step-requires-in-31 : goal.step-requires-in-31
+step-requires-in-31 c = (c.requires.5, low c.requires.1, omega arith, omega arith, omega arith)
+
+pub step-requires-in-32 : goal.step-requires-in-32
+step-requires-in-32 c = (c.requires.5, low c.requires.1, omega arith, omega arith, omega arith)
+
+pub step-requires-in-33 : goal.step-requires-in-33
+step-requires-in-33 c = (c.requires.5, low c.requires.1, omega arith, omega arith, omega arith)
+
+pub blocks-requires : goal.blocks-requires
+blocks-requires c = (
+  body-room c.requires.1 4 (ap body_of c.requires.2 ∙ body-blocks _ c.in-36.keys5),
+  low c.requires.1,
+  c.in-36.keys5,
+  c.requires.5,
+)
+
+pub step-requires-in-54 : goal.step-requires-in-54
+step-requires-in-54 c = (c.requires.5, low c.requires.1, omega arith, omega arith, omega arith)
+
+pub step-requires-in-56 : goal.step-requires-in-56
+step-requires-in-56 c = (c.requires.5, low c.requires.1, omega arith, omega arith, omega arith)
+
+pub step-requires-in-57 : goal.step-requires-in-57
+step-requires-in-57 c = (c.requires.5, low c.requires.1, omega arith, omega arith, omega arith)
+
+pub step-requires-in-58 : goal.step-requires-in-58
+step-requires-in-58 c = (c.requires.5, low c.requires.1, omega arith, omega arith, omega arith)
+
+pub step-requires-in-59 : goal.step-requires-in-59
+step-requires-in-59 c = (c.requires.5, low c.requires.1, omega arith, omega arith, omega arith)
+
+pub calls-requires : goal.calls-requires
+unfolding body_of bodies codes
+calls-requires c = (
+  c.requires.0,
+  body-room c.requires.1 2 (ap body_of (c.requires.2 ∙ c.in-72.keys11)),
+  low c.requires.1,
+  c.requires.5,
+)
+
+pub step-requires-in-80 : goal.step-requires-in-80
+step-requires-in-80 c = (c.requires.5, low c.requires.1, omega arith, omega arith, omega arith)
+
+pub step-requires-in-81 : goal.step-requires-in-81
+step-requires-in-81 c = (c.requires.5, low c.requires.1, omega arith, omega arith, omega arith)
+
+pub step-requires-in-82 : goal.step-requires-in-82
+step-requires-in-82 c = (c.requires.5, low c.requires.1, omega arith, omega arith, omega arith)
+
+pub step-requires-in-83 : goal.step-requires-in-83
+step-requires-in-83 c = (c.requires.5, low c.requires.1, omega arith, omega arith, omega arith)
+
+pub step-requires-in-84 : goal.step-requires-in-84
+step-requires-in-84 c = (c.requires.5, low c.requires.1, omega arith, omega arith, omega arith)
+
+pub step-requires-in-85 : goal.step-requires-in-85
+step-requires-in-85 c = (c.requires.5, low c.requires.1, omega arith, omega arith, omega arith)
+
+pub step-requires-in-131 : goal.step-requires-in-131
+step-requires-in-131 c = (c.requires.5, low c.requires.1, omega arith, omega arith, omega arith)
+
+pub step-requires-in-144 : goal.step-requires-in-144
+step-requires-in-144 c = (c.requires.5, low c.requires.1, omega arith, omega arith, omega arith)
+
+pub step-requires-in-130 : goal.step-requires-in-130
+step-requires-in-130 c = (c.requires.5, low c.requires.1, omega arith, omega arith, omega arith)
+
+pub step-requires-in-141 : goal.step-requires-in-141
+step-requires-in-141 c = (c.requires.5, low c.requires.1, omega arith, omega arith, omega arith)
+
+pub step-requires-in-53 : goal.step-requires-in-53
+step-requires-in-53 c = (c.requires.5, low c.requires.1, omega arith, omega arith, omega arith)
+
+pub raises-requires : goal.raises-requires
+raises-requires c = (c.requires.5, low c.requires.1)
+
+pub locals-requires : goal.locals-requires
+locals-requires c =
+    (body-room c.requires.1 2 (ap body_of c.requires.2 ∙ body-locals _ (omega arith) (omega arith)), omega arith, omega arith, c.requires.5)
+
+pub reals-requires : goal.reals-requires
+reals-requires c =
+    let k = c.args.kind in
+    let out : (k < 20) ⊎ (23 < k) = ⊎_elim (λ t. inl (omega arith)) (λ t. inr (omega arith)) c.in_default.branch in (
+      low c.requires.1,
+      last_row k c.requires.3 c.requires.4 out c.in_default-1.rest (λ e. c.requires.1.known (ap body_of c.requires.2 ∙ e)),
+      c.requires.5,
+    )
+
+pub returns-in-30 : goal.returns-in-30
+unfolding ins_of shape_of basic_effect body_of bodies codes
+returns-in-30 c = at_row _ _ _ _ _ (c.requires.2 ∙ c.in-30.keys1) refl refl c.step.ensures
+
+pub returns-in-31 : goal.returns-in-31
+unfolding ins_of shape_of basic_effect body_of bodies codes
+returns-in-31 c = at_row _ _ _ _ _ (c.requires.2 ∙ c.in-31.keys2) refl refl c.step-in-31.ensures
+
+pub returns-in-32 : goal.returns-in-32
+unfolding ins_of shape_of basic_effect body_of bodies codes
+returns-in-32 c = at_row _ _ _ _ _ (c.requires.2 ∙ c.in-32.keys3) refl refl c.step-in-32.ensures
+
+pub returns-in-33 : goal.returns-in-33
+unfolding ins_of shape_of basic_effect body_of bodies codes
+returns-in-33 c = at_row _ _ _ _ _ (c.requires.2 ∙ c.in-33.keys4) refl refl c.step-in-33.ensures
+
+pub returns-in-36 : goal.returns-in-36
+returns-in-36 c = at_row _ _ _ _ _ c.requires.2 (ap suc (body-blocks _ c.in-36.keys5)) refl c.blocks-in-36.ensures
+
+pub returns-in-54 : goal.returns-in-54
+unfolding ins_of shape_of basic_effect body_of bodies codes
+returns-in-54 c = at_row _ _ _ _ _ (c.requires.2 ∙ c.in-54.keys6) refl refl c.step-in-54.ensures
+
+pub returns-in-56 : goal.returns-in-56
+unfolding ins_of shape_of basic_effect body_of bodies codes
+returns-in-56 c = at_row _ _ _ _ _ (c.requires.2 ∙ c.in-56.keys7) refl refl c.step-in-56.ensures
+
+pub returns-in-57 : goal.returns-in-57
+unfolding ins_of shape_of basic_effect body_of bodies codes
+returns-in-57 c = at_row _ _ _ _ _ (c.requires.2 ∙ c.in-57.keys8) refl refl c.step-in-57.ensures
+
+pub returns-in-58 : goal.returns-in-58
+unfolding ins_of shape_of basic_effect body_of bodies codes
+returns-in-58 c = at_row _ _ _ _ _ (c.requires.2 ∙ c.in-58.keys9) refl refl c.step-in-58.ensures
+
+pub returns-in-59 : goal.returns-in-59
+unfolding ins_of shape_of basic_effect body_of bodies codes
+returns-in-59 c = at_row _ _ _ _ _ (c.requires.2 ∙ c.in-59.keys10) refl refl c.step-in-59.ensures
+
+pub returns-in-72 : goal.returns-in-72
+unfolding ins_of body_of bodies codes
+returns-in-72 c = at_row _ _ _ _ _ (c.requires.2 ∙ c.in-72.keys11) refl refl c.calls.ensures
+
+pub returns-in-80 : goal.returns-in-80
+unfolding ins_of shape_of basic_effect maker_pops body_of bodies codes
+returns-in-80 c = at_row _ _ _ _ _ (c.requires.2 ∙ c.in-80.keys12) refl refl c.step-in-80.ensures
+
+pub returns-in-81 : goal.returns-in-81
+unfolding ins_of shape_of basic_effect maker_pops body_of bodies codes
+returns-in-81 c = at_row _ _ _ _ _ (c.requires.2 ∙ c.in-81.keys13) refl refl c.step-in-81.ensures
+
+pub returns-in-82 : goal.returns-in-82
+unfolding ins_of shape_of basic_effect body_of bodies codes
+returns-in-82 c = at_row _ _ _ _ _ (c.requires.2 ∙ c.in-82.keys14) refl refl c.step-in-82.ensures
+
+pub returns-in-83 : goal.returns-in-83
+unfolding ins_of shape_of basic_effect body_of bodies codes
+returns-in-83 c = at_row _ _ _ _ _ (c.requires.2 ∙ c.in-83.keys15) refl refl c.step-in-83.ensures
+
+pub returns-in-84 : goal.returns-in-84
+unfolding ins_of shape_of basic_effect body_of bodies codes
+returns-in-84 c = at_row _ _ _ _ _ (c.requires.2 ∙ c.in-84.keys16) refl refl c.step-in-84.ensures
+
+pub returns-in-85 : goal.returns-in-85
+unfolding ins_of shape_of basic_effect body_of bodies codes
+returns-in-85 c = at_row _ _ _ _ _ (c.requires.2 ∙ c.in-85.keys17) refl refl c.step-in-85.ensures
+
+pub returns-in-131 : goal.returns-in-131
+unfolding ins_of shape_of basic_effect body_of bodies codes
+returns-in-131 c = at_row _ _ _ _ _ (c.requires.2 ∙ c.in-131.keys18) refl refl c.step-in-131.ensures
+
+pub returns-in-144 : goal.returns-in-144
+unfolding ins_of shape_of basic_effect body_of bodies codes
+returns-in-144 c =
+    at_rows _ _ _ _ _ 1 (row_shape Next (row 1 0 1 0 0 0)) (144 ∷ 146 ∷ [])
+    ((refl, refl), ((refl, refl), tt))
+    c.requires.2 c.in-144.keys19 c.step-in-144.ensures
+
+pub returns-in-130 : goal.returns-in-130
+unfolding ins_of shape_of basic_effect body_of bodies codes
+returns-in-130 c =
+    at_rows _ _ _ _ _ 1 (row_shape Next (row 2 0 1 0 0 0)) (130 ∷ 140 ∷ 142 ∷ 145 ∷ 195 ∷ 198 ∷ 201 ∷ 204 ∷ [])
+    ((refl, refl), ((refl, refl), ((refl, refl), ((refl, refl), ((refl, refl), ((refl, refl), ((refl, refl), ((refl, refl), tt))))))))
+    c.requires.2 c.in-130.keys20 c.step-in-130.ensures
+
+pub returns-in-141 : goal.returns-in-141
+unfolding ins_of shape_of basic_effect body_of bodies codes
+returns-in-141 c =
+    at_rows _ _ _ _ _ 1 (row_shape Next (row 2 0 1 0 0 0)) (141 ∷ 143 ∷ [])
+    ((refl, refl), ((refl, refl), tt))
+    c.requires.2 c.in-141.keys21 c.step-in-141.ensures
+
+pub returns-in-53 : goal.returns-in-53
+unfolding ins_of shape_of basic_effect body_of bodies codes
+returns-in-53 c = at_row _ _ _ _ _ (c.requires.2 ∙ c.in-53.keys22) refl refl c.step-in-53.ensures
+
+pub returns-in-162 : goal.returns-in-162
+unfolding ins_of shape_of basic_effect body_of bodies codes
+returns-in-162 c = at_row _ _ _ _ _ (c.requires.2 ∙ c.in-162.keys23) refl refl c.raises.ensures
+
+pub returns-in-20-to-23 : goal.returns-in-20-to-23
+returns-in-20-to-23 c =
+    at_row _ _ _ _ _ c.requires.2 (ap suc (body-locals _ (omega arith) (omega arith))) refl c.locals.ensures
+
+pub returns-in_default : goal.returns-in_default
+returns-in_default c = at_row _ _ _ _ _ c.requires.2 refl refl (c.reals.ensures _)

@@ -1,0 +1,86 @@
+-- `check_ways::branch`: the tests in their order (`on_branch`), then the states passed on.
+use Prim.Native.Nat.{◌+◌, ◌-◌, ◌<◌}
+use mathlib.Core.Path.{sym, ◌∙◌}
+use native.Mathlib.Omega.{arith}
+use borrow.Author.Tests.{lt-ltb, le-ltb}
+use mathlib.Core.List.{[], ◌∷◌}
+use Rattle.model.specs.Choice.{if◌then◌else◌}
+use Rattle.model.specs.Checker.{state}
+use Rattle.check_rows.specs.Tests.{as_state, stacks-fit}
+use Rattle.check_ways.specs.Takes.{pass_all_in, take_in}
+use Rattle.check_ways.specs.Faults.{fitting, fits-either, second-as}
+use Rattle.check_ways.specs.Ways.{Judged, stops, test-passes, all-passed, own-place, next_place, here_place, ends_low, held-here, bounded-here, takes-branch, on_branch}
+use Rattle.check_ways.proofs.branch.Goals as goal
+use Rattle.check_ways.proofs.branch.Goals.{After-depths_ok}
+
+pub own-requires : goal.own-requires
+own-requires c =
+    ends_low c.requires.here
+
+pub state_in-s-requires : goal.state_in-s-requires
+state_in-s-requires c =
+    here_place c.requires.here
+
+pub returns-then-s-ge-UNREACHED_DEPTH : goal.returns-then-s-ge-UNREACHED_DEPTH
+returns-then-s-ge-UNREACHED_DEPTH c =
+    let J = test-passes (on_branch c.args.keep _ c.requires c.state_in-s.ensures) (sym c.own.ensures ∙ c.if-own.true) in
+    stops J (le-ltb _ _ c.if-s-ge-UNREACHED_DEPTH.true)
+
+pub returns-then-limits-next : goal.returns-then-limits-next
+returns-then-limits-next c =
+    let J = test-passes (on_branch c.args.keep _ c.requires c.state_in-s.ensures) (sym c.own.ensures ∙ c.if-own.true) in
+    stops (test-passes J (lt-ltb _ _ c.if-s-ge-UNREACHED_DEPTH.false)) (le-ltb _ _ c.if-limits-next.true)
+
+pub outer_of-o-requires : goal.outer_of-o-requires
+outer_of-o-requires c =
+    held-here c.requires.here c.requires.bounds c.state_in-s.ensures
+
+pub depths_ok-requires : goal.depths_ok-requires
+depths_ok-requires c =
+    rw c.effect.ensures (
+      bounded-here c.requires.here c.requires.bounds c.state_in-s.ensures c.outer_of-o.ensures,
+      (omega arith, omega arith),
+      c.if-s-ge-UNREACHED_DEPTH.false,
+    )
+
+-- behind the test of the depths: what is left of the tests, and what passes on
+left_at : (c : After-depths_ok) →
+    let a = c.args in
+    let s = c.state-in.result in
+    let popped = state (s.main - 1) s.ptr s.inner in
+    Judged (take_in a.file.now a.p a.m.now) ((c.depths_ok.result, 7) ∷ [])
+    (pass_all_in ((a.p + 3, popped) ∷ (a.target, (if a.keep then as_state s else popped)) ∷ []) a.m.now)
+left_at c =
+    let J = test-passes (on_branch c.args.keep _ c.requires c.state-in.ensures) (sym c.own.ensures ∙ c.if1.true) in
+    let K = test-passes (test-passes J (lt-ltb _ _ c.if2.false)) (lt-ltb _ _ c.if3.false) in
+    rw (c.depths_ok.ensures, c.effect.ensures, c.outer_of-o.ensures.is) K
+
+pub overflow_sub-rest : goal.overflow_sub-rest
+overflow_sub-rest c =
+    let w = (stacks-fit _ _ _ _ _ (sym c.depths_ok.ensures ∙ c.if-depths_ok.true)).main in
+    rw c.effect.ensures at w
+
+pub pass_both-requires : goal.pass_both-requires
+pass_both-requires c =
+    let S = c.state_in-s.ensures in
+    let a = S.main_small in
+    let w = own-place c.requires.here _ (sym c.own.ensures ∙ c.if-own.true) in
+    let b : c.state_in-s.result.main - 1 < 65536 = omega (arith, a) in (
+      fitting (next_place c.requires.here _ c.if-limits-next.false) b S.ptr_small S.inner_small,
+      rw c.at_Target.ensures (fits-either c.args.keep (fitting w a S.ptr_small S.inner_small) (fitting w b S.ptr_small S.inner_small)),
+    )
+
+pub returns-then-depths_ok : goal.returns-then-depths_ok
+returns-then-depths_ok c =
+    let a = c.args in
+    let s = c.state_in-s.result in
+    c.pass_both.ensures
+    ∙ second-as a.m.now (a.p + 3) a.target (state (s.main - 1) s.ptr s.inner) c.at_Target.ensures
+    ∙ sym (all-passed (test-passes (left_at (goal.at.returns-then-depths_ok c).After-depths_ok) c.if-depths_ok.true))
+
+pub returns-then-own : goal.returns-then-own
+returns-then-own c = stops (left_at (goal.at.returns-then-own c).After-depths_ok) c.if-depths_ok.false
+
+pub returns : goal.returns
+returns c =
+    stops (takes-branch _ _ _ _ _ c.requires.here c.requires.bounds c.args.keep _ c.requires.shape_is) (sym c.own.ensures ∙ c.if-own.false)

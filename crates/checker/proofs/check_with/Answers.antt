@@ -1,0 +1,30 @@
+-- `checker::check_with` meets its contract: refusals 1 and 2 write nothing, the others the file's part alone.
+use mathlib.Core.Path.{refl, sym}
+use native.Mathlib.Omega.{arith}
+use lib.Seq.{length-take-le}
+use Rattle.checker.specs.Parts.{check-none, check-long, check-map, check-rest}
+use Rattle.checker.proofs.check_with.Goals as goal
+
+pub returns-then-n-lt1 : goal.returns-then-n-lt1
+returns-then-n-lt1 c =
+    check-none c.args.file.now c.args.map.now c.args.table.now c.if-n-lt1.true
+
+pub returns-then-n-gt-FILE_MOST : goal.returns-then-n-gt-FILE_MOST
+returns-then-n-gt-FILE_MOST c =
+    check-long c.args.file.now c.args.map.now c.args.table.now (omega arith) c.if-n-gt-FILE_MOST.true
+
+pub returns-then-map-size : goal.returns-then-map-size
+returns-then-map-size c =
+    check-map c.args.file.now c.args.map.now c.args.table.now (omega arith) (omega arith) c.if-map-size.true
+
+pub slice_bounds-check_part-end-2 : goal.slice_bounds-check_part-end-2
+slice_bounds-check_part-end-2 c = sym (length-take-le _ _ (omega arith))
+
+pub check_part-requires : goal.check_part-requires
+check_part-requires c =
+    record { some = omega arith; few = omega arith; bytes = λ i. omega (arith, c.type_inv.file i); part = length-take-le _ _ (omega arith); empty = c.requires }
+
+pub returns : goal.returns
+returns c =
+    check-rest c.args.file.now c.args.map.now c.check_part.new.1.1.0 (omega arith) (omega arith) c.check_part.new.1.0 _
+    c.check_part.result (omega arith) c.check_part.ensures refl

@@ -1,0 +1,28 @@
+-- `plan_words::literals`: at each of the two codes the definition computes.
+use native.Mathlib.Omega.{arith}
+use Rattle.model.specs.File.{codes, bodies, body_of, ins_of}
+use Rattle.plan_meaning.specs.Planned.{basic_plan, plan_of, planned}
+use Rattle.laws_file.specs.Kinds.{other}
+use Rattle.plan_words.proofs.literals.Goals as goal
+
+pub bounds-file-at : goal.bounds-file-at
+unfolding body_of bodies codes
+bounds-file-at c = let b = rw c.in-54.keys1 at c.requires.0 in omega (arith, b.inside)
+
+pub operand4-requires : goal.operand4-requires
+unfolding body_of bodies codes
+operand4-requires c =
+    let e = other c.requires.2 c.in_default.rest.1 in
+    let b = rw e at c.requires.0 in
+    omega (arith, b.inside)
+
+pub returns-in-54 : goal.returns-in-54
+unfolding planned plan_of basic_plan ins_of body_of bodies codes
+returns-in-54 c = λ m. rw (c.writes.ensures, c.in-54.keys1, c.signed_byte-word.ensures.is)
+
+pub returns-in_default : goal.returns-in_default
+unfolding planned plan_of basic_plan ins_of body_of bodies codes
+returns-in_default c =
+    λ m.
+    let e = other c.requires.2 c.in_default.rest.1 in
+    rw (c.writes-in_default.ensures, e, c.operand4.ensures.is)

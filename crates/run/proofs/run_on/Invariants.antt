@@ -1,0 +1,12 @@
+-- `run::run_on` meets its contract: the steps pause at a plan that is settled apart, which is one step more; the rest of the run stays the same.
+use Prim.Native.Nat.{◌-◌}
+use Rattle.run_reals.specs.Reckoning.{Rests}
+use Rattle.run.proofs.run_on.Given as goal
+
+abbrev pub invariant-loop-pause : goal.invariant-loop-pause
+invariant-loop-pause l =
+    Rests l.file l.table l.initial.pause.left (record { regs = l.initial.pause.regs; l.main = l.initial.main; l.ptr = l.initial.ptr; l.ctl = l.initial.ctl; l.heap = l.initial.heap })
+    l.pause.left (record { regs = l.pause.regs; l.main = l.main; l.ptr = l.ptr; l.ctl = l.ctl; l.heap = l.heap }) l.pause.plan
+
+abbrev pub decreases-loop-pause : goal.decreases-loop-pause
+decreases-loop-pause l = l.pause.left
