@@ -39,7 +39,7 @@ returns-else-regs-eq1 c =
 
 pub returns-in-Handler : goal.returns-in-Handler
 returns-in-Handler c =
-    told-opened c.requires c.done-in-Handler.ensures ((goal.at.returns-in-Handler c).After-open.«open».ensures _ _ _) c.enum_told-in-Handler-1.given.1
+    told-opened c.requires c.done-in-Handler.ensures (c.before.before.before.«open».ensures _ _ _) c.enum_told-in-Handler-1.given.1
 
 pub returns-in-Close : goal.returns-in-Close
 returns-in-Close c =

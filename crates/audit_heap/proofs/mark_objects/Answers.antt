@@ -48,13 +48,13 @@ pub overflow_add-links : goal.overflow_add-links
 overflow_add-links c = omega (arith, c.ptrs_at-links.ensures.small, c.loop-q.invariant.1.few)
 
 pub size_at-q-requires : goal.size_at-q-requires
-size_at-q-requires c = omega (arith, object (goal.at.size_at-q-requires c).In_default)
+size_at-q-requires c = omega (arith, object c.before)
 
 pub overflow_add-q : goal.overflow_add-q
 overflow_add-q c = omega (arith, c.size_at-q.ensures.small)
 
 pub loop-q-smaller : goal.loop-q-smaller
-loop-q-smaller c = omega (arith, object (goal.at.loop-q-smaller c).In_default, c.size_at-q.ensures.is)
+loop-q-smaller c = omega (arith, object c.before.before, c.size_at-q.ensures.is)
 
 pub loop-q-preserved : goal.loop-q-preserved
 loop-q-preserved c =

@@ -63,7 +63,7 @@ returns-in-73 c =
 pub returns-in-160 : goal.returns-in-160
 unfolding body_of bodies codes
 returns-in-160 c =
-    rw c.done-in-160.ensures (took c.requires.1 160 3 c.in-160.keys2 refl (goal.at.returns-in-160 c).After-open.«open».ensures)
+    rw c.done-in-160.ensures (took c.requires.1 160 3 c.in-160.keys2 refl c.before.before.before.«open».ensures)
 
 pub returns-in-161 : goal.returns-in-161
 unfolding body_of bodies codes
