@@ -30,7 +30,7 @@ shape_of-marks-in-Fault c =
 pub returns-in-Fault : goal.returns-in-Fault
 returns-in-Fault c =
     marking-fault _ _ _ _ _ _ c.loop-q.invariant.1 c.word-mark.ensures _ _ _ c.loop-q-test.true
-    c.judge_object-a.ensures c.a-1.given.1
+    c.judge_object-a.ensures c.in-Fault.is
 
 pub bounds-marks-q : goal.bounds-marks-q
 bounds-marks-q c = omega arith
@@ -61,7 +61,7 @@ loop-q-preserved c =
     let l = c.loop-q in (
       length-set l.marks l.q true ∙ l.invariant.0,
       marking-more _ _ _ _ _ _ l.invariant.1 c.word-mark.ensures _ _ _ _ _ c.requires.0
-          c.loop-q-test.true c.judge_object-a.ensures c.enum_told-1.given.1 c.ptrs_at-links.ensures c.size_at-q.ensures,
+          c.loop-q-test.true c.judge_object-a.ensures c.in_default.is c.ptrs_at-links.ensures c.size_at-q.ensures,
     )
 
 pub shape_of-marks : goal.shape_of-marks

@@ -38,7 +38,7 @@ bad_pointer-a-requires c = omega (arith, object c.before, c.ptrs_at.ensures.is)
 pub returns-in-Fault : goal.returns-in-Fault
 returns-in-Fault c =
     pointing-bad _ _ _ _ _ c.loop-q.invariant c.word-mark.ensures _ _ _ _ c.loop-q-test.true
-    c.ptrs_at.ensures c.bad_pointer-a.ensures c.a-1.given.1
+    c.ptrs_at.ensures c.bad_pointer-a.ensures c.in-Fault.is
 
 pub size_at-q-requires : goal.size_at-q-requires
 size_at-q-requires c = omega (arith, object c.before.before.before.before)
@@ -52,7 +52,7 @@ loop-q-smaller c = omega (arith, object c.before.before.before.before.before, c.
 pub loop-q-preserved : goal.loop-q-preserved
 loop-q-preserved c =
     pointing-more _ _ _ _ _ c.loop-q.invariant c.word-mark.ensures _ _ _ _ _ c.loop-q-test.true
-    c.ptrs_at.ensures c.bad_pointer-a.ensures c.enum_told-1.given.1 c.size_at-q.ensures
+    c.ptrs_at.ensures c.bad_pointer-a.ensures c.in_default.is c.size_at-q.ensures
 
 pub returns : goal.returns
 returns c = pointing-end _ _ _ _ _ c.loop-q.invariant c.word-mark.ensures c.loop-q-test.false

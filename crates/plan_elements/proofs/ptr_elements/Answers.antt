@@ -144,24 +144,24 @@ bounds-vector-element c = inside c.before.before.before.before.before.before.bef
 
 pub overflow_sub-value : goal.overflow_sub-value
 overflow_sub-value c =
-    omega (arith, c.requires.6 (kinds.other c.requires.7 c.in_default.rest.1))
+    omega (arith, c.requires.6 (kinds.other c.requires.7 c.in_default.in_default-own.rest.1))
 
 pub offset_bounds-ptr-value : goal.offset_bounds-ptr-value
 offset_bounds-ptr-value c =
-    omega (arith, c.requires.6 (kinds.other c.requires.7 c.in_default.rest.1), c.requires.2)
+    omega (arith, c.requires.6 (kinds.other c.requires.7 c.in_default.in_default-own.rest.1), c.requires.2)
 
 pub bounds-ptr-value : goal.bounds-ptr-value
 bounds-ptr-value c =
-    omega (arith, c.requires.6 (kinds.other c.requires.7 c.in_default.rest.1))
+    omega (arith, c.requires.6 (kinds.other c.requires.7 c.in_default.in_default-own.rest.1))
 
 pub returns-in-83 : goal.returns-in-83
 unfolding planned plan_of basic_plan ins_of
 returns-in-83 c =
     let o = c.word-object.result in
     let w = word-heap-from c.args.heap.now o (2 + c.distance-far.result) in
-    λ f m. rw (c.writes.ensures, c.in-83.keys1, w) (rw (at c.before.before.before.before))
+    λ f m. rw (c.writes.ensures, c.in-83.is, w) (rw (at c.before.before.before.before))
 
 pub returns-in_default : goal.returns-in_default
 unfolding planned plan_of basic_plan ins_of
 returns-in_default c =
-    λ f m. rw (c.writes-in_default.ensures, kinds.other c.requires.7 c.in_default.rest.1) (rw (at c.before.before.before.before.before))
+    λ f m. rw (c.writes-in_default.ensures, kinds.other c.requires.7 c.in_default.in_default-own.rest.1) (rw (at c.before.before.before.before.before))

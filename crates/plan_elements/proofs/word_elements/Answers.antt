@@ -116,13 +116,13 @@ bounds-heap-at c =
 
 pub overflow_sub-value : goal.overflow_sub-value
 overflow_sub-value c =
-    omega (arith, c.requires.6 (kinds.other c.requires.7 c.in_default.rest.1))
+    omega (arith, c.requires.6 (kinds.other c.requires.7 c.in_default.in_default-own.rest.1))
 
 pub returns-in-82 : goal.returns-in-82
 unfolding planned plan_of basic_plan ins_of
-returns-in-82 c = λ f m. rw (c.writes.ensures, c.in-82.keys1) (rw (at c.before.before.before.before))
+returns-in-82 c = λ f m. rw (c.writes.ensures, c.in-82.is) (rw (at c.before.before.before.before))
 
 pub returns-in_default : goal.returns-in_default
 unfolding planned plan_of basic_plan ins_of
 returns-in_default c =
-    λ f m. rw (c.writes-in_default.ensures, kinds.other c.requires.7 c.in_default.rest.1) (rw (at (c.before.before.before.before.before)))
+    λ f m. rw (c.writes-in_default.ensures, kinds.other c.requires.7 c.in_default.in_default-own.rest.1) (rw (at (c.before.before.before.before.before)))

@@ -36,7 +36,7 @@ set_same c = field-asked _ c.word-object.ensures.is c.if-object-eq0.false c.oper
 -- the code is the other one
 is_set : (c : In_default) → c.args.kind ≡ 32
 is_set c =
-    other c.requires.6 c.in_default.rest.1
+    other c.requires.6 c.in_default.in_default-own.rest.1
 
 pub returns-then-object-eq0 : goal.returns-then-object-eq0
 unfolding planned plan_of basic_plan ins_of
@@ -50,7 +50,7 @@ in_plain-requires c = omega (arith, object c.before.before)
 
 pub returns-then-not-in_plain : goal.returns-then-not-in_plain
 unfolding planned plan_of basic_plan ins_of
-returns-then-not-in_plain c = λ m. let A = read_same c.before in rw c.in-30.keys1 (rw (A.some, A.part ∙ not-true _ c.if-not-in_plain.true-raw))
+returns-then-not-in_plain c = λ m. let A = read_same c.before in rw c.in-30.is (rw (A.some, A.part ∙ not-true _ c.if-not-in_plain.true-raw))
 
 pub bounds-heap-at : goal.bounds-heap-at
 bounds-heap-at c =
@@ -74,7 +74,7 @@ unfolding planned plan_of basic_plan ins_of
 returns-else-not-in_plain c =
     λ m.
     let A = read_same c.before.before.before.before in
-    rw (c.writes.ensures, c.in-30.keys1, A.object, A.number) (rw (A.some, A.part ∙ not-false _ c.if-not-in_plain.false-raw))
+    rw (c.writes.ensures, c.in-30.is, A.object, A.number) (rw (A.some, A.part ∙ not-false _ c.if-not-in_plain.false-raw))
 
 pub returns-else-not-may_set_plain : goal.returns-else-not-may_set_plain
 unfolding planned plan_of basic_plan ins_of

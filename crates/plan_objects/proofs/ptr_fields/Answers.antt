@@ -48,19 +48,19 @@ bounds-heap-slot c =
     omega (arith, object c.before.before.before.before.before, in-ptrs _ _ _ (sym c.in_ptrs.ensures ∙ not-false _ c.if-not-in_ptrs.false-raw))
 
 pub overflow_sub-value : goal.overflow_sub-value
-overflow_sub-value c = let pre = c.requires in omega (arith, pre.4 (other pre.5 c.in_default.rest.1))
+overflow_sub-value c = let pre = c.requires in omega (arith, pre.4 (other pre.5 c.in_default.in_default-own.rest.1))
 
 pub returns-in-31 : goal.returns-in-31
 unfolding planned plan_of basic_plan ins_of
 returns-in-31 c =
     λ m.
     let A = same c.before.before.before.before in
-    rw (c.writes.ensures, c.in-31.keys1, A.object, A.number) (rw (A.some, A.part ∙ not-false _ c.if-not-in_ptrs.false-raw))
+    rw (c.writes.ensures, c.in-31.is, A.object, A.number) (rw (A.some, A.part ∙ not-false _ c.if-not-in_ptrs.false-raw))
 
 pub returns-in_default : goal.returns-in_default
 unfolding planned plan_of basic_plan ins_of
 returns-in_default c =
     λ m.
     let A = same c.before.before.before.before.before in
-    let e = other c.requires.5 c.in_default.rest.1 in
+    let e = other c.requires.5 c.in_default.in_default-own.rest.1 in
     rw (c.writes-in_default.ensures, e, A.object, A.number) (rw (A.some, A.part ∙ not-false _ c.if-not-in_ptrs.false-raw))

@@ -44,8 +44,8 @@ stepped c =
 
 abbrev went : After-go_on-pause-in-loop-pause invariant-loop decreases-loop → Machine
 went c =
-    let l = c.go_on3.new.1.1 in
-    record { regs = c.go_on3.result.regs; main = l.0; ptr = l.1.0; ctl = l.1.1.0; heap = l.1.1.1.0 }
+    let l = c.go-on3.new.1.1 in
+    record { regs = c.go-on3.result.regs; main = l.0; ptr = l.1.0; ctl = l.1.1.0; heap = l.1.1.1.0 }
 
 -- a rest at what is equal
 rests-at : {f table main main' ptr ptr' ctl ctl' heap heap' : List ℕ} {n : ℕ} {m : Machine} {a a' : Pause} →
@@ -59,7 +59,7 @@ rests-first : (c : Joined-at_real invariant-loop decreases-loop) →
     let A = (entry c).args in
     Rests A.file.now A.table.now A.budget (entered (entry c)) c.if2.pause.left (begun c) c.if2.pause.plan
 rests-first c =
-    let P = c.before.before.before.before.before.before.before.before.before.before.go_on.ensures in
+    let P = c.before.before.before.before.before.before.before.before.before.before.go-on.ensures in
     ⊎_elim (λ w. rests-at w.14 w.15 w.16 w.17 w.18 (rests-from P.going w.5.ensures))
     (λ w. rests-at w.1 w.2 w.3 w.4 w.5 (rests-other P (sym w.0.left ∙ c.before.at-real.ensures)))
     c.if2.branch
@@ -92,12 +92,12 @@ on-at c P =
 ahead-at : (c : After-go_on-pause-in-loop-pause invariant-loop decreases-loop) →
     let first = (turn (step (ahead c))).before in
     let A = (entry first).args in
-    let R = c.go_on3.result in
+    let R = c.go-on3.result in
     Paused A.file.now A.table.now first.if2.pause.left (begun first) R.left (went c) R.plan
-ahead-at c = paused-from (on-at (ahead c) (turn (step (ahead c))).loop.inv.paused) c.go_on3.ensures
+ahead-at c = paused-from (on-at (ahead c) (turn (step (ahead c))).loop.inv.paused) c.go-on3.ensures
 
-fewer : (c : After-go_on-pause-in-loop-pause invariant-loop decreases-loop) → c.go_on3.result.left < (turn (step (ahead c))).loop.pause.left
-fewer c = omega (arith, c.go_on3.ensures.going.less, (step (ahead c)).before.before.before.before.before.before.if3.taken)
+fewer : (c : After-go_on-pause-in-loop-pause invariant-loop decreases-loop) → c.go-on3.result.left < (turn (step (ahead c))).loop.pause.left
+fewer c = omega (arith, c.go-on3.ensures.going.less, (step (ahead c)).before.before.before.before.before.before.if3.taken)
 
 pub returns-then-regs-eq1 : goal.returns-then-regs-eq1
 returns-then-regs-eq1 c = rw c.answered.ensures (sym (run-finished _ _ c.if-regs-eq1.true))

@@ -1,4 +1,4 @@
--- `run_reals::go_on` meets its contract: instructions on reals and the steps between them are steps of the run; it ends where neither goes on.
+-- `run_reals::go-on` meets its contract: instructions on reals and the steps between them are steps of the run; it ends where neither goes on.
 use native.Mathlib.Omega.{arith}
 use borrow.Author.Tests.{not-true, not-false}
 use mathlib.Core.Path.{sym, ◌∙◌}
@@ -18,7 +18,7 @@ pub loop-at-init : goal.loop-at-init
 loop-at-init c = c.requires
 
 pub returns-in_default : goal.returns-in_default
-returns-in_default c = rests-other c.loop-at.invariant (not-real _ c.in_default.keys2)
+returns-in_default c = rests-other c.loop-at.invariant (not-real _ c.in_default.in_default-own.keys2)
 
 pub shape_of-main-in_default : goal.shape_of-main-in_default
 shape_of-main-in_default c = (returns-in_default c).paused.going.alike.main
@@ -36,7 +36,7 @@ pub reckon-past-requires : goal.reckon-past-requires
 reckon-past-requires c =
     let P = c.loop-at.invariant in
     let some = c.loop-at-test.true in
-    (real-paused P.going.runs P.on? (sym c.plan-1.given.1 ∙ (P.stopped some).is), some)
+    (real-paused P.going.runs P.on? (sym c.in-Real.is ∙ (P.stopped some).is), some)
 
 pub overflow_add-behind : goal.overflow_add-behind
 overflow_add-behind c =
