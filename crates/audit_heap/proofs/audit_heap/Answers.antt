@@ -17,7 +17,7 @@ in-range c = omega arith
 
 pub returns-in-Fault : goal.returns-in-Fault
 returns-in-Fault c =
-    audited-walk _ _ _ _ _ _ (in-range c.before.before.before.before.before.before.before) c.mark_objects-walk.ensures c.in-Fault.is
+    audited-walk _ _ _ _ _ _ (in-range (goal.at.returns-in-Fault c).Else-heap-mark) c.mark_objects-walk.ensures c.in-Fault.is
 
 pub returns-then-not-is_pointer : goal.returns-then-not-is_pointer
 returns-then-not-is_pointer c =
