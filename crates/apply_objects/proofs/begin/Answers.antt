@@ -13,4 +13,6 @@ bounds-heap-0-2 c = simp length-set (omega arith)
 
 pub returns : goal.returns
 unfolding begun
-returns c = rw c.word-mark.ensures.is (refl, refl)
+returns c =
+    let r = rw c.word-mark.ensures.is (refl, refl) in
+    record { first = r.0; begun = r.1 }

@@ -39,16 +39,16 @@ pub audit_heap-audit-requires : goal.audit_heap-audit-requires
 audit_heap-audit-requires c =
     let T = c.requires in
     let its = c.args.its in
-    let h = heap-measured (measured-at c.before.before (yes? its ∷ []) [] (λ few. if-self its)) c.if-lengths_right.true in
+    let h = heap-measured (measured-at (goal.at.audit_heap-audit-requires c).After-lengths_right (yes? its ∷ []) [] (λ few. if-self its)) c.if-lengths_right.true in
     (h.0, h.1, T.room h.1, T.fresh)
 
 pub returns-in-Fault : goal.returns-in-Fault
 returns-in-Fault c =
-    λ ts bytes asks. admit-heap (measured-at c.before.before.before.before.before.before.before.before ts bytes asks) c.if-lengths_right.true c.audit_heap-audit.ensures c.in-Fault.is
+    λ ts bytes asks. admit-heap (measured-at (goal.at.returns-in-Fault c).After-lengths_right ts bytes asks) c.if-lengths_right.true c.audit_heap-audit.ensures c.in-Fault.is
 
 pub returns-in-Clean : goal.returns-in-Clean
 returns-in-Clean c =
-    λ ts bytes asks. admit-all (measured-at c.before.before.before.before.before.before.before ts bytes asks) c.if-lengths_right.true c.audit_heap-audit.ensures c.in-Clean.is
+    λ ts bytes asks. admit-all (measured-at (goal.at.returns-in-Clean c).After-lengths_right ts bytes asks) c.if-lengths_right.true c.audit_heap-audit.ensures c.in-Clean.is
 
 pub returns-else-lengths_right : goal.returns-else-lengths_right
-returns-else-lengths_right c = λ ts bytes asks. admit-lengths (measured-at c.before ts bytes asks) c.if-lengths_right.false
+returns-else-lengths_right c = λ ts bytes asks. admit-lengths (measured-at (goal.at.returns-else-lengths_right c).After-lengths_right ts bytes asks) c.if-lengths_right.false
