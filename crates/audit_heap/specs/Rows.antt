@@ -1,6 +1,6 @@
 -- The sample heaps (`heap_rows`): the words found by hand are their first faults, and those without one are sound. By `heap-rows-hold` the
 -- audit finds them, by `heap-says` what it finds is right.
-use Rattle.std.specs.Prelude.{List, ◌∷◌, map, ◌≡◌}
+use Rattle.std.specs.Prelude.{List, [], ◌∷◌, map, ◌≡◌}
 use Rattle.std.proofs.Common.{inl, inr, subst}
 use Rattle.model.specs.Choice.{Mem}
 use Rattle.model.specs.Heap.{Audit, heap_of}

@@ -1,6 +1,7 @@
 -- `apply::apply` meets its contract: each arm knows where the plan writes, and what it calls leaves what the model applies there; what is left is late.
 use mathlib.Core.Path.{refl}
 use mathlib.Core.Logic.{inl, inr}
+use borrow.Enum.Refused.{opened}
 use Rattle.apply.specs.Applied.{to-call, to-open, to-close, to-plain, told-called, told-returned, told-opened, told-closed, told-undone, told-plain, told-left}
 use Rattle.apply.proofs.Tags.{plainly}
 use Rattle.apply.proofs.apply.Goals as goal
@@ -22,12 +23,12 @@ close-requires c = to-close c.requires c.in-Close.is
 pub plain-requires : goal.plain-requires
 plain-requires c =
     let A = c.requires in
-    to-plain A (plainly A c.in_default.in_default-own.keys8).0
+    to-plain A (plainly A (opened c.in_default.in_default-own.keys8)).0
 
 pub returns-then-plain : goal.returns-then-plain
 returns-then-plain c =
     let A = c.requires in
-    let r = told-plain A (c.plain.ensures.state _) c.done-then-plain.ensures c.onward.ensures c.if-plain.true (plainly A c.in_default.in_default-own.keys8).1 in
+    let r = told-plain A (c.plain.ensures.state _) c.done-then-plain.ensures c.onward.ensures c.if-plain.true (plainly A (opened c.in_default.in_default-own.keys8)).1 in
     record { state = r.0; running = r.1; undone = r.2 }
 
 pub returns-in-Frame : goal.returns-in-Frame

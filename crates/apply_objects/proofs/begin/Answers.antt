@@ -13,6 +13,4 @@ bounds-heap-0-2 c = simp length-set (omega arith)
 
 pub returns : goal.returns
 unfolding begun
-returns c =
-    let r = rw c.word-mark.ensures.is (refl, refl) in
-    record { first = r.0; begun = r.1 }
+returns c = record { first = rw c.word-mark.ensures.is; begun = rw c.word-mark.ensures.is }

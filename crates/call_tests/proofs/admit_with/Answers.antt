@@ -3,6 +3,7 @@ use native.Mathlib.Omega.{arith}
 use borrow.Author.Tests.{not-true, not-false}
 use mathlib.Core.List.{List, [], ◌∷◌}
 use Prim.Native.Nat.{ℕ}
+use borrow.Enum.Refused.{opened}
 use Rattle.model.specs.Choice.{Test, yes?}
 use Rattle.model.specs.Calls.{Lent}
 use Rattle.call_tests.specs.Admit.{Asks, first-whole, Measured, measured, heap-measured, admit-refused, admit-passes, admit-foreign, admit-lengths, admit-heap, admit-all}
@@ -11,7 +12,7 @@ use Rattle.call_tests.proofs.admit_with.Goals as goal
 use Rattle.call_tests.proofs.admit_with.Goals.{After-lengths_right, Start}
 
 pub returns-in_default : goal.returns-in_default
-returns-in_default c = λ ts bytes asks. admit-refused c.check_with-v.ensures (λ k e. omega (arith, rw e at c.in_default.in_default-own.keys2))
+returns-in_default c = λ ts bytes asks. admit-refused c.check_with-v.ensures (λ k e. omega (arith, rw e at (opened c.in_default.in_default-own.keys2)))
 
 pub returns-then-not-its : goal.returns-then-not-its
 returns-then-not-its c =

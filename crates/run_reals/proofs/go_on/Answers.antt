@@ -2,6 +2,7 @@
 use native.Mathlib.Omega.{arith}
 use borrow.Author.Tests.{not-true, not-false}
 use mathlib.Core.Path.{sym, ◌∙◌}
+use borrow.Enum.Refused.{opened}
 use Rattle.plan.specs.Arms.{place-small}
 use Rattle.theory_step.specs.Planning.{alive-ready}
 use Rattle.run_steps.specs.Going.{paused-from}
@@ -18,7 +19,7 @@ pub loop-at-init : goal.loop-at-init
 loop-at-init c = c.requires
 
 pub returns-in_default : goal.returns-in_default
-returns-in_default c = rests-other c.loop-at.invariant (not-real _ c.in_default.in_default-own.keys2)
+returns-in_default c = rests-other c.loop-at.invariant (not-real _ (opened c.in_default.in_default-own.keys2))
 
 pub shape_of-main-in_default : goal.shape_of-main-in_default
 shape_of-main-in_default c = (returns-in_default c).paused.going.alike.main
