@@ -1,6 +1,6 @@
 -- `check_rows::plain_at`: in each row the code is known, and the definition computes; a code with no row pops reals (`last_row`).
 use mathlib.Core.List.{[], ◌∷◌}
-use mathlib.Core.Logic.{◌⊎◌, ⊎_elim, inl, inr}
+use mathlib.Core.Logic.{◌⊎◌, inl, inr}
 use Prim.Native.Nat.{suc, ◌<◌}
 use mathlib.Core.Path.{◌∙◌, refl, ap}
 use native.Mathlib.Omega.{arith}
@@ -102,7 +102,7 @@ reals-requires c =
     let k = c.args.kind in
     let out : (k < 20) ⊎ (23 < k) = elim c.in_default.branch [ in_default-via-then-kind-lt20 w ↦ inl (omega arith) | in_default-via-else-kind-lt20+else-kind-lt24 w ↦ inr (omega arith) ] in (
       low c.requires.1,
-      last_row k c.requires.3 c.requires.4 out c.in_default.rest (λ e. c.requires.1.known (ap body_of c.requires.2 ∙ e)),
+      last_row k c.requires.3 c.requires.4 out c.in_default-1.rest (λ e. c.requires.1.known (ap body_of c.requires.2 ∙ e)),
       c.requires.5,
     )
 

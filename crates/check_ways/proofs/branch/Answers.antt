@@ -51,8 +51,8 @@ left_at : (c : After-depths_ok) →
     Judged (take_in a.file.now a.p a.m.now) ((c.depths_ok.result, 7) ∷ [])
     (pass_all_in ((a.p + 3, popped) ∷ (a.target, (if a.keep then as_state s else popped)) ∷ []) a.m.now)
 left_at c =
-    let J = test-passes (on_branch c.args.keep _ c.requires c.state_in-s.ensures) (sym c.own.ensures ∙ c.if1.true) in
-    let K = test-passes (test-passes J (lt-ltb _ _ c.if2.false)) (lt-ltb _ _ c.if3.false) in
+    let J = test-passes (on_branch c.args.keep _ c.requires c.state_in-s.ensures) (sym c.own.ensures ∙ c.if-own.true) in
+    let K = test-passes (test-passes J (lt-ltb _ _ c.if-s-ge-UNREACHED_DEPTH.false)) (lt-ltb _ _ c.if-limits-next.false) in
     rw (c.depths_ok.ensures, c.effect.ensures, c.outer_of-o.ensures.is) K
 
 pub overflow_sub-rest : goal.overflow_sub-rest
