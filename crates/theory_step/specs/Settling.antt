@@ -54,6 +54,7 @@ module _ {f map table : List ℕ} {m : Machine} (A : Alive f map table m) (n i j
       go (suc k) d (first z o F T) = absurd (u z)
       go (suc k) d (frame z o F b T S) = absurd (u z)
       go (suc k) d (handler o T S) = omega (arith, R.ctl_top, d, T.0, down-length m.ctl k)
+      go Prim.Native.Nat.zero d x'' = elim x'' [ ]
 
   stands : Stands f m
   stands =
