@@ -1,4 +1,4 @@
--- `run_reals::go-on` meets its contract: instructions on reals and the steps between them are steps of the run; it ends where neither goes on.
+-- `run_reals::go_on` meets its contract: instructions on reals and the steps between them are steps of the run; it ends where neither goes on.
 use native.Mathlib.Omega.{arith}
 use borrow.Author.Tests.{not-true, not-false}
 use mathlib.Core.Path.{sym, ◌∙◌}
