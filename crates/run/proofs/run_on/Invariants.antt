@@ -5,7 +5,7 @@ use Rattle.run.proofs.run_on.Given as goal
 
 abbrev pub invariant-loop-pause : goal.invariant-loop-pause
 invariant-loop-pause l =
-    Rests l.file l.table l.initial.pause.left (record { regs = l.initial.pause.regs; main = l.initial.main; ptr = l.initial.ptr; ctl = l.initial.ctl; heap = l.initial.heap })
+    Rests l.file l.table l.budget (record { regs = l.fn.regs; main = l.fn.main; ptr = l.fn.ptr; ctl = l.fn.ctl; heap = l.fn.heap })
     l.pause.left (record { regs = l.pause.regs; main = l.main; ptr = l.ptr; ctl = l.ctl; heap = l.heap }) l.pause.plan
 
 abbrev pub decreases-loop-pause : goal.decreases-loop-pause
