@@ -35,7 +35,7 @@ first_back s = refl
 module _ (l : Lent) (map table : List ℕ) (v : Verdict) (A : Started l map table v) where
   pub start-refused : (n p : ℕ) → v ≡ Refuse n p → answers (Refused n p) (with_map map l) ≡ start_of l
   unfolding start_of
-  start-refused n p e = tested-refused (register_tests l) l map table v A _ n p e
+  start-refused n p e = tested-refused (register_tests l) l map table v A (λ l'. answers Ready (leaving (sums_of l'.file) l' (started l'))) n p e
 
   -- the registers are put first, then the sums
   pub start-ready : (k : ℕ) → v ≡ Pass k → (main ptr ctl put bytes : List ℕ) (s t : Sums) → main ≡ cut 0 l.main →

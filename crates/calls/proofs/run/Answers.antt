@@ -5,7 +5,7 @@ use Rattle.calls.proofs.run.Goals as goal
 
 pub run_on-out-requires : goal.run_on-out-requires
 run_on-out-requires c =
-    run-runs _ c.test_for_run-t.new.1.0 c.test_for_run-t.new.1.1.0
+    run-runs _ c.test_for_run-t.new.map c.test_for_run-t.new.table
     c.test_for_run-t.result c.test_for_run-t.ensures c.args.budget _ _
     c.in-Sound.is (λ i. omega (arith, c.type_inv.file i))
 
@@ -15,12 +15,12 @@ put_regs-requires c =
 
 pub returns-in-Unfit : goal.returns-in-Unfit
 returns-in-Unfit c =
-    run-refused _ c.test_for_run-t.new.1.0 c.test_for_run-t.new.1.1.0
+    run-refused _ c.test_for_run-t.new.map c.test_for_run-t.new.table
     c.test_for_run-t.result c.test_for_run-t.ensures c.args.budget _ _
     c.in-Unfit.is
 
 pub returns-in-Sound : goal.returns-in-Sound
 returns-in-Sound c =
-    run_ran _ c.test_for_run-t.new.1.0 c.test_for_run-t.new.1.1.0
+    run_ran _ c.test_for_run-t.new.map c.test_for_run-t.new.table
     c.test_for_run-t.result c.test_for_run-t.ensures c.args.budget _ _
     c.in-Sound.is c.run_on-out.result.answer _ _ c.run_on-out.ensures c.put_regs.ensures

@@ -20,12 +20,12 @@ put_sums-requires c = ap length c.put_regs.ensures ∙ registers-length _ _
 
 pub returns-in-Refuse : goal.returns-in-Refuse
 returns-in-Refuse c =
-    start-refused _ c.admit-v.new.1.0 c.admit-v.new.1.1.0
+    start-refused _ c.admit-v.new.map c.admit-v.new.table
     c.admit-v.result c.admit-v.ensures _ _ c.in-Refuse.is
 
 pub returns-in-Pass : goal.returns-in-Pass
 returns-in-Pass c =
-    start-ready _ c.admit-v.new.1.0 c.admit-v.new.1.1.0
+    start-ready _ c.admit-v.new.map c.admit-v.new.table
     c.admit-v.result c.admit-v.ensures _ c.in-Pass.is _ _ _ _ _ _ _ c.clear.ensures
     c.clear-in-Pass.ensures c.clear-in-Pass-2.ensures (rw c.first.ensures at c.put_regs.ensures)
     c.sums_of-sums.ensures c.put_sums.ensures
