@@ -1,4 +1,5 @@
 // The calls that firmware reaches: check, start and run on numbers and lists. An answer travels as four numbers.
+// C calls them by the same names, which the crate exports_c defines.
 #![tactic(auto)]
 
 ghost use Rattle.std.specs.Prelude.{◌≡◌};
@@ -41,16 +42,14 @@ fn told(answer: Answer) -> Reply
     }
 }
 
-#[unsafe(no_mangle)]
-pub extern "C" fn yalgovim_check(file: &[u8], map: &mut [u16]) -> Reply
+pub fn yalgovim_check(file: &[u8], map: &mut [u16]) -> Reply
     ensures { checks result map.new
         ≡ checks_to (check_of file.now map.old) }
 {
     told(checker::check(file, map))
 }
 
-#[unsafe(no_mangle)]
-pub extern "C" fn yalgovim_start(
+pub fn yalgovim_start(
     file: &[u8],
     map: &mut [u16],
     main: &mut [u32],
@@ -60,7 +59,7 @@ pub extern "C" fn yalgovim_start(
     registers: &mut [u8],
 ) -> Reply
     ensures { replies result (record {
-      file = file.entry.now;
+      file = file.now;
       map = map.new;
       main = main.new;
       ptr = ptr.new;
@@ -69,7 +68,7 @@ pub extern "C" fn yalgovim_start(
       bytes = registers.new;
     })
         ≡ replies_to (start_of (record {
-          file = file.entry.now;
+          file = file.now;
           map = map.old;
           main = main.old;
           ptr = ptr.old;
@@ -81,8 +80,7 @@ pub extern "C" fn yalgovim_start(
     told(calls::start(file, map, main, ptr, ctl, heap, registers))
 }
 
-#[unsafe(no_mangle)]
-pub extern "C" fn yalgovim_run(
+pub fn yalgovim_run(
     file: &[u8],
     map: &mut [u16],
     main: &mut [u32],
@@ -93,7 +91,7 @@ pub extern "C" fn yalgovim_run(
     budget: u32,
 ) -> Reply
     ensures { replies result (record {
-      file = file.entry.now;
+      file = file.now;
       map = map.new;
       main = main.new;
       ptr = ptr.new;
@@ -102,7 +100,7 @@ pub extern "C" fn yalgovim_run(
       bytes = registers.new;
     })
         ≡ replies_to (run_of budget (record {
-          file = file.entry.now;
+          file = file.now;
           map = map.old;
           main = main.old;
           ptr = ptr.old;
