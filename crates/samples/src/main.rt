@@ -3,8 +3,7 @@
 // bytes in decimal; behind a slash the two budgets of a run cut in two. A line that starts with # is a comment.
 #![tactic(auto)]
 
-ghost use Rattle.std.specs.Prelude.{◌≤◌, length};
-ghost use Rattle.io.specs.Counts.{IsPrefixLen};
+ghost use Rattle.std.specs.Prelude.{◌≡◌, ◌≤◌, length, take};
 
 use model::{FILE_MOST, REGISTER_BYTES};
 use std::io;
@@ -103,16 +102,15 @@ fn end(out: &mut [u8], n: usize, value: u32, d: u32) -> usize
 
 // Reads numbers of 0 to 255, each with a byte behind it that is no digit; answers how many it wrote.
 fn numbers(text: &[u8], out: &mut [u8]) -> usize
-    ensures { IsPrefixLen result out.new }
+    ensures bound { result ≤ length out.new }
+    ensures front { result ≡ length (take result out.new) }
 {
     let mut n = 0;
     let mut value = NO_NUMBER;
-    let mut i = 0;
-    while i < text.len() {
-        let d = digit(text[i]);
+    for c in text {
+        let d = digit(*c);
         n = end(out, n, value, d);
         value = append(value, d);
-        i += 1;
     }
     n
 }

@@ -31,8 +31,7 @@ fn signed(rt: &impl Print, w: u32) -> io::Result<()> {
 
 // The words below the top, from the bottom, with commas.
 fn words(rt: &impl Print, main: &[u32], top: u64) -> io::Result<()> {
-    let mut i = 0;
-    while i < main.len() {
+    for i in 0..main.len() {
         if count(i) >= top {
             return Ok(());
         }
@@ -40,7 +39,6 @@ fn words(rt: &impl Print, main: &[u32], top: u64) -> io::Result<()> {
             rt.write_all(b",")?;
         }
         signed(rt, main[i])?;
-        i += 1;
     }
     Ok(())
 }
