@@ -27,6 +27,7 @@ mem-last q m os i = go (mem-append q os (m ∷ []) i)
     go : Mem q os ⊎ Mem q (m ∷ []) → Mem q os ⊎ (q ≡ m)
     go (inl i) = inl i
     go (inr (inl e)) = inr e
+    go (inr (inr x'')) = elim x'' [ ]
 
 -- what the new object leaves
 pub record WithNew (h os : List ℕ) (kind : ℕ) (ps ws : List ℕ) : Type 0 where

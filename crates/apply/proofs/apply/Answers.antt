@@ -6,53 +6,53 @@ use Rattle.apply.proofs.Tags.{plainly}
 use Rattle.apply.proofs.apply.Goals as goal
 
 pub call-requires : goal.call-requires
-call-requires c = to-call c.requires c.enum_told-1.given.1
+call-requires c = to-call c.requires c.in-Frame.is
 
 pub returns-then-regs-eq1 : goal.returns-then-regs-eq1
 returns-then-regs-eq1 c =
-    told-undone c.requires c.undone.ensures refl (inr (inr (c.enum_told-in-Return-1.given.1, c.if-regs-eq1.true)))
+    told-undone c.requires c.undone.ensures refl (inr (inr (c.in-Return.is, c.if-regs-eq1.true)))
 
 pub open-requires : goal.open-requires
-open-requires c = to-open c.requires c.enum_told-in-Handler-1.given.1
+open-requires c = to-open c.requires c.in-Handler.is
 
 pub close-requires : goal.close-requires
-close-requires c = to-close c.requires c.enum_told-in-Close-1.given.1
+close-requires c = to-close c.requires c.in-Close.is
 
 pub plain-requires : goal.plain-requires
 plain-requires c =
     let A = c.requires in
-    to-plain A (plainly A c.in_default.keys8).0
+    to-plain A (plainly A c.in_default.in_default-own.keys8).0
 
 pub returns-then-plain : goal.returns-then-plain
 returns-then-plain c =
     let A = c.requires in
-    told-plain A (c.plain.ensures.0 _) c.done-then-plain.ensures c.onward.ensures c.if-plain.true (plainly A c.in_default.keys8).1
+    told-plain A (c.plain.ensures.0 _) c.done-then-plain.ensures c.onward.ensures c.if-plain.true (plainly A c.in_default.in_default-own.keys8).1
 
 pub returns-in-Frame : goal.returns-in-Frame
 returns-in-Frame c =
-    told-called c.requires c.done.ensures (c.call.ensures _ _ _) c.enum_told-1.given.1
+    told-called c.requires c.done.ensures (c.call.ensures _ _ _) c.in-Frame.is
 
 pub returns-else-regs-eq1 : goal.returns-else-regs-eq1
 returns-else-regs-eq1 c =
     let A = c.requires in
-    told-returned A c.done-in-Return.ensures (c.leave.ensures _ _ _) c.enum_told-in-Return-1.given.1 c.if-regs-eq1.false
+    told-returned A c.done-in-Return.ensures (c.leave.ensures _ _ _) c.in-Return.is c.if-regs-eq1.false
 
 pub returns-in-Handler : goal.returns-in-Handler
 returns-in-Handler c =
-    told-opened c.requires c.done-in-Handler.ensures ((goal.at.returns-in-Handler c).After-open.«open».ensures _ _ _) c.enum_told-in-Handler-1.given.1
+    told-opened c.requires c.done-in-Handler.ensures (c.before.before.before.«open».ensures _ _ _) c.in-Handler.is
 
 pub returns-in-Close : goal.returns-in-Close
 returns-in-Close c =
-    told-closed c.requires c.done-in-Close.ensures (c.close.ensures _ _ _) c.enum_told-in-Close-1.given.1
+    told-closed c.requires c.done-in-Close.ensures (c.close.ensures _ _ _) c.in-Close.is
 
 pub returns-in-View : goal.returns-in-View
-returns-in-View c = told-undone c.requires c.undone-in-View.ensures refl (inr (inl (inl c.enum_told-in-View-1.given.1)))
+returns-in-View c = told-undone c.requires c.undone-in-View.ensures refl (inr (inl (inl c.in-View.is)))
 
 pub returns-in-WordVector : goal.returns-in-WordVector
-returns-in-WordVector c = told-undone c.requires c.undone-in-WordVector.ensures refl (inr (inl (inr (inl c.enum_told-in-WordVector-1.given.1))))
+returns-in-WordVector c = told-undone c.requires c.undone-in-WordVector.ensures refl (inr (inl (inr (inl c.in-WordVector.is))))
 
 pub returns-in-PtrVector : goal.returns-in-PtrVector
-returns-in-PtrVector c = told-undone c.requires c.undone-in-PtrVector.ensures refl (inr (inl (inr (inr c.enum_told-in-PtrVector-1.given.1))))
+returns-in-PtrVector c = told-undone c.requires c.undone-in-PtrVector.ensures refl (inr (inl (inr (inr c.in-PtrVector.is))))
 
 pub returns-else-plain : goal.returns-else-plain
 returns-else-plain c =

@@ -8,22 +8,22 @@ use Rattle.apply.proofs.step_with.Goals as goal
 pub code_of-code-requires : goal.code_of-code-requires
 code_of-code-requires c =
     let S = c.requires.0 in
-    ((S.raises (no_write _ c.in_default.keys2)).main_top.fits, S.thrown)
+    ((S.raises (no_write _ c.in_default.in_default-own.keys2)).main_top.fits, S.thrown)
 
 pub raise-requires : goal.raise-requires
 raise-requires c =
-    c.requires.0.raises (no_write _ c.in_default.keys2)
+    c.requires.0.raises (no_write _ c.in_default.in_default-own.keys2)
 
 pub returns-in_default : goal.returns-in_default
 returns-in_default c =
-    ends-raised c.requires.0 (no_write _ c.in_default.keys2) c.requires.2 c.code_of_lem.ensures (c.raise.ensures _)
+    ends-raised c.requires.0 (no_write _ c.in_default.in_default-own.keys2) c.requires.2 c.code_of_lem.ensures (c.raise.ensures _)
 
 pub apply_late-next-requires : goal.apply_late-next-requires
 apply_late-next-requires c =
-    let e = c.plan-1.given.1 in
+    let e = c.in-Write.is in
     to-late (c.requires.0.writes _ e) (c.requires.1 _ e)
 
 pub returns : goal.returns
 unfolding ended_of settle
 returns c =
-    rw (c.plan-1.given.1, ← c.apply_late-next.ensures _)
+    rw (c.in-Write.is, ← c.apply_late-next.ensures _)

@@ -22,7 +22,7 @@ nonzero_div-whole c =
     let x = c.whole in
     let y = c.whole-2 in
     let s = c.ranges in
-    let h = ⊎_elim (λ w. inr (eqb-false _ 4294967295 w.1.left)) (λ w. inl w.left) c.else-a-eq-LEAST.branch in
+    let h = ⊎_elim (λ w. inr w.1) (λ w. inl w) c.else-a-eq-LEAST.either in
     let k = quotient_fits s.a.fits s.b.fits h in
     (rw (y.ensures, signed-bits _ s.b.fits) (omega (arith, c.if-b-eq0.false)), result_fits w32 quot_z x.type_inv y.type_inv x.ensures y.ensures k)
 
@@ -32,7 +32,7 @@ returns c =
     let x = c.whole in
     let y = c.whole-2 in
     let s = c.ranges in
-    let h = ⊎_elim (λ w. inr (eqb-false _ 4294967295 w.1.left)) (λ w. inl w.left) c.else-a-eq-LEAST.branch in
+    let h = ⊎_elim (λ w. inr w.1) (λ w. inl w) c.else-a-eq-LEAST.either in
     let k = quotient_fits s.a.fits s.b.fits h in
     let e = result-read w32 quot_z x.type_inv y.type_inv x.ensures y.ensures k in
     rw (ne_eqb _ 0 c.if-b-eq0.false) (made k (c.word.ensures ∙ ap to_word e))

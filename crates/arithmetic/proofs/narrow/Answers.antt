@@ -10,4 +10,4 @@ pub overflow_cast-z : goal.overflow_cast-z
 overflow_cast-z c = rw (to_z-of_z w64 _ c.ranges.z) (range-fits _ c.requires)
 
 pub returns : goal.returns
-returns c = c.word.ensures ∙ ap to_word (to_z-of_z w32 _ (overflow_cast-z (goal.at.returns c).Start) ∙ to_z-of_z w64 _ c.ranges.z)
+returns c = c.word.ensures ∙ ap to_word (to_z-of_z w32 _ (overflow_cast-z c.before) ∙ to_z-of_z w64 _ c.ranges.z)

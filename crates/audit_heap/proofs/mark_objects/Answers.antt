@@ -30,7 +30,7 @@ shape_of-marks-in-Fault c =
 pub returns-in-Fault : goal.returns-in-Fault
 returns-in-Fault c =
     marking-fault _ _ _ _ _ _ c.loop-q.invariant.1 c.word-mark.ensures _ _ _ c.loop-q-test.true
-    c.judge_object-a.ensures c.a-1.given.1
+    c.judge_object-a.ensures c.in-Fault.is
 
 pub bounds-marks-q : goal.bounds-marks-q
 bounds-marks-q c = omega arith
@@ -48,20 +48,20 @@ pub overflow_add-links : goal.overflow_add-links
 overflow_add-links c = omega (arith, c.ptrs_at-links.ensures.small, c.loop-q.invariant.1.few)
 
 pub size_at-q-requires : goal.size_at-q-requires
-size_at-q-requires c = omega (arith, object (goal.at.size_at-q-requires c).In_default)
+size_at-q-requires c = omega (arith, object c.before)
 
 pub overflow_add-q : goal.overflow_add-q
 overflow_add-q c = omega (arith, c.size_at-q.ensures.small)
 
 pub loop-q-smaller : goal.loop-q-smaller
-loop-q-smaller c = omega (arith, object (goal.at.loop-q-smaller c).In_default, c.size_at-q.ensures.is)
+loop-q-smaller c = omega (arith, object c.before.before, c.size_at-q.ensures.is)
 
 pub loop-q-preserved : goal.loop-q-preserved
 loop-q-preserved c =
     let l = c.loop-q in (
       length-set l.marks l.q true ∙ l.invariant.0,
       marking-more _ _ _ _ _ _ l.invariant.1 c.word-mark.ensures _ _ _ _ _ c.requires.0
-          c.loop-q-test.true c.judge_object-a.ensures c.enum_told-1.given.1 c.ptrs_at-links.ensures c.size_at-q.ensures,
+          c.loop-q-test.true c.judge_object-a.ensures c.in_default.is c.ptrs_at-links.ensures c.size_at-q.ensures,
     )
 
 pub shape_of-marks : goal.shape_of-marks

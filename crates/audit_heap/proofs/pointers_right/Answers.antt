@@ -33,26 +33,26 @@ object : (c : In-loop-q invariant-loop decreases-loop) →
 object c = pointing-object _ _ _ _ _ c.before.loop.invariant c.before.before.word.ensures c.loop-test.true
 
 pub bad_pointer-a-requires : goal.bad_pointer-a-requires
-bad_pointer-a-requires c = omega (arith, object (goal.at.bad_pointer-a-requires c).In-loop-q, c.ptrs_at.ensures.is)
+bad_pointer-a-requires c = omega (arith, object c.before, c.ptrs_at.ensures.is)
 
 pub returns-in-Fault : goal.returns-in-Fault
 returns-in-Fault c =
     pointing-bad _ _ _ _ _ c.loop-q.invariant c.word-mark.ensures _ _ _ _ c.loop-q-test.true
-    c.ptrs_at.ensures c.bad_pointer-a.ensures c.a-1.given.1
+    c.ptrs_at.ensures c.bad_pointer-a.ensures c.in-Fault.is
 
 pub size_at-q-requires : goal.size_at-q-requires
-size_at-q-requires c = omega (arith, object (goal.at.size_at-q-requires c).In-loop-q)
+size_at-q-requires c = omega (arith, object c.before.before.before.before)
 
 pub overflow_add-q : goal.overflow_add-q
 overflow_add-q c = omega (arith, c.size_at-q.ensures.small)
 
 pub loop-q-smaller : goal.loop-q-smaller
-loop-q-smaller c = omega (arith, object (goal.at.loop-q-smaller c).In-loop-q, c.size_at-q.ensures.is)
+loop-q-smaller c = omega (arith, object c.before.before.before.before.before, c.size_at-q.ensures.is)
 
 pub loop-q-preserved : goal.loop-q-preserved
 loop-q-preserved c =
     pointing-more _ _ _ _ _ c.loop-q.invariant c.word-mark.ensures _ _ _ _ _ c.loop-q-test.true
-    c.ptrs_at.ensures c.bad_pointer-a.ensures c.enum_told-1.given.1 c.size_at-q.ensures
+    c.ptrs_at.ensures c.bad_pointer-a.ensures c.in_default.is c.size_at-q.ensures
 
 pub returns : goal.returns
 returns c = pointing-end _ _ _ _ _ c.loop-q.invariant c.word-mark.ensures c.loop-q-test.false

@@ -21,7 +21,7 @@ unfolding lowest
 returns-in-End c =
     let a = c.args in
     read-end _ _ _ _ _ a.count _ a.top _ c.loop-left.invariant.2 _ c.loop-left-test.true c.read_record-found.ensures _
-    c.found-1.given.1
+    c.in-End.is
 
 pub loop-left-smaller : goal.loop-left-smaller
 loop-left-smaller c = omega arith
@@ -30,7 +30,7 @@ pub loop-left-preserved : goal.loop-left-preserved
 loop-left-preserved c =
     let a = c.args in
     let w = read-on _ _ _ _ _ a.count _ a.top _ c.loop-left.invariant.2 _ c.loop-left-test.true c.read_record-found.ensures _
-    c.found-in-On-1.given.1 in
+    c.in-On.is in
     (omega arith, w.0, w.1)
 
 pub returns : goal.returns

@@ -11,15 +11,15 @@ use Rattle.call_tests.proofs.admit_with.Goals as goal
 use Rattle.call_tests.proofs.admit_with.Goals.{After-lengths_right, Start}
 
 pub returns-in_default : goal.returns-in_default
-returns-in_default c = λ ts bytes asks. admit-refused c.check_with-v.ensures (λ k e. omega (arith, rw e at c.in_default.keys2))
+returns-in_default c = λ ts bytes asks. admit-refused c.check_with-v.ensures (λ k e. omega (arith, rw e at c.in_default.in_default-own.keys2))
 
 pub returns-then-not-its : goal.returns-then-not-its
 returns-then-not-its c =
-    λ ts bytes asks. admit-foreign c.check_with-v.ensures c.v-1.given.1 asks (not-true _ c.if-not-its.true-raw)
+    λ ts bytes asks. admit-foreign c.check_with-v.ensures c.in-Pass.is asks (not-true _ c.if-not-its.true-raw)
 
 pub head_at-head-requires : goal.head_at-head-requires
 head_at-head-requires c =
-    (first-whole _ _ _ (admit-passes c.check_with-v.ensures c.v-1.given.1)).1
+    (first-whole _ _ _ (admit-passes c.check_with-v.ensures c.in-Pass.is)).1
 
 abbrev lent : Start → List ℕ → Lent
 lent S bytes =
@@ -30,25 +30,25 @@ lent S bytes =
 measured-at : (c : After-lengths_right) →
     let C = c.check_with-v in
     (ts : List Test) (bytes : List ℕ) → Asks ts c.args.file.now c.args.its →
-    Measured ts (lent c bytes) C.new.1.0 C.new.1.1.0 c.v-1.given.0.0 c.lengths_right.result
+    Measured ts (lent c bytes) C.new.1.0 C.new.1.1.0 c.in-Pass.k c.lengths_right.result
 measured-at c ts bytes asks =
-    measured c.check_with-v.ensures c.v-1.given.1 asks (not-false _ c.if-not-its.false-raw) c.head_at-head.ensures
+    measured c.check_with-v.ensures c.in-Pass.is asks (not-false _ c.if-not-its.false-raw) c.head_at-head.ensures
     c.lengths_right.ensures
 
 pub audit_heap-audit-requires : goal.audit_heap-audit-requires
 audit_heap-audit-requires c =
     let T = c.requires in
     let its = c.args.its in
-    let h = heap-measured (measured-at (goal.at.audit_heap-audit-requires c).After-lengths_right (yes? its ∷ []) [] (λ few. if-self its)) c.if-lengths_right.true in
+    let h = heap-measured (measured-at c.before.before (yes? its ∷ []) [] (λ few. if-self its)) c.if-lengths_right.true in
     (h.0, h.1, T.room h.1, T.fresh)
 
 pub returns-in-Fault : goal.returns-in-Fault
 returns-in-Fault c =
-    λ ts bytes asks. admit-heap (measured-at (goal.at.returns-in-Fault c).After-lengths_right ts bytes asks) c.if-lengths_right.true c.audit_heap-audit.ensures c.audit-1.given.1
+    λ ts bytes asks. admit-heap (measured-at c.before.before.before.before.before.before.before.before ts bytes asks) c.if-lengths_right.true c.audit_heap-audit.ensures c.in-Fault.is
 
 pub returns-in-Clean : goal.returns-in-Clean
 returns-in-Clean c =
-    λ ts bytes asks. admit-all (measured-at (goal.at.returns-in-Clean c).After-lengths_right ts bytes asks) c.if-lengths_right.true c.audit_heap-audit.ensures c.enum_told-in-Clean-1.given.1
+    λ ts bytes asks. admit-all (measured-at c.before.before.before.before.before.before.before ts bytes asks) c.if-lengths_right.true c.audit_heap-audit.ensures c.in-Clean.is
 
 pub returns-else-lengths_right : goal.returns-else-lengths_right
-returns-else-lengths_right c = λ ts bytes asks. admit-lengths (measured-at (goal.at.returns-else-lengths_right c).After-lengths_right ts bytes asks) c.if-lengths_right.false
+returns-else-lengths_right c = λ ts bytes asks. admit-lengths (measured-at c.before ts bytes asks) c.if-lengths_right.false

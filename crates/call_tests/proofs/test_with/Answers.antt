@@ -22,22 +22,22 @@ found_at c =
 
 pub regs_from-regs-requires : goal.regs_from-regs-requires
 regs_from-regs-requires c =
-    ((found_at (goal.at.regs_from-regs-requires c).After-admit_with-v).found.shown _ c.v-in-Pass-1.given.1).its.0
+    ((found_at c.before.before.before.before.before.before.before).found.shown _ c.in-Pass.is).its.0
 
 pub sound_state-requires : goal.sound_state-requires
 sound_state-requires c =
-    let A = found_at (goal.at.sound_state-requires c).After-admit_with-arg-1 in
-    let e = c.v-in-Pass-1.given.1 in
+    let A = found_at c.before.before.before.before.before.before.before.before.before.before.before in
+    let e = c.in-Pass.is in
     let w = test-lengths A e in
     (test-ready A e (λ i. omega (arith, c.type_inv.file i)), c.regs_from-regs.ensures.1, w.0, w.1)
 
 pub returns-then-sound_state : goal.returns-then-sound_state
 returns-then-sound_state c =
-    test-sound (found_at (goal.at.returns-then-sound_state c).After-admit_with-arg-1) c.v-in-Pass-1.given.1 c.regs_from-regs.ensures.0 c.sound_state.ensures c.if-sound_state.true
+    test-sound (found_at c.before.before.before.before.before.before.before.before.before.before.before.before.before) c.in-Pass.is c.regs_from-regs.ensures.0 c.sound_state.ensures c.if-sound_state.true
 
 pub returns-in-Refuse : goal.returns-in-Refuse
-returns-in-Refuse c = test-refused (found_at (goal.at.returns-in-Refuse c).After-admit_with-v) c.v-1.given.1
+returns-in-Refuse c = test-refused (found_at c.before.before.before.before.before.before.before) c.in-Refuse.is
 
 pub returns-else-sound_state : goal.returns-else-sound_state
 returns-else-sound_state c =
-    test-unsound (found_at (goal.at.returns-else-sound_state c).After-admit_with-arg-1) c.v-in-Pass-1.given.1 c.regs_from-regs.ensures.0 c.sound_state.ensures c.if-sound_state.false
+    test-unsound (found_at c.before.before.before.before.before.before.before.before.before.before.before.before.before) c.in-Pass.is c.regs_from-regs.ensures.0 c.sound_state.ensures c.if-sound_state.false

@@ -13,7 +13,7 @@ use Rattle.check_flow.proofs.take.Goals as goal
 
 pub leave-requires : goal.leave-requires
 unfolding ins_of shape_of body_of bodies codes
-leave-requires c = led c.requires.1 73 1 (leads_to Return 0 0) c.in-73.keys1 refl refl
+leave-requires c = led c.requires.1 73 1 (leads_to Return 0 0) c.in-73.is refl refl
 
 pub overflow_add-p : goal.overflow_add-p
 overflow_add-p c =
@@ -22,12 +22,12 @@ overflow_add-p c =
 pub operand-requires : goal.operand-requires
 unfolding body_of bodies codes
 operand-requires c =
-    body-room c.requires.1.here.site 2 (ap body_of (c.requires.1.kind_is ∙ c.in-160.keys2))
+    body-room c.requires.1.here.site 2 (ap body_of (c.requires.1.kind_is ∙ c.in-160.is))
 
 pub open-requires : goal.open-requires
 unfolding ins_of shape_of body_of bodies codes handler_at
 open-requires c =
-    led c.requires.1 160 3 (leads_to Open 0 _) c.in-160.keys2 refl (rw (c.operand.ensures.is, c.requires.1.here.head))
+    led c.requires.1 160 3 (leads_to Open 0 _) c.in-160.is refl (rw (c.operand.ensures.is, c.requires.1.here.head))
 
 pub overflow_add-p-in-160 : goal.overflow_add-p-in-160
 overflow_add-p-in-160 c =
@@ -35,7 +35,7 @@ overflow_add-p-in-160 c =
 
 pub close-requires : goal.close-requires
 unfolding ins_of shape_of body_of bodies codes
-close-requires c = led c.requires.1 161 1 (leads_to Close 0 0) c.in-161.keys3 refl refl
+close-requires c = led c.requires.1 161 1 (leads_to Close 0 0) c.in-161.is refl refl
 
 pub overflow_add-p-in-161 : goal.overflow_add-p-in-161
 overflow_add-p-in-161 c =
@@ -58,17 +58,17 @@ plain-requires c =
 pub returns-in-73 : goal.returns-in-73
 unfolding body_of bodies codes
 returns-in-73 c =
-    rw c.done.ensures (took c.requires.1 73 1 c.in-73.keys1 refl c.leave.ensures)
+    rw c.done.ensures (took c.requires.1 73 1 c.in-73.is refl c.leave.ensures)
 
 pub returns-in-160 : goal.returns-in-160
 unfolding body_of bodies codes
 returns-in-160 c =
-    rw c.done-in-160.ensures (took c.requires.1 160 3 c.in-160.keys2 refl (goal.at.returns-in-160 c).After-open.«open».ensures)
+    rw c.done-in-160.ensures (took c.requires.1 160 3 c.in-160.is refl c.before.before.before.«open».ensures)
 
 pub returns-in-161 : goal.returns-in-161
 unfolding body_of bodies codes
 returns-in-161 c =
-    rw c.done-in-161.ensures (took c.requires.1 161 1 c.in-161.keys3 refl c.close.ensures)
+    rw c.done-in-161.ensures (took c.requires.1 161 1 c.in-161.is refl c.close.ensures)
 
 pub returns-in-1-to-6 : goal.returns-in-1-to-6
 returns-in-1-to-6 c =

@@ -25,21 +25,21 @@ step-requires-in_default c =
 
 pub returns-in-36 : goal.returns-in-36
 unfolding shape_of ins_of basic_effect maker_pops
-returns-in-36 c = rw (c.step.ensures, c.in-36.keys1, c.operand-k.ensures.is, c.operand2-n.ensures.is)
+returns-in-36 c = rw (c.step.ensures, c.in-36.is, c.operand-k.ensures.is, c.operand2-n.ensures.is)
 
 pub returns-in-60 : goal.returns-in-60
 unfolding shape_of ins_of basic_effect
-returns-in-60 c = rw (c.step-in-60.ensures, c.in-60.keys2, c.operand-k.ensures.is, c.operand2-n.ensures.is)
+returns-in-60 c = rw (c.step-in-60.ensures, c.in-60.is, c.operand-k.ensures.is, c.operand2-n.ensures.is)
 
 pub returns-in-62 : goal.returns-in-62
 unfolding shape_of ins_of basic_effect
-returns-in-62 c = rw (c.step-in-62.ensures, c.in-62.keys3, c.operand-k.ensures.is, c.operand2-n.ensures.is)
+returns-in-62 c = rw (c.step-in-62.ensures, c.in-62.is, c.operand-k.ensures.is, c.operand2-n.ensures.is)
 
 pub returns-in_default : goal.returns-in_default
 unfolding shape_of ins_of basic_effect
 returns-in_default c =
     let e : c.args.kind ≡ 64 =
-    ⊎_elim (λ e. absurd (c.in_default.rest.0.0.1 e)) (⊎_elim (λ e. absurd (c.in_default.rest.0.1 e)) (⊎_elim (λ e. absurd (c.in_default.rest.1 e)) (λ e. e)))
+    ⊎_elim (λ e. absurd (c.in_default.in_default-own.rest.0.0.1 e)) (⊎_elim (λ e. absurd (c.in_default.in_default-own.rest.0.1 e)) (⊎_elim (λ e. absurd (c.in_default.in_default-own.rest.1 e)) (λ e. e)))
     c.requires.2
     in
     rw (c.step-in_default.ensures, e, c.operand-k.ensures.is, c.operand2-n.ensures.is)

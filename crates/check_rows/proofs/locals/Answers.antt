@@ -21,15 +21,15 @@ moves-requires-in_default c = rw c.frame-in_default.ensures (c.requires.3, (omeg
 
 pub returns-in-20 : goal.returns-in-20
 unfolding shape_of ins_of basic_effect
-returns-in-20 c = rw (c.moves.ensures, c.frame.ensures, c.in-20.keys1, c.operand-word.ensures.is, add-one)
+returns-in-20 c = rw (c.moves.ensures, c.frame.ensures, c.in-20.is, c.operand-word.ensures.is, add-one)
 
 pub returns-in-22 : goal.returns-in-22
 unfolding shape_of ins_of basic_effect
-returns-in-22 c = rw (c.moves-in-22.ensures, c.frame-in-22.ensures, c.in-22.keys2, c.operand-word.ensures.is, add-one)
+returns-in-22 c = rw (c.moves-in-22.ensures, c.frame-in-22.ensures, c.in-22.is, c.operand-word.ensures.is, add-one)
 
 pub returns-in-21 : goal.returns-in-21
 unfolding shape_of ins_of basic_effect
-returns-in-21 c = rw (c.moves-in-21.ensures, c.frame-in-21.ensures, c.in-21.keys3, c.operand-word.ensures.is, add-one)
+returns-in-21 c = rw (c.moves-in-21.ensures, c.frame-in-21.ensures, c.in-21.is, c.operand-word.ensures.is, add-one)
 
 pub returns-in_default : goal.returns-in_default
 unfolding shape_of ins_of basic_effect

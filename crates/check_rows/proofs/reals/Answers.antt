@@ -23,11 +23,11 @@ step-requires-in_default c = (c.requires.2, c.requires.0, omega arith, omega ari
 
 pub returns-in-155 : goal.returns-in-155
 unfolding shape_of ins_of basic_effect body_of bodies codes
-returns-in-155 c f = rw (c.step.ensures, c.in-155.keys1)
+returns-in-155 c f = rw (c.step.ensures, c.in-155.is)
 
 pub returns-in-156 : goal.returns-in-156
 unfolding shape_of ins_of basic_effect body_of bodies codes
-returns-in-156 c f = rw (c.step-in-156.ensures, c.in-156.keys2)
+returns-in-156 c f = rw (c.step-in-156.ensures, c.in-156.is)
 
 pub returns-in_default : goal.returns-in_default
 unfolding shape_of ins_of basic_effect body_of bodies codes
@@ -39,4 +39,4 @@ returns-in_default c f =
     c.step-in_default.result ≡ plainly (as_state a.s) (as_state a.o) a.limits (a.p + suc (body_of k)) (shape_of f a.p (ins_of f a.p k)))
     pops_reals _
     (λ u. is, (λ u. is, (λ u. is, (λ u. is, (λ u. absurd (u.0.1 refl), (λ u. absurd (u.1 refl), tt))))))
-    c.requires.1 c.in_default.rest
+    c.requires.1 c.in_default.in_default-own.rest

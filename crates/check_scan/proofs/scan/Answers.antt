@@ -37,7 +37,7 @@ pub loop-p-smaller-then-b-lt1 : goal.loop-p-smaller-then-b-lt1
 loop-p-smaller-then-b-lt1 c = omega arith
 
 pub loop-p-preserved-then-b-lt1 : goal.loop-p-preserved-then-b-lt1
-loop-p-preserved-then-b-lt1 c = (refl, scan-short (record-at (goal.at.loop-p-preserved-then-b-lt1 c).After-body-b) (omega arith) (omega arith) c.mark-p.ensures.0)
+loop-p-preserved-then-b-lt1 c = (refl, scan-short (record-at c.before.before.before.before.before) (omega arith) (omega arith) c.mark-p.ensures.0)
 
 pub mark-p-requires-then-b-lt2 : goal.mark-p-requires-then-b-lt2
 mark-p-requires-then-b-lt2 c = (omega arith, omega arith, omega arith)
@@ -46,7 +46,7 @@ pub loop-p-smaller-then-b-lt2 : goal.loop-p-smaller-then-b-lt2
 loop-p-smaller-then-b-lt2 c = omega arith
 
 pub loop-p-preserved-then-b-lt2 : goal.loop-p-preserved-then-b-lt2
-loop-p-preserved-then-b-lt2 c = (refl, scan-short (record-at (goal.at.loop-p-preserved-then-b-lt2 c).After-body-b) (omega arith) (omega arith) c.mark-p-then-b-lt2.ensures.0)
+loop-p-preserved-then-b-lt2 c = (refl, scan-short (record-at c.before.before.before.before.before.before) (omega arith) (omega arith) c.mark-p-then-b-lt2.ensures.0)
 
 pub mark-p-requires-then-b-lt3 : goal.mark-p-requires-then-b-lt3
 mark-p-requires-then-b-lt3 c = (omega arith, omega arith, omega arith)
@@ -55,7 +55,7 @@ pub loop-p-smaller-then-b-lt3 : goal.loop-p-smaller-then-b-lt3
 loop-p-smaller-then-b-lt3 c = omega arith
 
 pub loop-p-preserved-then-b-lt3 : goal.loop-p-preserved-then-b-lt3
-loop-p-preserved-then-b-lt3 c = (refl, scan-short (record-at (goal.at.loop-p-preserved-then-b-lt3 c).After-body-b) (omega arith) (omega arith) c.mark-p-then-b-lt3.ensures.0)
+loop-p-preserved-then-b-lt3 c = (refl, scan-short (record-at c.before.before.before.before.before.before.before) (omega arith) (omega arith) c.mark-p-then-b-lt3.ensures.0)
 
 pub mark-p-requires-then-b-eq4 : goal.mark-p-requires-then-b-eq4
 mark-p-requires-then-b-eq4 c = (omega arith, omega arith, omega arith)
@@ -64,10 +64,10 @@ pub loop-p-smaller-then-b-eq4 : goal.loop-p-smaller-then-b-eq4
 loop-p-smaller-then-b-eq4 c = omega arith
 
 pub loop-p-preserved-then-b-eq4 : goal.loop-p-preserved-then-b-eq4
-loop-p-preserved-then-b-eq4 c = (refl, scan-short (record-at (goal.at.loop-p-preserved-then-b-eq4 c).After-body-b) (omega arith) (omega arith) c.mark-p-then-b-eq4.ensures.0)
+loop-p-preserved-then-b-eq4 c = (refl, scan-short (record-at c.before.before.before.before.before.before.before.before) (omega arith) (omega arith) c.mark-p-then-b-eq4.ensures.0)
 
 pub overflow_add-k : goal.overflow_add-k
-overflow_add-k c = omega (arith, (record-at (goal.at.overflow_add-k c).After-body-b).scan.few)
+overflow_add-k c = omega (arith, (record-at c.before.before.before.before.before.before.before).scan.few)
 
 pub overflow_add-p : goal.overflow_add-p
 overflow_add-p c = omega arith
@@ -77,7 +77,7 @@ loop-p-smaller-then-kind c = omega arith
 
 pub loop-p-preserved-then-kind : goal.loop-p-preserved-then-kind
 loop-p-preserved-then-kind c =
-    let R = record-at (goal.at.loop-p-preserved-then-kind c).After-body-b in
+    let R = record-at c.before.before.before.before.before.before.before in
     let is-head = c.if-kind.true in
     let size = head-body R is-head in
     (refl, scan-head R (λ z. omega arith) (omega arith) is-head c.list-last.ensures.0 c.list-last.ensures.1)
@@ -86,7 +86,7 @@ pub shape_of-m-then-b-eq-UNKNOWN : goal.shape_of-m-then-b-eq-UNKNOWN
 shape_of-m-then-b-eq-UNKNOWN c = c.loop-p.invariant.1.long
 
 pub returns-then-b-eq-UNKNOWN : goal.returns-then-b-eq-UNKNOWN
-returns-then-b-eq-UNKNOWN c = scan-unknown (record-at (goal.at.returns-then-b-eq-UNKNOWN c).After-body-b) c.if-b-eq-UNKNOWN.true
+returns-then-b-eq-UNKNOWN c = scan-unknown (record-at c.before.before.before.before.before.before) c.if-b-eq-UNKNOWN.true
 
 pub mark-p-requires-else-b-eq-UNKNOWN : goal.mark-p-requires-else-b-eq-UNKNOWN
 mark-p-requires-else-b-eq-UNKNOWN c = (omega arith, omega arith, omega arith)
@@ -96,7 +96,7 @@ loop-p-smaller c = omega arith
 
 pub loop-p-preserved : goal.loop-p-preserved
 loop-p-preserved c =
-    (refl, scan-mark (record-at (goal.at.loop-p-preserved c).After-body-b) c.if-b-eq-UNKNOWN.false (omega arith) c.if-kind.false c.mark-p-else-b-eq-UNKNOWN.ensures.0)
+    (refl, scan-mark (record-at c.before.before.before.before.before.before.before.before.before.before) c.if-b-eq-UNKNOWN.false (omega arith) c.if-kind.false c.mark-p-else-b-eq-UNKNOWN.ensures.0)
 
 pub shape_of-m-then-n-p : goal.shape_of-m-then-n-p
 shape_of-m-then-n-p c = c.loop-p.invariant.1.long

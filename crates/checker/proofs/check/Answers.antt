@@ -2,8 +2,8 @@
 use Rattle.checker.proofs.check.Goals as goal
 
 pub returns-in-Pass : goal.returns-in-Pass
-returns-in-Pass c = rw c.enum_told-1.given.1 at c.check_with-v.ensures.is
+returns-in-Pass c = rw c.in-Pass.is at c.check_with-v.ensures.is
 
 pub returns-in-Refuse : goal.returns-in-Refuse
 returns-in-Refuse c =
-    rw c.v-1.given.1 at c.check_with-v.ensures.is
+    rw c.in-Refuse.is at c.check_with-v.ensures.is

@@ -6,9 +6,9 @@ pub look-requires : goal.look-requires
 look-requires c =
     look-whole c.args.file.now c.args.m.now c.fill.new.0 c.scan-found.new.1.0 c.args.table.now
     c.scan-found.new.1.1.0 c.requires c.fill.ensures c.scan-found.result c.scan-found.ensures _ _
-    c.found-in-Whole-1.given.1
+    c.in-Whole.is
 
 pub returns-in-Broken : goal.returns-in-Broken
 returns-in-Broken c =
     look-broken c.args.file.now c.args.m.now c.fill.new.0 c.scan-found.new.1.0 c.args.table.now
-    c.scan-found.new.1.1.0 c.requires c.fill.ensures c.scan-found.result c.scan-found.ensures _ c.found-1.given.1
+    c.scan-found.new.1.1.0 c.requires c.fill.ensures c.scan-found.result c.scan-found.ensures _ c.in-Broken.is

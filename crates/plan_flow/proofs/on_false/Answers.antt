@@ -15,11 +15,11 @@ returns-then-main-top-ne0 c =
 
 pub returns-in-2 : goal.returns-in-2
 unfolding planned plan_of ins_of
-returns-in-2 c = λ m. rw (c.writes-in-2.ensures, c.in-2.keys1, is_false _ c.if-main-top-ne0.false, c.forwards-target.ensures.is)
+returns-in-2 c = λ m. rw (c.writes-in-2.ensures, c.in-2.is, is_false _ c.if-main-top-ne0.false, c.forwards-target.ensures.is)
 
 pub returns-in_default : goal.returns-in_default
 unfolding planned plan_of ins_of
 returns-in_default c =
     λ m.
-    let e = other c.requires.3 c.in_default.rest.1 in
+    let e = other c.requires.3 c.in_default.in_default-own.rest.1 in
     rw (c.writes-in_default.ensures, e, is_false _ c.if-main-top-ne0.false, c.forwards-target.ensures.is)

@@ -15,11 +15,11 @@ returns-then-main-top-eq0 c =
 
 pub returns-in-4 : goal.returns-in-4
 unfolding planned plan_of ins_of
-returns-in-4 c = λ m. rw (c.writes-in-4.ensures, c.in-4.keys1, is_true _ c.if-main-top-eq0.false, c.backwards.ensures.is)
+returns-in-4 c = λ m. rw (c.writes-in-4.ensures, c.in-4.is, is_true _ c.if-main-top-eq0.false, c.backwards.ensures.is)
 
 pub returns-in_default : goal.returns-in_default
 unfolding planned plan_of ins_of
 returns-in_default c =
     λ m.
-    let e = other c.requires.3 c.in_default.rest.1 in
+    let e = other c.requires.3 c.in_default.in_default-own.rest.1 in
     rw (c.writes-in_default.ensures, e, is_true _ c.if-main-top-eq0.false, c.forwards.ensures.is)

@@ -7,24 +7,24 @@ use Rattle.plan_words.proofs.compare.Goals as goal
 
 pub returns-in-130 : goal.returns-in-130
 unfolding Binary plan_of basic_plan ins_of
-returns-in-130 c = λ f p m q ea eb. rw (c.in-130.keys1, ea, eb, ← c.eq_w.ensures)
+returns-in-130 c = λ f p m q ea eb. rw (c.in-130.is, ea, eb, ← c.eq_w.ensures)
 
 pub returns-in-195 : goal.returns-in-195
 unfolding Binary plan_of basic_plan ins_of
-returns-in-195 c = λ f p m q ea eb. rw (c.in-195.keys2, ea, eb, ← c.lt.ensures)
+returns-in-195 c = λ f p m q ea eb. rw (c.in-195.is, ea, eb, ← c.lt.ensures)
 
 pub returns-in-198 : goal.returns-in-198
 unfolding Binary plan_of basic_plan ins_of
-returns-in-198 c = λ f p m q ea eb. rw (c.in-198.keys3, ea, eb, ← c.le.ensures)
+returns-in-198 c = λ f p m q ea eb. rw (c.in-198.is, ea, eb, ← c.le.ensures)
 
 pub returns-in-201 : goal.returns-in-201
 unfolding Binary plan_of basic_plan ins_of
-returns-in-201 c = λ f p m q ea eb. rw (c.in-201.keys4, ea, eb, ← c.gt.ensures)
+returns-in-201 c = λ f p m q ea eb. rw (c.in-201.is, ea, eb, ← c.gt.ensures)
 
 pub returns-in_default : goal.returns-in_default
 unfolding Binary plan_of basic_plan ins_of
 returns-in_default c =
     λ f p m q ea eb.
-    let n = c.in_default.rest in
+    let n = c.in_default.in_default-own.rest in
     let e = other (other (other (other c.requires n.0.0.0.1) n.0.0.1) n.0.1) n.1 in
     rw (e, ea, eb, ← c.ge.ensures)

@@ -7,22 +7,22 @@ use Rattle.plan_words.proofs.literals.Goals as goal
 
 pub bounds-file-at : goal.bounds-file-at
 unfolding body_of bodies codes
-bounds-file-at c = let b = rw c.in-54.keys1 at c.requires.0 in omega (arith, b.inside)
+bounds-file-at c = let b = rw c.in-54.is at c.requires.0 in omega (arith, b.inside)
 
 pub operand4-requires : goal.operand4-requires
 unfolding body_of bodies codes
 operand4-requires c =
-    let e = other c.requires.2 c.in_default.rest.1 in
+    let e = other c.requires.2 c.in_default.in_default-own.rest.1 in
     let b = rw e at c.requires.0 in
     omega (arith, b.inside)
 
 pub returns-in-54 : goal.returns-in-54
 unfolding planned plan_of basic_plan ins_of body_of bodies codes
-returns-in-54 c = λ m. rw (c.writes.ensures, c.in-54.keys1, c.signed_byte-word.ensures.is)
+returns-in-54 c = λ m. rw (c.writes.ensures, c.in-54.is, c.signed_byte-word.ensures.is)
 
 pub returns-in_default : goal.returns-in_default
 unfolding planned plan_of basic_plan ins_of body_of bodies codes
 returns-in_default c =
     λ m.
-    let e = other c.requires.2 c.in_default.rest.1 in
+    let e = other c.requires.2 c.in_default.in_default-own.rest.1 in
     rw (c.writes-in_default.ensures, e, c.operand4.ensures.is)

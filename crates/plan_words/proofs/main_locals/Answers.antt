@@ -6,11 +6,11 @@ use Rattle.plan_words.proofs.main_locals.Goals as goal
 
 pub returns-in-20 : goal.returns-in-20
 unfolding planned plan_of basic_plan ins_of
-returns-in-20 c = λ m. rw (c.writes.ensures, c.in-20.keys1, c.main_base_of.ensures, c.operand.ensures.is)
+returns-in-20 c = λ m. rw (c.writes.ensures, c.in-20.is, c.main_base_of.ensures, c.operand.ensures.is)
 
 pub returns-in_default : goal.returns-in_default
 unfolding planned plan_of basic_plan ins_of
 returns-in_default c =
     λ m.
-    let e = other c.requires.4 c.in_default.rest.1 in
+    let e = other c.requires.4 c.in_default.in_default-own.rest.1 in
     rw (c.writes-in_default.ensures, e, c.main_base_of.ensures, c.operand.ensures.is)

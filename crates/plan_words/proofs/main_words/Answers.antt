@@ -11,41 +11,41 @@ pub main_locals-requires : goal.main_locals-requires
 unfolding body_of bodies codes
 main_locals-requires c =
     let a = c.requires in
-    (rw c.in-20.keys1 at a.0, a.1, a.2, a.3 (inl c.in-20.keys1), inl refl)
+    (rw c.in-20.is at a.0, a.1, a.2, a.3 (inl c.in-20.is), inl refl)
 
 pub main_locals-requires-in-22 : goal.main_locals-requires-in-22
 unfolding body_of bodies codes
 main_locals-requires-in-22 c =
     let a = c.requires in
-    (rw c.in-22.keys2 at a.0, a.1, a.2, a.3 (inr c.in-22.keys2), inr refl)
+    (rw c.in-22.is at a.0, a.1, a.2, a.3 (inr c.in-22.is), inr refl)
 
 pub literals-requires : goal.literals-requires
 literals-requires c =
     let a = c.requires in
-    (rw c.in-54.keys3 at a.0, omega (arith, a.1.below, a.1.few), inl refl)
+    (rw c.in-54.is at a.0, omega (arith, a.1.below, a.1.few), inl refl)
 
 pub literals-requires-in_default : goal.literals-requires-in_default
 literals-requires-in_default c =
     let a = c.requires in
-    let n = c.in_default.rest in
+    let n = c.in_default.in_default-own.rest in
     let e = other (other (other a.4 n.0.0.1) n.0.1) n.1 in
     (rw e at a.0, omega (arith, a.1.below, a.1.few), inr refl)
 
 pub returns-in-20 : goal.returns-in-20
 unfolding body_of bodies codes
-returns-in-20 c = λ m. rw c.in-20.keys1 (c.main_locals.ensures m)
+returns-in-20 c = λ m. rw c.in-20.is (c.main_locals.ensures m)
 
 pub returns-in-22 : goal.returns-in-22
 unfolding body_of bodies codes
-returns-in-22 c = λ m. rw c.in-22.keys2 (c.main_locals-in-22.ensures m)
+returns-in-22 c = λ m. rw c.in-22.is (c.main_locals-in-22.ensures m)
 
 pub returns-in-54 : goal.returns-in-54
-returns-in-54 c = λ m. rw c.in-54.keys3 (c.literals.ensures (set_main _ (set_ctl _ m)))
+returns-in-54 c = λ m. rw c.in-54.is (c.literals.ensures (set_main _ (set_ctl _ m)))
 
 pub returns-in_default : goal.returns-in_default
 returns-in_default c =
     λ m.
     let a = c.requires in
-    let n = c.in_default.rest in
+    let n = c.in_default.in_default-own.rest in
     let e = other (other (other a.4 n.0.0.1) n.0.1) n.1 in
     rw e (c.literals-in_default.ensures (set_main _ (set_ctl _ m)))

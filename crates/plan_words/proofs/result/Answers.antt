@@ -2,4 +2,4 @@
 use Rattle.plan_words.proofs.result.Goals as goal
 
 pub returns-in-Word : goal.returns-in-Word
-returns-in-Word c = rw (c.writes.ensures, c.value-1.given.1)
+returns-in-Word c = rw (c.writes.ensures, c.in-Word.is)

@@ -13,12 +13,12 @@ unfolding planned plan_of basic_plan ins_of operate
 returns-in-140 c =
     λ f m.
     let z = c.plus in
-    rw (c.number.ensures, c.in-140.keys1, to_z-of_z w64 _ (record { sfits = z.type_inv }) ∙ z.ensures)
+    rw (c.number.ensures, c.in-140.is, to_z-of_z w64 _ (record { sfits = z.type_inv }) ∙ z.ensures)
 
 pub returns-in_default : goal.returns-in_default
 unfolding planned plan_of basic_plan ins_of operate
 returns-in_default c =
     λ f m.
     let z = c.minus in
-    let e = other c.requires.3 c.in_default.rest.1 in
+    let e = other c.requires.3 c.in_default.in_default-own.rest.1 in
     rw (c.number-in_default.ensures, e, to_z-of_z w64 _ (record { sfits = z.type_inv }) ∙ z.ensures)

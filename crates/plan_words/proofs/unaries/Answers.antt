@@ -12,7 +12,7 @@ unfolding planned plan_of basic_plan ins_of operate1 value_of
 returns-then-not-negates c =
     λ f m.
     let t = sym c.negates.ensures ∙ not-true _ c.if-not-negates.true-raw in
-    rw (c.in-144.keys1, t)
+    rw (c.in-144.is, t)
 
 pub neg-requires : goal.neg-requires
 neg-requires c = sym c.negates.ensures ∙ not-false _ c.if-not-negates.false-raw
@@ -22,11 +22,11 @@ unfolding planned plan_of basic_plan ins_of operate1 value_of
 returns-else-not-negates c =
     λ f m.
     let t = sym c.negates.ensures ∙ not-false _ c.if-not-negates.false-raw in
-    rw (c.writes.ensures, c.in-144.keys1, c.neg.ensures, t)
+    rw (c.writes.ensures, c.in-144.is, c.neg.ensures, t)
 
 pub returns-in_default : goal.returns-in_default
 unfolding planned plan_of basic_plan ins_of
 returns-in_default c =
     λ f m.
-    let e = other c.requires.3 c.in_default.rest.1 in
+    let e = other c.requires.3 c.in_default.in_default-own.rest.1 in
     rw (c.writes-in_default.ensures, e, ← c.not.ensures)

@@ -10,53 +10,53 @@ pub bounds-file-place : goal.bounds-file-place
 bounds-file-place c = real-place c.requires.0
 
 pub overflow_add-body : goal.overflow_add-body
-overflow_add-body c = omega (arith, c.requires.1, (literal-ready c.requires.0 c.in-53.keys1).0)
+overflow_add-body c = omega (arith, c.requires.1, (literal-ready c.requires.0 c.in-53.is).0)
 
 pub literal-requires : goal.literal-requires
-literal-requires c = literal-ready c.requires.0 c.in-53.keys1
+literal-requires c = literal-ready c.requires.0 c.in-53.is
 
 pub less-requires : goal.less-requires
 less-requires c =
     let R = c.requires.0 in
-    (R.topped, four-ready R _ (inr (inr (inr (inr refl)))) c.in-155.keys2)
+    (R.topped, four-ready R _ (inr (inr (inr (inr refl)))) c.in-155.is)
 
 pub hoop-requires : goal.hoop-requires
 hoop-requires c =
     let R = c.requires.0 in
-    (R.topped, ten-ready R c.in-156.keys3, R.few)
+    (R.topped, ten-ready R c.in-156.is, R.few)
 
 pub operation-requires : goal.operation-requires
 operation-requires c =
     let R = c.requires.0 in
-    let n = c.in_default.rest in
+    let n = c.in_default.in_default-own.rest in
     let o = operation-ready R _ refl n.0.0.1 n.0.1 n.1 in
     (R.topped, four-ready R _ (operation-four R o) refl, o)
 
 pub returns-in-53 : goal.returns-in-53
 unfolding ins_at
 returns-in-53 c =
-    let e = c.in-53.keys1 in
+    let e = c.in-53.is in
     let L = c.literal.ensures in
     (rw (← after-literal _ _ _ e c.requires.1, e) L.0, L.1)
 
 pub returns-in-155 : goal.returns-in-155
 unfolding ins_at ins_of
 returns-in-155 c =
-    let e = c.in-155.keys2 in
+    let e = c.in-155.is in
     let L = c.less.ensures in
     (rw (← after-code _ _ _ _ (inr (inr (inr (inr (inl refl))))) e c.requires.1, e) L.0, L.1)
 
 pub returns-in-156 : goal.returns-in-156
 unfolding ins_at ins_of
 returns-in-156 c =
-    let e = c.in-156.keys3 in
+    let e = c.in-156.is in
     let L = c.hoop.ensures in
     (rw (← after-code _ _ _ _ (inr (inr (inr (inr (inr refl))))) e c.requires.1, e) L.0, L.1)
 
 pub returns-in_default : goal.returns-in_default
 unfolding ins_at
 returns-in_default c =
-    let n = c.in_default.rest in
+    let n = c.in_default.in_default-own.rest in
     let o = operation-ready c.requires.0 _ refl n.0.0.1 n.0.1 n.1 in
     let L = c.operation.ensures in
     (rw (← after-code _ _ _ _ (operation-code c.requires.0 o) refl c.requires.1) (L.0 _ _), L.1)

@@ -6,4 +6,4 @@ pub float_to_bits-result : goal.float_to_bits-result
 float_to_bits-result c = no_nan _ c.requires
 
 pub overflow_cast-result : goal.overflow_cast-result
-overflow_cast-result c = record { fits = high_word c.args.x c.well-formed.0.1 }
+overflow_cast-result c = record { fits = high_word c.args.x c.well_formed.0.1 }

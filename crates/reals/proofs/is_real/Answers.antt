@@ -34,11 +34,11 @@ not-real f p k u = go (is_real? (ins_of f p k)) refl
 
 pub returns-in-53 : goal.returns-in-53
 unfolding ins_of
-returns-in-53 c = λ f p. at_each (λ k. true ≡ is_real? (ins_of f p k)) one _ (refl, (refl, (refl, (refl, tt)))) c.in-53.keys1
+returns-in-53 c = λ f p. at_each (λ k. true ≡ is_real? (ins_of f p k)) one _ (refl, (refl, (refl, (refl, tt)))) c.in-53.is
 
 pub returns-in-151 : goal.returns-in-151
 unfolding ins_of
-returns-in-151 c = λ f p. at_each (λ k. true ≡ is_real? (ins_of f p k)) other _ (refl, (refl, (refl, tt))) c.in-151.keys2
+returns-in-151 c = λ f p. at_each (λ k. true ≡ is_real? (ins_of f p k)) other _ (refl, (refl, (refl, tt))) c.in-151.is
 
 pub returns-in_default : goal.returns-in_default
-returns-in_default c = λ f p. not-real f p _ (λ o. ⊎_elim c.in_default.rest.0.1 c.in_default.rest.1 (in_arms o))
+returns-in_default c = λ f p. not-real f p _ (λ o. ⊎_elim c.in_default.in_default-own.rest.0.1 c.in_default.in_default-own.rest.1 (in_arms o))

@@ -5,5 +5,5 @@ use Rattle.registers.proofs.put_regs.Goals as goal
 
 pub returns : goal.returns
 returns c =
-    regs-put _ (λ i. omega (arith, c.type_inv.bytes i)) c.requires _ _ _ _ _ _ _ _ c.put_word.ensures c.put_word-2.ensures
+    regs-put _ (λ i. omega (arith, c.slice_known-1.given i)) c.requires _ _ _ _ _ _ _ _ c.put_word.ensures c.put_word-2.ensures
     c.put_word-3.ensures c.put_word-4.ensures c.put_word-5.ensures c.put_word-6.ensures c.put_word-7.ensures

@@ -5,4 +5,4 @@ use Rattle.registers.proofs.put_sums.Goals as goal
 
 pub returns : goal.returns
 returns c =
-    sums-put _ (λ i. omega (arith, c.type_inv.bytes i)) c.requires _ _ _ c.put_word.ensures c.put_word-2.ensures
+    sums-put _ (λ i. omega (arith, c.slice_known-1.given i)) c.requires _ _ _ c.put_word.ensures c.put_word-2.ensures

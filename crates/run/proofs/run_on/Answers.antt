@@ -44,8 +44,8 @@ stepped c =
 
 abbrev went : After-go_on-pause-in-loop-pause invariant-loop decreases-loop → Machine
 went c =
-    let l = c.go_on3.new.1.1 in
-    record { regs = c.go_on3.result.regs; main = l.0; ptr = l.1.0; ctl = l.1.1.0; heap = l.1.1.1.0 }
+    let l = c.go-on3.new.1.1 in
+    record { regs = c.go-on3.result.regs; main = l.0; ptr = l.1.0; ctl = l.1.1.0; heap = l.1.1.1.0 }
 
 -- a rest at what is equal
 rests-at : {f table main main' ptr ptr' ctl ctl' heap heap' : List ℕ} {n : ℕ} {m : Machine} {a a' : Pause} →
@@ -59,7 +59,7 @@ rests-first : (c : Joined-at_real invariant-loop decreases-loop) →
     let A = (entry c).args in
     Rests A.file.now A.table.now A.budget (entered (entry c)) c.if2.pause.left (begun c) c.if2.pause.plan
 rests-first c =
-    let P = c.before.before.before.before.before.before.before.before.before.before.go_on.ensures in
+    let P = c.before.before.before.before.before.before.before.before.before.before.go-on.ensures in
     ⊎_elim (λ w. rests-at w.14 w.15 w.16 w.17 w.18 (rests-from P.going w.5.ensures))
     (λ w. rests-at w.1 w.2 w.3 w.4 w.5 (rests-other P (sym w.0.left ∙ c.before.at-real.ensures)))
     c.if2.branch
@@ -92,12 +92,12 @@ on-at c P =
 ahead-at : (c : After-go_on-pause-in-loop-pause invariant-loop decreases-loop) →
     let first = (turn (step (ahead c))).before in
     let A = (entry first).args in
-    let R = c.go_on3.result in
+    let R = c.go-on3.result in
     Paused A.file.now A.table.now first.if2.pause.left (begun first) R.left (went c) R.plan
-ahead-at c = paused-from (on-at (ahead c) (turn (step (ahead c))).loop.inv.paused) c.go_on3.ensures
+ahead-at c = paused-from (on-at (ahead c) (turn (step (ahead c))).loop.inv.paused) c.go-on3.ensures
 
-fewer : (c : After-go_on-pause-in-loop-pause invariant-loop decreases-loop) → c.go_on3.result.left < (turn (step (ahead c))).loop.pause.left
-fewer c = omega (arith, c.go_on3.ensures.going.less, (step (ahead c)).before.before.before.before.before.before.if3.taken)
+fewer : (c : After-go_on-pause-in-loop-pause invariant-loop decreases-loop) → c.go-on3.result.left < (turn (step (ahead c))).loop.pause.left
+fewer c = omega (arith, c.go-on3.ensures.going.less, (step (ahead c)).before.before.before.before.before.before.if3.taken)
 
 pub returns-then-regs-eq1 : goal.returns-then-regs-eq1
 returns-then-regs-eq1 c = rw c.answered.ensures (sym (run-finished _ _ c.if-regs-eq1.true))
@@ -122,77 +122,77 @@ step_with-out-requires c =
     (rw P.is (alive-settles I.going.runs.alive I.on?), P.late, R.raises c.loop-pause-test.true)
 
 pub overflow_sub-done : goal.overflow_sub-done
-overflow_sub-done c = omega (arith, (paused-at (turn (goal.at.overflow_sub-done c).After-step_with-out)).going.less)
+overflow_sub-done c = omega (arith, (paused-at (turn c.before.before.before.before.before.before.before.before.before.before.before)).going.less)
 
 pub shape_of-main-then-not-out : goal.shape_of-main-then-not-out
-shape_of-main-then-not-out c = (alike_at (goal.at.shape_of-main-then-not-out c).After-main-in-loop-pause-1).main
+shape_of-main-then-not-out c = (alike_at c.before.before.before.before.before.before.before.before.before.before.before.before).main
 
 pub shape_of-ptr-then-not-out : goal.shape_of-ptr-then-not-out
-shape_of-ptr-then-not-out c = (alike_at (goal.at.shape_of-ptr-then-not-out c).After-main-in-loop-pause-1).ptr
+shape_of-ptr-then-not-out c = (alike_at c.before.before.before.before.before.before.before.before.before.before.before.before).ptr
 
 pub shape_of-ctl-then-not-out : goal.shape_of-ctl-then-not-out
-shape_of-ctl-then-not-out c = (alike_at (goal.at.shape_of-ctl-then-not-out c).After-main-in-loop-pause-1).ctl
+shape_of-ctl-then-not-out c = (alike_at c.before.before.before.before.before.before.before.before.before.before.before.before).ctl
 
 pub shape_of-heap-then-not-out : goal.shape_of-heap-then-not-out
-shape_of-heap-then-not-out c = (alike_at (goal.at.shape_of-heap-then-not-out c).After-main-in-loop-pause-1).heap
+shape_of-heap-then-not-out c = (alike_at c.before.before.before.before.before.before.before.before.before.before.before.before).heap
 
 pub returns-then-not-out : goal.returns-then-not-out
 returns-then-not-out c =
     let t = c.loop-pause-test.true in
     let S = c.step_with-out in
-    rw c.answered-then-not-out.ensures (paused-uncaught (paused-at (turn (goal.at.returns-then-not-out c).After-main-in-loop-pause-1)) t S.result S.ensures (not-true _ c.if-not-out.true))
+    rw c.answered-then-not-out.ensures (paused-uncaught (paused-at (turn c.before.before.before.before.before.before.before.before.before.before.before.before)) t S.result S.ensures (not-true _ c.if-not-out.true))
 
 pub overflow_sub-done-then-out-eq1 : goal.overflow_sub-done-then-out-eq1
-overflow_sub-done-then-out-eq1 c = omega (arith, (paused-at (turn (step (goal.at.overflow_sub-done-then-out-eq1 c).Else-not-out))).going.less)
+overflow_sub-done-then-out-eq1 c = omega (arith, (paused-at (turn (step c.before.before))).going.less)
 
 pub shape_of-main-then-out-eq1 : goal.shape_of-main-then-out-eq1
-shape_of-main-then-out-eq1 c = (alike_at (goal.at.shape_of-main-then-out-eq1 c).After-main-in-loop-pause-1).main
+shape_of-main-then-out-eq1 c = (alike_at c.before.before.before.before.before.before.before.before.before.before.before.before.before).main
 
 pub shape_of-ptr-then-out-eq1 : goal.shape_of-ptr-then-out-eq1
-shape_of-ptr-then-out-eq1 c = (alike_at (goal.at.shape_of-ptr-then-out-eq1 c).After-main-in-loop-pause-1).ptr
+shape_of-ptr-then-out-eq1 c = (alike_at c.before.before.before.before.before.before.before.before.before.before.before.before.before).ptr
 
 pub shape_of-ctl-then-out-eq1 : goal.shape_of-ctl-then-out-eq1
-shape_of-ctl-then-out-eq1 c = (alike_at (goal.at.shape_of-ctl-then-out-eq1 c).After-main-in-loop-pause-1).ctl
+shape_of-ctl-then-out-eq1 c = (alike_at c.before.before.before.before.before.before.before.before.before.before.before.before.before).ctl
 
 pub shape_of-heap-then-out-eq1 : goal.shape_of-heap-then-out-eq1
-shape_of-heap-then-out-eq1 c = (alike_at (goal.at.shape_of-heap-then-out-eq1 c).After-main-in-loop-pause-1).heap
+shape_of-heap-then-out-eq1 c = (alike_at c.before.before.before.before.before.before.before.before.before.before.before.before.before).heap
 
 pub returns-then-out-eq1 : goal.returns-then-out-eq1
 returns-then-out-eq1 c =
-    rw c.answered-then-out-eq1.ensures (going-finished (on-at (goal.at.returns-then-out-eq1 c).After-struct_known-in-loop-pause-4-1 (paused-at (turn (step (goal.at.returns-then-out-eq1 c).After-struct_known-in-loop-pause-4-1)))) c.if-out-eq1.true)
+    rw c.answered-then-out-eq1.ensures (going-finished (on-at c.before.before.before (paused-at (turn (step c.before.before.before)))) c.if-out-eq1.true)
 
 pub go_on-pause-requires-in-loop-pause : goal.go_on-pause-requires-in-loop-pause
 go_on-pause-requires-in-loop-pause c =
-    ((on-at (goal.at.go_on-pause-requires-in-loop-pause c).After-struct_known-in-loop-pause-4-1 (turn (step (goal.at.go_on-pause-requires-in-loop-pause c).After-struct_known-in-loop-pause-4-1)).loop.inv.paused).runs, c.if-out-eq1.false)
+    ((on-at c.before.before.before.before.before.before (turn (step c.before.before.before.before.before.before)).loop.inv.paused).runs, c.if-out-eq1.false)
 
 pub go_on-pause-requires-then-at_real-2 : goal.go_on-pause-requires-then-at_real-2
 go_on-pause-requires-then-at_real-2 c = paused-here c.go_on-pause-in-loop-pause.ensures
 
 pub loop-pause-smaller-then-at_real-2 : goal.loop-pause-smaller-then-at_real-2
 loop-pause-smaller-then-at_real-2 c =
-    omega (arith, fewer (goal.at.loop-pause-smaller-then-at_real-2 c).After-go_on-pause-in-loop-pause, c.go_on-pause-then-at_real-2.ensures.paused.going.less)
+    omega (arith, fewer c.before.before.before.before.before.before.before.before.before.before.before.before.before.before.before.before.before.before.before.before.before.before.before, c.go_on-pause-then-at_real-2.ensures.paused.going.less)
 
 pub loop-pause-preserved-then-at_real-2 : goal.loop-pause-preserved-then-at_real-2
 loop-pause-preserved-then-at_real-2 c =
-    rests-from (ahead-at (goal.at.loop-pause-preserved-then-at_real-2 c).After-go_on-pause-in-loop-pause).going c.go_on-pause-then-at_real-2.ensures
+    rests-from (ahead-at c.before.before.before.before.before.before.before.before.before.before.before.before.before.before.before.before.before.before.before.before.before.before.before).going c.go_on-pause-then-at_real-2.ensures
 
 pub loop-pause-smaller : goal.loop-pause-smaller
-loop-pause-smaller c = fewer (goal.at.loop-pause-smaller c).After-go_on-pause-in-loop-pause
+loop-pause-smaller c = fewer c.before.before.before.before.before.before.before.before.before.before
 
 pub loop-pause-preserved : goal.loop-pause-preserved
-loop-pause-preserved c = rests-other (ahead-at (goal.at.loop-pause-preserved c).After-go_on-pause-in-loop-pause) (sym c.if-at_real-2.false ∙ c.at_real-in-loop-pause.ensures)
+loop-pause-preserved c = rests-other (ahead-at c.before.before.before.before.before.before.before.before.before.before) (sym c.if-at_real-2.false ∙ c.at_real-in-loop-pause.ensures)
 
 pub shape_of-main : goal.shape_of-main
-shape_of-main c = (paused-at (goal.at.shape_of-main c).After-struct_known-in-loop-pause-1).going.alike.main
+shape_of-main c = (paused-at c.before.before.before).going.alike.main
 
 pub shape_of-ptr : goal.shape_of-ptr
-shape_of-ptr c = (paused-at (goal.at.shape_of-ptr c).After-struct_known-in-loop-pause-1).going.alike.ptr
+shape_of-ptr c = (paused-at c.before.before.before).going.alike.ptr
 
 pub shape_of-ctl : goal.shape_of-ctl
-shape_of-ctl c = (paused-at (goal.at.shape_of-ctl c).After-struct_known-in-loop-pause-1).going.alike.ctl
+shape_of-ctl c = (paused-at c.before.before.before).going.alike.ctl
 
 pub shape_of-heap : goal.shape_of-heap
-shape_of-heap c = (paused-at (goal.at.shape_of-heap c).After-struct_known-in-loop-pause-1).going.alike.heap
+shape_of-heap c = (paused-at c.before.before.before).going.alike.heap
 
 pub returns : goal.returns
-returns c = rw c.answered-2.ensures (paused-spent (paused-at (goal.at.returns c).After-struct_known-in-loop-pause-1) (omega (arith, c.loop-pause-test.false)))
+returns c = rw c.answered-2.ensures (paused-spent (paused-at c.before.before.before) (omega (arith, c.loop-pause-test.false)))

@@ -4,8 +4,8 @@ use Rattle.run_reals.proofs.Tags.{not-real}
 use Rattle.run_reals.proofs.at_real.Goals as goal
 
 pub returns-in_default : goal.returns-in_default
-returns-in_default c = not-real _ c.in_default.keys2
+returns-in_default c = not-real _ c.in_default.in_default-own.keys2
 
 pub returns : goal.returns
 unfolding at_real?
-returns c = rw c.enum_told-1.given.1
+returns c = rw c.in-Real.is

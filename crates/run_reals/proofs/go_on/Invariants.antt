@@ -1,4 +1,4 @@
--- `run_reals::go_on` meets its contract: instructions on reals and the steps between them are steps of the run; it ends where neither goes on.
+-- `run_reals::go-on` meets its contract: instructions on reals and the steps between them are steps of the run; it ends where neither goes on.
 use Rattle.run_steps.specs.Going.{Paused}
 use Rattle.run_reals.proofs.go_on.Given as goal
 

@@ -50,11 +50,11 @@ step-moved-requires c = real-ready c.loop-left.invariant.0
 
 pub shape_of-main-then-not-moved : goal.shape_of-main-then-not-moved
 shape_of-main-then-not-moved c =
-    c.step-moved.auto.1.0 ∙ (turned (goal.at.shape_of-main-then-not-moved c).After-step-moved).loop.invariant.1.kept
+    c.step-moved.auto.1.0 ∙ (turned c.before.before.before.before).loop.invariant.1.kept
 
 pub returns-then-not-moved : goal.returns-then-not-moved
 returns-then-not-moved c =
-    let I = (turned (goal.at.returns-then-not-moved c).After-step-moved).loop.invariant in
+    let I = (turned c.before.before.before.before).loop.invariant in
     let E = c.step-moved.ensures in
     let d = not-true _ c.if-not-moved.true in
     rw (E.1.0 d)
@@ -68,18 +68,18 @@ returns-then-not-moved c =
 pub bounds-file-place : goal.bounds-file-place
 bounds-file-place c =
     let d = not-false _ c.if-not-moved.false in
-    place_in (alive-ready (still-runs (goal.at.bounds-file-place c).After-step-moved d).alive (still-on (goal.at.bounds-file-place c).After-step-moved d))
+    place_in (alive-ready (still-runs c.before.before.before.before.before.before d).alive (still-on c.before.before.before.before.before.before d))
 
 pub shape_of-main-then-not-is_real : goal.shape_of-main-then-not-is_real
 shape_of-main-then-not-is_real c =
-    c.step-moved.auto.1.0 ∙ (turned (goal.at.shape_of-main-then-not-is_real c).After-step-moved).loop.invariant.1.kept
+    c.step-moved.auto.1.0 ∙ (turned c.before.before.before.before.before.before.before.before).loop.invariant.1.kept
 
 pub returns-then-not-is_real : goal.returns-then-not-is_real
 returns-then-not-is_real c =
     let some = c.loop-left-test.true in
     record {
-      reckons = further-on (goal.at.returns-then-not-is_real c).After-step-moved (not-false _ c.if-not-moved.false);
-      further = λ e. omega (arith, some, left-most (turned (goal.at.returns-then-not-is_real c).After-step-moved));
+      reckons = further-on c.before.before.before.before.before.before.before.before (not-false _ c.if-not-moved.false);
+      further = λ e. omega (arith, some, left-most (turned c.before.before.before.before.before.before.before.before));
       real = λ e. absurd (true≢false e);
       raises = λ e. absurd (true≢false e);
     }
@@ -87,7 +87,7 @@ returns-then-not-is_real c =
 pub overflow_add-at : goal.overflow_add-at
 overflow_add-at c =
     let d = not-false _ c.if-not-moved.false in
-    omega (arith, place-small (alive-ready (still-runs (goal.at.overflow_add-at c).After-step-moved d).alive (still-on (goal.at.overflow_add-at c).After-step-moved d)))
+    omega (arith, place-small (alive-ready (still-runs c.before.before.before.before.before.before.before.before d).alive (still-on c.before.before.before.before.before.before.before.before d)))
 
 pub loop-left-smaller : goal.loop-left-smaller
 loop-left-smaller c =
@@ -98,13 +98,13 @@ unfolding ins_at
 loop-left-preserved c =
     let d = not-false _ c.if-not-moved.false in (
       record {
-        rest = (now-at (goal.at.loop-left-preserved c).After-step-moved d).rest;
-        runs = still-runs (goal.at.loop-left-preserved c).After-step-moved d;
-        on? = still-on (goal.at.loop-left-preserved c).After-step-moved d;
+        rest = (now-at c.before.before.before.before.before.before.before.before d).rest;
+        runs = still-runs c.before.before.before.before.before.before.before.before d;
+        on? = still-on c.before.before.before.before.before.before.before.before d;
         real = sym (c.is_real.ensures _ _) ∙ not-false _ c.if-not-is_real.false-raw;
         body = refl;
       },
-      further-on (goal.at.loop-left-preserved c).After-step-moved d,
+      further-on c.before.before.before.before.before.before.before.before d,
     )
 
 pub shape_of-main : goal.shape_of-main
@@ -112,7 +112,7 @@ shape_of-main c = c.loop-left.invariant.1.kept
 
 pub returns : goal.returns
 returns c =
-    let S = entered (goal.at.returns c).At-loop-left in
+    let S = entered c.before in
     record {
       reckons = c.loop-left.invariant.1;
       further = λ e. omega (arith, c.loop-left-test.false, S.pre.1);

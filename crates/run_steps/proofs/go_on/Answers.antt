@@ -1,4 +1,4 @@
--- `run_steps::go_on` meets its contract: each turn is one step of the model, done without a loop; soundness, kept by each step, gives what the plan and its writes ask.
+-- `run_steps::go-on` meets its contract: each turn is one step of the model, done without a loop; soundness, kept by each step, gives what the plan and its writes ask.
 use mathlib.Core.Path.{refl, sym, ◌∙◌}
 use native.Mathlib.Omega.{arith}
 use Rattle.apply.proofs.Tags.{no_write}
@@ -22,7 +22,7 @@ plan_at-plan-requires c =
 pub returns-in_default : goal.returns-in_default
 returns-in_default c =
     let L = c.loop-left in
-    let late = stopped-raise c.plan_at-plan.ensures (no_write _ c.in_default.keys2) in
+    let late = stopped-raise c.plan_at-plan.ensures (no_write _ c.in_default.in_default-own.keys2) in
     rw c.stop.ensures (record { going = L.invariant.0; on? = L.invariant.1; stopped = λ h. late })
 
 pub shape_of-main-in_default : goal.shape_of-main-in_default
@@ -40,7 +40,7 @@ shape_of-heap-in_default c = (returns-in_default c).going.alike.heap
 pub apply-tried-requires : goal.apply-tried-requires
 apply-tried-requires c =
     let L = c.loop-left in
-    (alive-settles L.invariant.0.runs.alive L.invariant.1).writes _ (sym c.plan_at-plan.ensures ∙ c.plan-1.given.1)
+    (alive-settles L.invariant.0.runs.alive L.invariant.1).writes _ (sym c.plan_at-plan.ensures ∙ c.in-Write.is)
 
 pub loop-left-smaller : goal.loop-left-smaller
 loop-left-smaller c =
@@ -51,7 +51,7 @@ loop-left-preserved c =
     let I = c.loop-left.invariant in
     let A = c.apply-tried in
     let k = A.auto.1 in (
-      going-applied I.0 I.1 (sym c.plan-1.given.1 ∙ c.plan_at-plan.ensures) c.loop-left-test.true c.if-done.true A.ensures.0
+      going-applied I.0 I.1 (sym c.in-Write.is ∙ c.plan_at-plan.ensures) c.loop-left-test.true c.if-done.true A.ensures.0
           (record { main = k.0; ptr = k.1.0; ctl = k.1.1.0; heap = k.1.1.1.0 }),
       λ u. I.1 (sym A.ensures.1.0 ∙ u),
     )
@@ -60,7 +60,7 @@ pub returns-else-done : goal.returns-else-done
 returns-else-done c =
     let I = c.loop-left.invariant in
     let A = c.apply-tried in
-    rw c.stop-else-done.ensures (paused-late I.0 I.1 (sym c.plan-1.given.1 ∙ c.plan_at-plan.ensures) refl c.if-done.false A.ensures.0 A.ensures.1.1)
+    rw c.stop-else-done.ensures (paused-late I.0 I.1 (sym c.in-Write.is ∙ c.plan_at-plan.ensures) refl c.if-done.false A.ensures.0 A.ensures.1.1)
 
 pub shape_of-main-else-done : goal.shape_of-main-else-done
 shape_of-main-else-done c = (returns-else-done c).going.alike.main

@@ -1,4 +1,4 @@
--- `run_steps::go_on` meets its contract: each turn is one step of the model, done without a loop; soundness, kept by each step, gives what the plan and its writes ask.
+-- `run_steps::go-on` meets its contract: each turn is one step of the model, done without a loop; soundness, kept by each step, gives what the plan and its writes ask.
 use mathlib.Core.Path.{◌≡◌}
 use Rattle.run_steps.specs.Going.{Going}
 use Rattle.run_steps.proofs.go_on.Given as goal
