@@ -29,6 +29,7 @@ fn numbers(kind: u32, number: u32, place: usize, steps: u32) -> Reply
 }
 
 // An answer in numbers (Manual 7.1).
+#[tactic(auto, unfolding(model::specs::Calls::told_of))]
 fn told(answer: Answer) -> Reply
     ensures { as_told result ≡ told_of answer }
 {
