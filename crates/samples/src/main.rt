@@ -3,7 +3,7 @@
 // bytes in decimal; behind a slash the two budgets of a run cut in two. A line that starts with # is a comment.
 #![tactic(auto)]
 
-ghost use Rattle.std.specs.Prelude.{◌≡◌, ◌≤◌, length, take};
+ghost use Rattle.std.specs.Prelude.{◌≡◌, ◌≢◌, ℕ, ◌<◌, ◌≤◌, length, slice_index, take};
 
 use model::{FILE_MOST, REGISTER_BYTES};
 use std::io;
@@ -133,8 +133,9 @@ fn play(rt: &impl Print, text: &[u8], file: &[u8], budgets: &[u8]) -> io::Result
 // The first place of a byte at or behind `from`; the text's length where there is none.
 fn find(text: &[u8], from: usize, byte: u8) -> usize
     requires { from ≤ length text.now }
-    ensures low { from ≤ result }
-    ensures high { result ≤ length text.now }
+    ensures within { (from ≤ result) × (result ≤ length text.now) }
+    ensures before { (k : ℕ) → from ≤ k → k < result → slice_index text.now k ≢ byte }
+    ensures found { result < length text.now → slice_index text.now result ≡ byte }
 {
     for i in from..text.len() {
         if text[i] == byte {
