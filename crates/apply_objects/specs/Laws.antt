@@ -1,5 +1,5 @@
 -- What the code leaves of the heap where an object is made is what the model says: header, size and mark first, then the words of its parts.
-use Rattle.std.specs.Prelude.{ℕ, suc, ◌+◌, ◌<◌, ◌≡◌, refl, List, [], ◌∷◌, ◌++◌, length, set, replicate}
+use Rattle.std.specs.Prelude.{ℕ, suc, ◌+◌, ◌<◌, ◌≡◌, refl, zero, List, [], ◌∷◌, ◌++◌, length, set, replicate}
 use Rattle.std.proofs.Common.{ap, sym, ◌∙◌, arith}
 use Rattle.std.proofs.lemmas.List.{length-replicate, replicate-append-replicate}
 use Rattle.std.proofs.lemmas.List.Edits.{sets}
@@ -17,6 +17,7 @@ fill_more h from i n w e =
 set-swap : (l : List ℕ) (i v w : ℕ) → 0 < i → set (set l 0 v) i w ≡ set (set l i w) 0 v
 set-swap [] i v w a = refl
 set-swap (x ∷ l) (suc i) v w a = refl
+set-swap (x ∷ l) zero v w a = elim a [ ]
 
 sets-swap : (ws l : List ℕ) (i v : ℕ) → 0 < i → sets (set l 0 v) i ws ≡ set (sets l i ws) 0 v
 sets-swap [] l i v a = refl

@@ -129,6 +129,7 @@ words_inside h (q ∷ os) i m = go (mem-append i (range (q + 2) (ptrs_at h q)) (
     go (inr m) f =
         let r = f m in
         record { object = r.object; mem = inr r.mem; from = r.from; below = r.below }
+words_inside h [] i m = elim m [ ]
 
 inside-words : (h os : List ℕ) (i : ℕ) → InPointerPart h os i → Mem i (pointer_words h os)
 unfolding pointer_words
@@ -139,6 +140,7 @@ inside-words h os i I = go os I.object I.mem I.from I.below
         let b' : i < o + 2 + ptrs_at h o = rw e at b in
         mem-more i (range (o + 2) (ptrs_at h o)) (pointer_words h os) (mem-range (o + 2) (ptrs_at h o) i (omega arith) b')
     go (o ∷ os) q (inr m) a b = mem-right i (range (o + 2) (ptrs_at h o)) (pointer_words h os) (go os q m a b)
+    go [] q x3 a b = elim x3 [ ]
 
 pointer-words : (h os : List ℕ) (i : ℕ) → (i ≡ 1) ⊎ InPointerPart h os i → Mem i (1 ∷ pointer_words h os)
 pointer-words h os i (inl e) = inl e

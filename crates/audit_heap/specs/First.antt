@@ -84,6 +84,7 @@ module _ (P : ℕ → Bool) where
       go true u f w (inl m) = rw m u
       go true u f w (inr m) = f w i m
       go false u f w m = cc
+  all-good [] e i m = elim m [ ]
 
   pub none-bad : (is : List ℕ) → ((i : ℕ) → Mem i is → P i ≡ true) → first_bad P is ≡ Clean
   unfolding first_bad
@@ -116,6 +117,7 @@ module _ (P : ℕ → Bool) where
 pub range-mem : (q n i : ℕ) → Mem i (range q n) → (q ≤ i) × (i < q + n)
 range-mem q (suc n) i (inl e) = (omega arith, omega arith)
 range-mem q (suc n) i (inr m) = let r = range-mem (suc q) n i m in (omega arith, omega arith)
+range-mem q zero i x' = elim x' [ ]
 
 pub range-rising : (q n : ℕ) → Rising (range q n)
 range-rising q zero = tt

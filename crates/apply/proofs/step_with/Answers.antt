@@ -1,4 +1,5 @@
 -- `apply::step_with` meets its contract: a write that was left is applied, every other plan raises its code; of an instruction on reals that is what is asked.
+use borrow.Enum.Refused.{opened}
 use Rattle.plan_meaning.specs.Settled.{settle}
 use Rattle.apply.specs.Applied.{to-late}
 use Rattle.apply.specs.Ended.{ended_of, ends-raised}
@@ -8,15 +9,15 @@ use Rattle.apply.proofs.step_with.Goals as goal
 pub code_of-code-requires : goal.code_of-code-requires
 code_of-code-requires c =
     let S = c.requires.0 in
-    ((S.raises (no_write _ c.in_default.in_default-own.keys2)).main_top.fits, S.thrown)
+    ((S.raises (no_write _ (opened c.in_default.in_default-own.keys2))).main_top.fits, S.thrown)
 
 pub raise-requires : goal.raise-requires
 raise-requires c =
-    c.requires.0.raises (no_write _ c.in_default.in_default-own.keys2)
+    c.requires.0.raises (no_write _ (opened c.in_default.in_default-own.keys2))
 
 pub returns-in_default : goal.returns-in_default
 returns-in_default c =
-    ends-raised c.requires.0 (no_write _ c.in_default.in_default-own.keys2) c.requires.2 c.code_of_lem.ensures (c.raise.ensures _)
+    ends-raised c.requires.0 (no_write _ (opened c.in_default.in_default-own.keys2)) c.requires.2 c.code_of_lem.ensures (c.raise.ensures _)
 
 pub apply_late-next-requires : goal.apply_late-next-requires
 apply_late-next-requires c =

@@ -13,4 +13,4 @@ bounds-heap-0-2 c = simp length-set (omega arith)
 
 pub returns : goal.returns
 unfolding begun
-returns c = rw c.word-mark.ensures.is (refl, refl)
+returns c = record { first = rw c.word-mark.ensures.is; begun = rw c.word-mark.ensures.is }

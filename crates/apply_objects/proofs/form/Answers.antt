@@ -14,28 +14,28 @@ pub copy-requires : goal.copy-requires
 copy-requires c =
     let B = c.begin-first in
     let P = c.requires in
-    (P.pointers, P.ptr_fits, omega (arith, P.free, B.ensures.0, B.auto.0))
+    (P.pointers, P.ptr_fits, omega (arith, P.free, B.ensures.first, B.auto.heap))
 
 pub overflow_add-first : goal.overflow_add-first
 overflow_add-first c =
     let B = c.begin-first in
     let P = c.requires in
-    omega (arith, P.free, B.ensures.0, P.heap_at_most)
+    omega (arith, P.free, B.ensures.first, P.heap_at_most)
 
 pub copy-requires-2 : goal.copy-requires-2
 copy-requires-2 c =
     let B = c.begin-first in
     let P = c.requires in
-    (P.words, P.main_fits, omega (arith, P.free, B.ensures.0, B.auto.0, c.copy.auto.0))
+    (P.words, P.main_fits, omega (arith, P.free, B.ensures.first, B.auto.heap, c.copy.auto.heap))
 
 pub shape_of-heap : goal.shape_of-heap
 shape_of-heap c =
-    omega (arith, c.copy-2.auto.0, c.copy.auto.0, c.begin-first.auto.0)
+    omega (arith, c.copy-2.auto.heap, c.copy.auto.heap, c.begin-first.auto.heap)
 
 pub returns : goal.returns
 returns c =
     let B = c.begin-first in
     let P = c.requires in
-    both-copied _ _ _ _ B.ensures.0 B.ensures.1 _ _ (sym (length-slice c.args.put.at c.args.regs.ptop c.args.ptr.now P.ptr_fits))
+    both-copied _ _ _ _ B.ensures.first B.ensures.begun _ _ (sym (length-slice c.args.put.at c.args.regs.ptop c.args.ptr.now P.ptr_fits))
     (sym (length-slice c.args.put.mtop c.args.regs.mtop c.args.main.now P.main_fits)) c.copy.ensures
     c.copy-2.ensures

@@ -7,9 +7,9 @@ use Rattle.apply_objects.proofs.ptr_vector.Goals as goal
 
 pub shape_of-heap : goal.shape_of-heap
 shape_of-heap c =
-    simp length-set (omega (arith, c.fill.auto.0, c.begin-first.auto.0))
+    simp length-set (omega (arith, c.fill.auto.heap, c.begin-first.auto.heap))
 
 pub returns : goal.returns
 returns c =
     let B = c.begin-first in
-    pointers-filled _ _ _ _ B.ensures.0 B.ensures.1 _ _ c.word-count.ensures.is refl refl c.fill.ensures
+    pointers-filled _ _ _ _ B.ensures.first B.ensures.begun _ _ c.word-count.ensures.is refl refl c.fill.ensures

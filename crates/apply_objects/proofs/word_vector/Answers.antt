@@ -9,13 +9,13 @@ pub fill-requires : goal.fill-requires
 fill-requires c =
     let B = c.begin-first in
     let P = c.requires in
-    simp length-set (omega (arith, P.2.free, B.ensures.0, B.auto.0, c.word-count.ensures.is))
+    simp length-set (omega (arith, P.2.free, B.ensures.first, B.auto.heap, c.word-count.ensures.is))
 
 pub shape_of-heap : goal.shape_of-heap
 shape_of-heap c =
-    omega (arith, simp length-set at c.fill.auto.0, c.begin-first.auto.0)
+    omega (arith, simp length-set at c.fill.auto.heap, c.begin-first.auto.heap)
 
 pub returns : goal.returns
 returns c =
     let B = c.begin-first in
-    plain-filled _ _ _ _ B.ensures.0 B.ensures.1 _ _ c.word-count.ensures.is refl refl c.fill.ensures
+    plain-filled _ _ _ _ B.ensures.first B.ensures.begun _ _ c.word-count.ensures.is refl refl c.fill.ensures

@@ -154,63 +154,74 @@ returns-in-Nothing c =
     let P = c.requires in
     let e = c.in-Nothing.is in
     let F = fits-at P e in
-    plainly-cut P (main-kept P F) (ptr-kept P F) e refl
+    let r = plainly-cut P (main-kept P F) (ptr-kept P F) e refl in
+    record { state = r.0; undone = r.1 }
 
 pub returns-in-Pop : goal.returns-in-Pop
 returns-in-Pop c =
     let P = c.requires in
     let e = c.in-Pop.is in
-    plainly-cut P c.pop_last.ensures (ptr-kept P (fits-at P e).1) e refl
+    let r = plainly-cut P c.pop_last.ensures (ptr-kept P (fits-at P e).1) e refl in
+    record { state = r.0; undone = r.1 }
 
 pub returns-in-Push : goal.returns-in-Push
 returns-in-Push c =
     let P = c.requires in
     let e = c.in-Push.is in
     let F = (fits-at P e).1 in
-    plainly-main P (main-kept P F) (ptr-kept P F) e refl
+    let r = plainly-main P (main-kept P F) (ptr-kept P F) e refl in
+    record { state = r.0; undone = r.1 }
 
 pub returns-in-Main : goal.returns-in-Main
 returns-in-Main c =
     let P = c.requires in
     let e = c.in-Main.is in
-    plainly-main P c.pop_last-in-Main.ensures (ptr-kept P (fits-at P e).2) e refl
+    let r = plainly-main P c.pop_last-in-Main.ensures (ptr-kept P (fits-at P e).2) e refl in
+    record { state = r.0; undone = r.1 }
 
 pub returns-in-Pointer : goal.returns-in-Pointer
 returns-in-Pointer c =
     let P = c.requires in
     let e = c.in-Pointer.is in
-    plainly-ptr P (main-kept P (fits-at P e).1) c.pop_one.ensures e refl
+    let r = plainly-ptr P (main-kept P (fits-at P e).1) c.pop_one.ensures e refl in
+    record { state = r.0; undone = r.1 }
 
 pub returns-in-Heap : goal.returns-in-Heap
 returns-in-Heap c =
     let P = c.requires in
     let e = c.in-Heap.is in
-    plainly-heap P (main-kept P (fits-at P e).2) c.pop_some.ensures e refl _
+    let r = plainly-heap P (main-kept P (fits-at P e).2) c.pop_some.ensures e refl _ in
+    record { state = r.0; undone = r.1 }
 
 pub returns-in-Read : goal.returns-in-Read
 returns-in-Read c =
     let P = c.requires in
     let e = c.in-Read.is in
-    plainly-main P (main-kept P (fits-at P e).2) c.pop_some-in-Read.ensures e refl
+    let r = plainly-main P (main-kept P (fits-at P e).2) c.pop_some-in-Read.ensures e refl in
+    record { state = r.0; undone = r.1 }
 
 pub returns-in-ReadPointer : goal.returns-in-ReadPointer
 returns-in-ReadPointer c =
     let P = c.requires in
     let e = c.in-ReadPointer.is in
-    plainly-ptr P c.pop_last-in-ReadPointer.ensures (ptr-kept P (fits-at P e).2) e refl
+    let r = plainly-ptr P c.pop_last-in-ReadPointer.ensures (ptr-kept P (fits-at P e).2) e refl in
+    record { state = r.0; undone = r.1 }
 
 pub returns-in-Store : goal.returns-in-Store
 returns-in-Store c =
-    plainly-heap c.requires c.pop_last-in-Store.ensures c.pop_last-in-Store-2.ensures c.in-Store.is refl _
+    let r = plainly-heap c.requires c.pop_last-in-Store.ensures c.pop_last-in-Store-2.ensures c.in-Store.is refl _ in
+    record { state = r.0; undone = r.1 }
 
 pub returns-in-StoreWord : goal.returns-in-StoreWord
 returns-in-StoreWord c =
-    plainly-heap c.requires c.pop_some-in-StoreWord.ensures c.pop_last-in-StoreWord.ensures c.in-StoreWord.is refl _
+    let r = plainly-heap c.requires c.pop_some-in-StoreWord.ensures c.pop_last-in-StoreWord.ensures c.in-StoreWord.is refl _ in
+    record { state = r.0; undone = r.1 }
 
 pub returns-in-StorePointer : goal.returns-in-StorePointer
 returns-in-StorePointer c =
-    plainly-heap c.requires c.pop_last-in-StorePointer.ensures c.pop_some-in-StorePointer.ensures c.in-StorePointer.is refl _
+    let r = plainly-heap c.requires c.pop_last-in-StorePointer.ensures c.pop_some-in-StorePointer.ensures c.in-StorePointer.is refl _ in
+    record { state = r.0; undone = r.1 }
 
 pub returns-in_default : goal.returns-in_default
 returns-in_default c =
-    (λ ctl. c.drop_few.ensures _ _, λ e. (dropping c.requires c.in_default.in_default-own.keys12).retract)
+    record { state = λ ctl. c.drop_few.ensures _ _; undone = λ e. (dropping c.requires c.in_default.in_default-own.keys12).retract }

@@ -1,5 +1,6 @@
 -- `apply_words::put_back` meets its contract: an arm knows which stack the word goes to, and the last arm writes none.
 use native.Mathlib.Omega.{arith}
+use borrow.Enum.Refused.{opened}
 use Rattle.apply_words.proofs.Tags.{none-aside}
 use Rattle.apply_words.proofs.put_back.Goals as goal
 
@@ -22,4 +23,4 @@ pub returns-in-DropPointer : goal.returns-in-DropPointer
 returns-in-DropPointer c m em ep = rw (c.in-DropPointer.is, em, ep)
 
 pub returns-in_default : goal.returns-in_default
-returns-in_default c m em ep = rw (em, ep) (none-aside c.args.put.into c.args.put m c.in_default.in_default-own.keys3 c.requires.0)
+returns-in_default c m em ep = rw (em, ep) (none-aside c.args.put.into c.args.put m (opened c.in_default.in_default-own.keys3) c.requires.0)

@@ -35,11 +35,10 @@ returns-in-Fault c =
 pub bounds-marks-q : goal.bounds-marks-q
 bounds-marks-q c = omega arith
 
-object : (c : In_default invariant-loop decreases-loop) →
-    Object c.before.before.before.before.before.before.before.before.before.args.heap.now c.before.before.before.before.loop.q c.before.before.before.before.before.word.result
+object : (c : In_default) →
+    Object c.args.heap.now c.loop-q.q c.word-mark.result
 object c =
-    let turn = c.before.before.before.before in
-    marking-object _ _ _ _ _ _ turn.loop.invariant.1 turn.before.word.ensures _ c.before.before.judge-object.ensures c.enum_told.given.1
+    marking-object _ _ _ _ _ _ c.loop-q.invariant.1 c.word-mark.ensures _ c.judge_object-a.ensures c.in_default.is
 
 pub ptrs_at-links-requires : goal.ptrs_at-links-requires
 ptrs_at-links-requires c = omega (arith, object c)
@@ -48,13 +47,13 @@ pub overflow_add-links : goal.overflow_add-links
 overflow_add-links c = omega (arith, c.ptrs_at-links.ensures.small, c.loop-q.invariant.1.few)
 
 pub size_at-q-requires : goal.size_at-q-requires
-size_at-q-requires c = omega (arith, object c.before)
+size_at-q-requires c = omega (arith, object (goal.at.size_at-q-requires c).In_default)
 
 pub overflow_add-q : goal.overflow_add-q
 overflow_add-q c = omega (arith, c.size_at-q.ensures.small)
 
 pub loop-q-smaller : goal.loop-q-smaller
-loop-q-smaller c = omega (arith, object c.before.before, c.size_at-q.ensures.is)
+loop-q-smaller c = omega (arith, object (goal.at.loop-q-smaller c).In_default, c.size_at-q.ensures.is)
 
 pub loop-q-preserved : goal.loop-q-preserved
 loop-q-preserved c =

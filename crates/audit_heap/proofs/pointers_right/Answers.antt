@@ -27,13 +27,13 @@ pub overflow_add-end : goal.overflow_add-end
 overflow_add-end c = omega (arith, c.ptrs_at.ensures.small)
 
 -- the object at the turn's place
-object : (c : In-loop-q invariant-loop decreases-loop) →
-    let h = c.before.before.before.before.before.before.before.args.heap.now in
-    Object h c.before.loop.q (mark_of h)
-object c = pointing-object _ _ _ _ _ c.before.loop.invariant c.before.before.word.ensures c.loop-test.true
+object : (c : In-loop-q) →
+    let h = c.args.heap.now in
+    Object h c.loop-q.q (mark_of h)
+object c = pointing-object _ _ _ _ _ c.loop-q.invariant c.word-mark.ensures c.loop-q-test.true
 
 pub bad_pointer-a-requires : goal.bad_pointer-a-requires
-bad_pointer-a-requires c = omega (arith, object c.before, c.ptrs_at.ensures.is)
+bad_pointer-a-requires c = omega (arith, object (goal.at.bad_pointer-a-requires c).In-loop-q, c.ptrs_at.ensures.is)
 
 pub returns-in-Fault : goal.returns-in-Fault
 returns-in-Fault c =
@@ -41,13 +41,13 @@ returns-in-Fault c =
     c.ptrs_at.ensures c.bad_pointer-a.ensures c.in-Fault.is
 
 pub size_at-q-requires : goal.size_at-q-requires
-size_at-q-requires c = omega (arith, object c.before.before.before.before)
+size_at-q-requires c = omega (arith, object (goal.at.size_at-q-requires c).In-loop-q)
 
 pub overflow_add-q : goal.overflow_add-q
 overflow_add-q c = omega (arith, c.size_at-q.ensures.small)
 
 pub loop-q-smaller : goal.loop-q-smaller
-loop-q-smaller c = omega (arith, object c.before.before.before.before.before, c.size_at-q.ensures.is)
+loop-q-smaller c = omega (arith, object (goal.at.loop-q-smaller c).In-loop-q, c.size_at-q.ensures.is)
 
 pub loop-q-preserved : goal.loop-q-preserved
 loop-q-preserved c =

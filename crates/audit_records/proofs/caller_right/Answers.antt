@@ -27,19 +27,19 @@ pub returns-then-byte_at-ne-CALL : goal.returns-then-byte_at-ne-CALL
 returns-then-byte_at-ne-CALL c =
     let d = c.byte_at.ensures.is in
     let t = c.if-byte_at-ne-CALL.true in
-    λ lm lp. fails-all 3 (tests c.before.before.before.before lm lp) (not_call _ _ (omega arith))
+    λ lm lp. fails-all 3 (tests (goal.at.returns-then-byte_at-ne-CALL c).Start lm lp) (not_call _ _ (omega arith))
 
 pub returns-then-operand-w : goal.returns-then-operand-w
 returns-then-operand-w c =
     let d = c.operand.ensures in
     let t = c.if-operand-w.true in
-    λ lm lp. fails-all 4 (tests c.before.before.before.before.before.before.before lm lp) (omega arith)
+    λ lm lp. fails-all 4 (tests (goal.at.returns-then-operand-w c).Start lm lp) (omega arith)
 
 pub returns-then-w-c : goal.returns-then-w-c
 returns-then-w-c c =
     let n = call-after c.args.file.now c.args.c (sym c.byte_at.ensures.is ∙ c.if-byte_at-ne-CALL.false) in
     let t = c.if-w-c.true in
-    λ lm lp. fails-all 0 (tests c.before.before.before.before.before.before.before.before.before lm lp) (omega arith)
+    λ lm lp. fails-all 0 (tests (goal.at.returns-then-w-c c).Start lm lp) (omega arith)
 
 pub overflow_add-w : goal.overflow_add-w
 overflow_add-w c =
@@ -54,7 +54,7 @@ returns-then-w-head c =
     let o = sym c.operand.ensures ∙ c.if-operand-w.false in
     let p = (call-pops _ _ (sym c.byte_at.ensures.is ∙ c.if-byte_at-ne-CALL.false) _ o).0 in
     let t = c.if-w-head.true in
-    λ lm lp. fails-all 1 (tests c.before.before.before.before.before.before.before.before.before.before.before.before.before lm lp) (omega arith)
+    λ lm lp. fails-all 1 (tests (goal.at.returns-then-w-head c).Start lm lp) (omega arith)
 
 pub overflow_add-result : goal.overflow_add-result
 overflow_add-result c =
@@ -82,7 +82,7 @@ returns c =
     let u = c.if-w-c.false in
     let v = c.if-w-head.false in
     λ lm lp.
-    decided 2 (tests c.before.before.before.before.before.before.before.before.before.before.before.before.before.before.before.before lm lp) _
+    decided 2 (tests (goal.at.returns c).Start lm lp) _
     (λ i. leb (p i) (a.w.ptr_base + (hb ∙ sym pp) i))
     (λ t. let l = leb-true c.ptr_at.result (a.w.ptr_base + a.head.b) t in
     (omega arith, (omega arith, (omega arith, (is_call _ _ b _ pre.1 (omega arith), (o, tt))))))

@@ -44,33 +44,33 @@ fits-at c =
 pub returns-then-s-eq1 : goal.returns-then-s-eq1
 returns-then-s-eq1 c =
     let w = c.frame_at-w in
-    let S = entry c.before.before.before in
-    told-first _ _ _ _ _ _ _ w.result w.ensures.is S.pre.3 (own_at c.before.before.before) _ c.if-s-eq1.true
+    let S = entry (goal.at.returns-then-s-eq1 c).Else-not-frame_right in
+    told-first _ _ _ _ _ _ _ w.result w.ensures.is S.pre.3 (own_at (goal.at.returns-then-s-eq1 c).Else-not-frame_right) _ c.if-s-eq1.true
     (c.first_right.ensures S.args.file.now S.args.map.now S.args.lm S.args.lp)
 
 pub head_of-head-requires : goal.head_of-head-requires
 head_of-head-requires c =
-    let S = entry c.before.before in
+    let S = entry (goal.at.head_of-head-requires c).Else-not-frame_right in
     let a = S.args in
     let heads = S.pre.0.heads in
     let w = c.frame_at-w.result in
-    (heads, in-proc-below _ _ _ heads _ _ (frame-proc a.file.now a.map.now a.lm a.lp w (down a.ctl.now a.left) a.s (own_at c.before.before)))
+    (heads, in-proc-below _ _ _ heads _ _ (frame-proc a.file.now a.map.now a.lm a.lp w (down a.ctl.now a.left) a.s (own_at (goal.at.head_of-head-requires c).Else-not-frame_right)))
 
 pub caller_right-requires : goal.caller_right-requires
 caller_right-requires c =
     let w = c.frame_at-w in
-    let S = entry c.before.before.before.before in
+    let S = entry (goal.at.caller_right-requires c).Else-not-frame_right in
     let small = w.ensures.words.returns in
     let e = c.call_before-c.ensures in
     let l = call_below S.args.file.now w.result.returns in
-    (c.head_of-head.ensures, S.pre.0.shows, fits-at c.before.before.before.before, omega arith)
+    (c.head_of-head.ensures, S.pre.0.shows, fits-at (goal.at.caller_right-requires c).Else-not-frame_right, omega arith)
 
 pub returns-then-not-caller_right : goal.returns-then-not-caller_right
 returns-then-not-caller_right c =
     let w = c.frame_at-w in
-    let S = entry c.before.before.before.before.before.before in
+    let S = entry (goal.at.returns-then-not-caller_right c).Else-not-frame_right in
     let no = sym (not-true _ c.if-not-caller_right.true-raw) ∙ c.caller_right.ensures S.args.lm S.args.lp in
-    told-call _ _ _ _ _ _ _ w.result w.ensures.is S.pre.3 (own_at c.before.before.before.before.before.before) c.if-s-eq1.false _
+    told-call _ _ _ _ _ _ _ w.result w.ensures.is S.pre.3 (own_at (goal.at.returns-then-not-caller_right c).Else-not-frame_right) c.if-s-eq1.false _
     c.call_before-c.ensures no
 
 pub caller_of-requires : goal.caller_of-requires
@@ -79,17 +79,17 @@ caller_of-requires c =
     let head = c.head_of-head.ensures in
     let small = w.ensures.words.returns in
     let e = c.call_before-c.ensures in
-    let l = call_below (entry c.before.before.before.before.before.before).args.file.now w.result.returns in
-    (fits-at c.before.before.before.before.before.before, head.a_small, head.b_small, omega arith)
+    let l = call_below (entry (goal.at.caller_of-requires c).Else-not-frame_right).args.file.now w.result.returns in
+    (fits-at (goal.at.caller_of-requires c).Else-not-frame_right, head.a_small, head.b_small, omega arith)
 
 pub returns : goal.returns
 returns c =
     let w = c.frame_at-w in
-    let S = entry c.before.before.before.before.before.before.before in
+    let S = entry (goal.at.returns c).Else-not-frame_right in
     let a = S.args in
     let yes = sym (not-false _ c.if-not-caller_right.false-raw) ∙ c.caller_right.ensures a.lm a.lp in
     let call = c.call_before-c.result in
     let pops = popped-params a.file.now a.map.now a.lm a.lp w.result call c.head_of-head.result c.head_of-head.ensures yes in
     let r = c.caller_of.ensures in
-    told-caller _ _ _ _ _ _ _ w.result w.ensures.is S.pre.3 (own_at c.before.before.before.before.before.before.before) c.if-s-eq1.false _ c.call_before-c.ensures _ yes
+    told-caller _ _ _ _ _ _ _ w.result w.ensures.is S.pre.3 (own_at (goal.at.returns c).Else-not-frame_right) c.if-s-eq1.false _ c.call_before-c.ensures _ yes
     (r.0 a.file.now a.lm a.lp (effect_of a.file.now (ins_at a.file.now call)) pops) r.1

@@ -16,18 +16,18 @@ state S heap = let a = S.args in record { regs = a.regs; main = a.main.now; ptr 
 
 pub returns-then-not-zeros_from : goal.returns-then-not-zeros_from
 returns-then-not-zeros_from c =
-    λ heap K. fails-all 0 (stack_tests (state c.before.before.before.before.before.before heap)) (sym c.zeros_from.ensures ∙ not-true _ c.if-not-zeros_from.true-raw)
+    λ heap K. fails-all 0 (stack_tests (state (goal.at.returns-then-not-zeros_from c).Start heap)) (sym c.zeros_from.ensures ∙ not-true _ c.if-not-zeros_from.true-raw)
 
 pub returns-then-not-zeros_from-2 : goal.returns-then-not-zeros_from-2
 returns-then-not-zeros_from-2 c =
-    λ heap K. fails-all 1 (stack_tests (state c.before.before.before.before.before.before.before.before heap)) (sym c.zeros_from-2.ensures ∙ not-true _ c.if-not-zeros_from-2.true-raw)
+    λ heap K. fails-all 1 (stack_tests (state (goal.at.returns-then-not-zeros_from-2 c).Start heap)) (sym c.zeros_from-2.ensures ∙ not-true _ c.if-not-zeros_from-2.true-raw)
 
 pub returns-then-not-zeros_from-3 : goal.returns-then-not-zeros_from-3
 returns-then-not-zeros_from-3 c =
-    λ heap K. fails-all 2 (stack_tests (state c.before.before.before.before.before.before.before.before.before.before heap)) (sym c.zeros_from-3.ensures ∙ not-true _ c.if-not-zeros_from-3.true-raw)
+    λ heap K. fails-all 2 (stack_tests (state (goal.at.returns-then-not-zeros_from-3 c).Start heap)) (sym c.zeros_from-3.ensures ∙ not-true _ c.if-not-zeros_from-3.true-raw)
 
 pub returns : goal.returns
 returns c =
     let above = sym c.zeros_from-2.ensures ∙ not-false _ c.if-not-zeros_from-2.false-raw in
-    λ heap K. rest-last (state c.before.before.before.before.before.before.before.before.before.before.before heap) (sym c.zeros_from.ensures ∙ not-false _ c.if-not-zeros_from.false-raw) above
+    λ heap K. rest-last (state (goal.at.returns c).Start heap) (sym c.zeros_from.ensures ∙ not-false _ c.if-not-zeros_from.false-raw) above
     (sym c.zeros_from-3.ensures ∙ not-false _ c.if-not-zeros_from-3.false-raw) (c.audit_pointers.ensures _ K above)

@@ -17,7 +17,7 @@ admit_with-requires c =
 
 pub returns-then-heap-le-FEW : goal.returns-then-heap-le-FEW
 returns-then-heap-le-FEW c =
-    let l = lent c.before.before.before.before.before.before.before.before.before.before.before.before.before.before.before in
+    let l = lent (goal.at.returns-then-heap-le-FEW c).Start in
     (c.admit_with.ensures (register_tests l) l.bytes (λ few. if-self _)).found
 
 pub admit_with-requires-2 : goal.admit_with-requires-2
@@ -26,5 +26,5 @@ admit_with-requires-2 c =
 
 pub returns : goal.returns
 returns c =
-    let l = lent c.before.before.before.before.before.before.before.before.before.before.before.before.before.before.before in
+    let l = lent (goal.at.returns c).Start in
     (c.admit_with-2.ensures (register_tests l) l.bytes (λ few. if-self _)).found

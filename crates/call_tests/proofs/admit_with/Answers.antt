@@ -3,6 +3,7 @@ use native.Mathlib.Omega.{arith}
 use borrow.Author.Tests.{not-true, not-false}
 use mathlib.Core.List.{List, [], ◌∷◌}
 use Prim.Native.Nat.{ℕ}
+use borrow.Enum.Refused.{opened}
 use Rattle.model.specs.Choice.{Test, yes?}
 use Rattle.model.specs.Calls.{Lent}
 use Rattle.call_tests.specs.Admit.{Asks, first-whole, Measured, measured, heap-measured, admit-refused, admit-passes, admit-foreign, admit-lengths, admit-heap, admit-all}
@@ -11,7 +12,7 @@ use Rattle.call_tests.proofs.admit_with.Goals as goal
 use Rattle.call_tests.proofs.admit_with.Goals.{After-lengths_right, Start}
 
 pub returns-in_default : goal.returns-in_default
-returns-in_default c = λ ts bytes asks. admit-refused c.check_with-v.ensures (λ k e. omega (arith, rw e at c.in_default.in_default-own.keys2))
+returns-in_default c = λ ts bytes asks. admit-refused c.check_with-v.ensures (λ k e. omega (arith, rw e at (opened c.in_default.in_default-own.keys2)))
 
 pub returns-then-not-its : goal.returns-then-not-its
 returns-then-not-its c =
@@ -39,16 +40,16 @@ pub audit_heap-audit-requires : goal.audit_heap-audit-requires
 audit_heap-audit-requires c =
     let T = c.requires in
     let its = c.args.its in
-    let h = heap-measured (measured-at c.before.before (yes? its ∷ []) [] (λ few. if-self its)) c.if-lengths_right.true in
+    let h = heap-measured (measured-at (goal.at.audit_heap-audit-requires c).After-lengths_right (yes? its ∷ []) [] (λ few. if-self its)) c.if-lengths_right.true in
     (h.0, h.1, T.room h.1, T.fresh)
 
 pub returns-in-Fault : goal.returns-in-Fault
 returns-in-Fault c =
-    λ ts bytes asks. admit-heap (measured-at c.before.before.before.before.before.before.before.before ts bytes asks) c.if-lengths_right.true c.audit_heap-audit.ensures c.in-Fault.is
+    λ ts bytes asks. admit-heap (measured-at (goal.at.returns-in-Fault c).After-lengths_right ts bytes asks) c.if-lengths_right.true c.audit_heap-audit.ensures c.in-Fault.is
 
 pub returns-in-Clean : goal.returns-in-Clean
 returns-in-Clean c =
-    λ ts bytes asks. admit-all (measured-at c.before.before.before.before.before.before.before ts bytes asks) c.if-lengths_right.true c.audit_heap-audit.ensures c.in-Clean.is
+    λ ts bytes asks. admit-all (measured-at (goal.at.returns-in-Clean c).After-lengths_right ts bytes asks) c.if-lengths_right.true c.audit_heap-audit.ensures c.in-Clean.is
 
 pub returns-else-lengths_right : goal.returns-else-lengths_right
-returns-else-lengths_right c = λ ts bytes asks. admit-lengths (measured-at c.before ts bytes asks) c.if-lengths_right.false
+returns-else-lengths_right c = λ ts bytes asks. admit-lengths (measured-at (goal.at.returns-else-lengths_right c).After-lengths_right ts bytes asks) c.if-lengths_right.false

@@ -22,7 +22,7 @@ found_at c =
 
 pub regs_from-regs-requires : goal.regs_from-regs-requires
 regs_from-regs-requires c =
-    ((found_at c.before.before.before.before.before.before.before).found.shown _ c.in-Pass.is).its.0
+    ((found_at (goal.at.regs_from-regs-requires c).After-admit_with-v).found.shown _ c.in-Pass.is).its.0
 
 pub sound_state-requires : goal.sound_state-requires
 sound_state-requires c =
@@ -36,7 +36,7 @@ returns-then-sound_state c =
     test-sound (found_at c.before.before.before.before.before.before.before.before.before.before.before.before.before) c.in-Pass.is c.regs_from-regs.ensures.0 c.sound_state.ensures c.if-sound_state.true
 
 pub returns-in-Refuse : goal.returns-in-Refuse
-returns-in-Refuse c = test-refused (found_at c.before.before.before.before.before.before.before) c.in-Refuse.is
+returns-in-Refuse c = test-refused (found_at (goal.at.returns-in-Refuse c).After-admit_with-v) c.in-Refuse.is
 
 pub returns-else-sound_state : goal.returns-else-sound_state
 returns-else-sound_state c =

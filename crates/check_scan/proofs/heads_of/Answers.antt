@@ -8,14 +8,14 @@ use Rattle.check_scan.proofs.heads_of.Goals as goal
 use Rattle.check_scan.proofs.heads_of.Goals.{At-loop-k}
 
 -- the map keeps its length
-long-at : (c : At-loop-k invariant-loop decreases-loop) → let S = c.before.before.before in length c.loop.m ≡ length S.args.m.now
-long-at c = let S = c.before.before.before in c.loop.invariant.1.shows.long ∙ sym S.requires.shows.long
+long-at : (c : At-loop-k) → length c.loop-k.m ≡ length c.args.m.now
+long-at c = c.loop-k.invariant.1.shows.long ∙ sym c.requires.shows.long
 
 pub loop-k-init : goal.loop-k-init
 loop-k-init c = (refl, heading-start c.requires)
 
 pub shape_of-m-then-k-eq-PROCS_MOST : goal.shape_of-m-then-k-eq-PROCS_MOST
-shape_of-m-then-k-eq-PROCS_MOST c = long-at c.before.before
+shape_of-m-then-k-eq-PROCS_MOST c = long-at (goal.at.shape_of-m-then-k-eq-PROCS_MOST c).At-loop-k
 
 pub returns-then-k-eq-PROCS_MOST : goal.returns-then-k-eq-PROCS_MOST
 returns-then-k-eq-PROCS_MOST c =
@@ -62,7 +62,7 @@ loop-k-preserved c =
     )
 
 pub shape_of-m-else-right : goal.shape_of-m-else-right
-shape_of-m-else-right c = long-at c.before.before.before.before.before.before.before.before.before
+shape_of-m-else-right c = long-at (goal.at.shape_of-m-else-right c).At-loop-k
 
 pub returns-else-right : goal.returns-else-right
 returns-else-right c =
@@ -70,14 +70,14 @@ returns-else-right c =
     c.head_at-head.ensures c.head_right-right.ensures c.if-right.false
 
 pub shape_of-m-else-there : goal.shape_of-m-else-there
-shape_of-m-else-there c = long-at c.before.before.before.before.before.before
+shape_of-m-else-there c = long-at (goal.at.shape_of-m-else-there c).At-loop-k
 
 pub returns-else-there : goal.returns-else-there
 returns-else-there c =
     heading-alone c.requires c.loop-k.invariant.1 (omega arith) refl (omega arith) c.follows-there.ensures c.if-there.false
 
 pub shape_of-m : goal.shape_of-m
-shape_of-m c = long-at c.before
+shape_of-m c = long-at (goal.at.shape_of-m c).At-loop-k
 
 pub returns : goal.returns
 returns c =

@@ -76,10 +76,10 @@ returns-then-depths_ok c =
     let s = c.state_in-s.result in
     c.pass_both.ensures
     ∙ second-as a.m.now (a.p + 3) a.target (state (s.main - 1) s.ptr s.inner) c.at_Target.ensures
-    ∙ sym (all-passed (test-passes (left_at c.before.before.before.before.before.before.before) c.if-depths_ok.true))
+    ∙ sym (all-passed (test-passes (left_at (goal.at.returns-then-depths_ok c).After-depths_ok) c.if-depths_ok.true))
 
 pub returns-then-own : goal.returns-then-own
-returns-then-own c = stops (left_at c.before) c.if-depths_ok.false
+returns-then-own c = stops (left_at (goal.at.returns-then-own c).After-depths_ok) c.if-depths_ok.false
 
 pub returns : goal.returns
 returns c =

@@ -102,13 +102,13 @@ returns-then-kind_at-ne-PTR_VECTOR_KIND c =
     λ f m. ⊎_elim (λ e. rw e (rw (other c))) (λ e. rw e (rw (other c))) c.requires.7
 
 pub size_at-size-requires : goal.size_at-size-requires
-size_at-size-requires c = omega (arith, object c.before.before)
+size_at-size-requires c = omega (arith, object (goal.at.size_at-size-requires c).Else-object-eq0)
 
 pub overflow_sub-elements : goal.overflow_sub-elements
-overflow_sub-elements c = omega (arith, shape c.before, c.size_at-size.ensures.is)
+overflow_sub-elements c = omega (arith, shape (goal.at.overflow_sub-elements c).Else-kind_at-ne-PTR_VECTOR_KIND, c.size_at-size.ensures.is)
 
 pub slice_bounds-vector-count : goal.slice_bounds-vector-count
-slice_bounds-vector-count c = omega (arith, object c.before.before.before)
+slice_bounds-vector-count c = omega (arith, object (goal.at.slice_bounds-vector-count c).Else-object-eq0)
 
 part-vector-start : tie.Need-slice-bounds-vector-start
 part-vector-start c = omega (arith, object c.before.before.before)
@@ -117,10 +117,10 @@ part-vector-end : tie.Need-slice-bounds-vector-end
 part-vector-end c = search rules
 
 pub overflow_sub-bound : goal.overflow_sub-bound
-overflow_sub-bound c = omega (arith, shape c.before.before, c.size_at-size.ensures.is)
+overflow_sub-bound c = omega (arith, shape (goal.at.overflow_sub-bound c).Else-kind_at-ne-PTR_VECTOR_KIND, c.size_at-size.ensures.is)
 
 pub bounds-vector-bound : goal.bounds-vector-bound
-bounds-vector-bound c = inside c.before.before.before _ (omega (arith, shape c.before.before.before.before, c.size_at-size.ensures.is))
+bounds-vector-bound c = inside (goal.at.bounds-vector-bound c).After-size_at-size _ (omega (arith, shape (goal.at.bounds-vector-bound c).Else-kind_at-ne-PTR_VECTOR_KIND, c.size_at-size.ensures.is))
 
 pub returns-then-under : goal.returns-then-under
 unfolding planned plan_of basic_plan ins_of
@@ -129,7 +129,7 @@ returns-then-under c =
 
 pub bounds-vector-bound-2 : goal.bounds-vector-bound-2
 bounds-vector-bound-2 c =
-    inside c.before.before.before.before.before.before.before _ (omega (arith, shape c.before.before.before.before.before.before.before.before, c.size_at-size.ensures.is))
+    inside (goal.at.bounds-vector-bound-2 c).After-size_at-size _ (omega (arith, shape (goal.at.bounds-vector-bound-2 c).Else-kind_at-ne-PTR_VECTOR_KIND, c.size_at-size.ensures.is))
 
 pub distance-far-requires : goal.distance-far-requires
 distance-far-requires c = sym c.under.ensures ∙ c.if-under.false
@@ -140,7 +140,7 @@ returns-then-elements-far c =
     λ f m. ⊎_elim (λ e. rw e (rw (past c))) (λ e. rw e (rw (past c))) c.requires.7
 
 pub bounds-vector-element : goal.bounds-vector-element
-bounds-vector-element c = inside c.before.before.before.before.before.before.before.before.before.before.before.before _ (omega (arith, c.if-elements-far.false))
+bounds-vector-element c = inside (goal.at.bounds-vector-element c).After-size_at-size _ (omega (arith, c.if-elements-far.false))
 
 pub overflow_sub-value : goal.overflow_sub-value
 overflow_sub-value c =
@@ -159,9 +159,9 @@ unfolding planned plan_of basic_plan ins_of
 returns-in-83 c =
     let o = c.word-object.result in
     let w = word-heap-from c.args.heap.now o (2 + c.distance-far.result) in
-    λ f m. rw (c.writes.ensures, c.in-83.is, w) (rw (at c.before.before.before.before))
+    λ f m. rw (c.writes.ensures, c.in-83.is, w) (rw (at (goal.at.returns-in-83 c).Else-elements-far))
 
 pub returns-in_default : goal.returns-in_default
 unfolding planned plan_of basic_plan ins_of
 returns-in_default c =
-    λ f m. rw (c.writes-in_default.ensures, kinds.other c.requires.7 c.in_default.in_default-own.rest.1) (rw (at c.before.before.before.before.before))
+    λ f m. rw (c.writes-in_default.ensures, kinds.other c.requires.7 c.in_default.in_default-own.rest.1) (rw (at (goal.at.returns-in_default c).Else-elements-far))

@@ -84,14 +84,14 @@ returns-then-kind_at-ne-WORD_VECTOR_KIND c =
     λ f m. ⊎_elim (λ e. rw e (rw (other c))) (λ e. rw e (rw (other c))) c.requires.7
 
 pub size_at-elements-requires : goal.size_at-elements-requires
-size_at-elements-requires c = omega (arith, object c.before.before)
+size_at-elements-requires c = omega (arith, object (goal.at.size_at-elements-requires c).Else-object-eq0)
 
 pub overflow_sub-elements : goal.overflow_sub-elements
-overflow_sub-elements c = omega (arith, (shape c.before).1, c.size_at-elements.ensures.is)
+overflow_sub-elements c = omega (arith, (shape (goal.at.overflow_sub-elements c).Else-kind_at-ne-WORD_VECTOR_KIND).1, c.size_at-elements.ensures.is)
 
 pub bounds-heap-bound : goal.bounds-heap-bound
 bounds-heap-bound c =
-    omega (arith, object (c.before.before.before.before.before), (shape c.before.before.before).1)
+    omega (arith, object ((goal.at.bounds-heap-bound c).Else-object-eq0), (shape (goal.at.bounds-heap-bound c).Else-kind_at-ne-WORD_VECTOR_KIND).1)
 
 pub returns-then-under : goal.returns-then-under
 unfolding planned plan_of basic_plan ins_of
@@ -100,7 +100,7 @@ returns-then-under c =
 
 pub bounds-heap-bound-2 : goal.bounds-heap-bound-2
 bounds-heap-bound-2 c =
-    omega (arith, object (c.before.before.before.before.before.before.before.before.before), (shape (c.before.before.before.before.before.before.before)).1)
+    omega (arith, object ((goal.at.bounds-heap-bound-2 c).Else-object-eq0), (shape ((goal.at.bounds-heap-bound-2 c).Else-kind_at-ne-WORD_VECTOR_KIND)).1)
 
 pub distance-far-requires : goal.distance-far-requires
 distance-far-requires c = sym c.under.ensures ∙ c.if-under.false
@@ -112,7 +112,7 @@ returns-then-elements-far c =
 
 pub bounds-heap-at : goal.bounds-heap-at
 bounds-heap-at c =
-    omega (arith, object (c.before.before.before.before.before.before.before.before.before.before.before.before.before.before), c.size_at-elements.ensures.is, c.if-elements-far.false)
+    omega (arith, object ((goal.at.bounds-heap-at c).Else-object-eq0), c.size_at-elements.ensures.is, c.if-elements-far.false)
 
 pub overflow_sub-value : goal.overflow_sub-value
 overflow_sub-value c =
@@ -120,9 +120,9 @@ overflow_sub-value c =
 
 pub returns-in-82 : goal.returns-in-82
 unfolding planned plan_of basic_plan ins_of
-returns-in-82 c = λ f m. rw (c.writes.ensures, c.in-82.is) (rw (at c.before.before.before.before))
+returns-in-82 c = λ f m. rw (c.writes.ensures, c.in-82.is) (rw (at (goal.at.returns-in-82 c).Else-elements-far))
 
 pub returns-in_default : goal.returns-in_default
 unfolding planned plan_of basic_plan ins_of
 returns-in_default c =
-    λ f m. rw (c.writes-in_default.ensures, kinds.other c.requires.7 c.in_default.in_default-own.rest.1) (rw (at (c.before.before.before.before.before)))
+    λ f m. rw (c.writes-in_default.ensures, kinds.other c.requires.7 c.in_default.in_default-own.rest.1) (rw (at ((goal.at.returns-in_default c).Else-elements-far)))

@@ -46,39 +46,39 @@ returns-then-object-eq0 c =
     ⊎_elim (λ e. rw e (rw z)) (λ e. rw e (rw z)) c.requires.6
 
 pub in_plain-requires : goal.in_plain-requires
-in_plain-requires c = omega (arith, object c.before.before)
+in_plain-requires c = omega (arith, object (goal.at.in_plain-requires c).Else-object-eq0)
 
 pub returns-then-not-in_plain : goal.returns-then-not-in_plain
 unfolding planned plan_of basic_plan ins_of
-returns-then-not-in_plain c = λ m. let A = read_same c.before in rw c.in-30.is (rw (A.some, A.part ∙ not-true _ c.if-not-in_plain.true-raw))
+returns-then-not-in_plain c = λ m. let A = read_same (goal.at.returns-then-not-in_plain c).After-in_plain in rw c.in-30.is (rw (A.some, A.part ∙ not-true _ c.if-not-in_plain.true-raw))
 
 pub bounds-heap-at : goal.bounds-heap-at
 bounds-heap-at c =
-    omega (arith, object c.before.before.before.before.before.before, in-plain _ _ _ (sym c.in_plain.ensures ∙ not-false _ c.if-not-in_plain.false-raw))
+    omega (arith, object (goal.at.bounds-heap-at c).Else-object-eq0, in-plain _ _ _ (sym c.in_plain.ensures ∙ not-false _ c.if-not-in_plain.false-raw))
 
 pub may_set_plain-requires : goal.may_set_plain-requires
-may_set_plain-requires c = omega (arith, object c.before.before)
+may_set_plain-requires c = omega (arith, object (goal.at.may_set_plain-requires c).Else-object-eq0)
 
 pub returns-then-not-may_set_plain : goal.returns-then-not-may_set_plain
 unfolding planned plan_of basic_plan ins_of
-returns-then-not-may_set_plain c = λ m. let A = set_same c.before in rw (is_set c.before.before) (rw (A.some, A.part ∙ not-true _ c.if-not-may_set_plain.true-raw))
+returns-then-not-may_set_plain c = λ m. let A = set_same (goal.at.returns-then-not-may_set_plain c).After-may_set_plain in rw (is_set (goal.at.returns-then-not-may_set_plain c).In_default) (rw (A.some, A.part ∙ not-true _ c.if-not-may_set_plain.true-raw))
 
 pub overflow_sub-value : goal.overflow_sub-value
-overflow_sub-value c = omega (arith, c.requires.5 (is_set c.before.before.before))
+overflow_sub-value c = omega (arith, c.requires.5 (is_set (goal.at.overflow_sub-value c).In_default))
 
 pub bounds-main-value : goal.bounds-main-value
-bounds-main-value c = omega (arith, c.requires.5 (is_set c.before.before.before.before))
+bounds-main-value c = omega (arith, c.requires.5 (is_set (goal.at.bounds-main-value c).In_default))
 
 pub returns-else-not-in_plain : goal.returns-else-not-in_plain
 unfolding planned plan_of basic_plan ins_of
 returns-else-not-in_plain c =
     λ m.
-    let A = read_same c.before.before.before.before in
+    let A = read_same (goal.at.returns-else-not-in_plain c).After-in_plain in
     rw (c.writes.ensures, c.in-30.is, A.object, A.number) (rw (A.some, A.part ∙ not-false _ c.if-not-in_plain.false-raw))
 
 pub returns-else-not-may_set_plain : goal.returns-else-not-may_set_plain
 unfolding planned plan_of basic_plan ins_of
 returns-else-not-may_set_plain c =
     λ m.
-    let A = set_same c.before.before.before.before in
-    rw (c.writes-in_default.ensures, is_set (c.before.before.before.before.before), A.object, A.number) (rw (A.some, A.part ∙ not-false _ c.if-not-may_set_plain.false-raw))
+    let A = set_same (goal.at.returns-else-not-may_set_plain c).After-may_set_plain in
+    rw (c.writes-in_default.ensures, is_set ((goal.at.returns-else-not-may_set_plain c).In_default), A.object, A.number) (rw (A.some, A.part ∙ not-false _ c.if-not-may_set_plain.false-raw))

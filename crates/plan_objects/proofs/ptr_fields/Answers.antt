@@ -32,20 +32,20 @@ returns-then-object-eq0 c =
     ⊎_elim (λ e. rw e (rw z)) (λ e. rw e (rw z)) c.requires.5
 
 pub in_ptrs-requires : goal.in_ptrs-requires
-in_ptrs-requires c = omega (arith, object c.before)
+in_ptrs-requires c = omega (arith, object (goal.at.in_ptrs-requires c).Else-object-eq0)
 
 pub returns-then-not-in_ptrs : goal.returns-then-not-in_ptrs
 unfolding planned plan_of basic_plan ins_of
 returns-then-not-in_ptrs c =
     λ m.
-    let A = same c.before in
+    let A = same (goal.at.returns-then-not-in_ptrs c).After-in_ptrs in
     let t = A.part ∙ not-true _ c.if-not-in_ptrs.true-raw in
     ⊎_elim (λ e. rw e (rw (A.some, t))) (λ e. rw e (rw (A.some, t)))
     c.requires.5
 
 pub bounds-heap-slot : goal.bounds-heap-slot
 bounds-heap-slot c =
-    omega (arith, object c.before.before.before.before.before, in-ptrs _ _ _ (sym c.in_ptrs.ensures ∙ not-false _ c.if-not-in_ptrs.false-raw))
+    omega (arith, object (goal.at.bounds-heap-slot c).Else-object-eq0, in-ptrs _ _ _ (sym c.in_ptrs.ensures ∙ not-false _ c.if-not-in_ptrs.false-raw))
 
 pub overflow_sub-value : goal.overflow_sub-value
 overflow_sub-value c = let pre = c.requires in omega (arith, pre.4 (other pre.5 c.in_default.in_default-own.rest.1))
@@ -54,13 +54,13 @@ pub returns-in-31 : goal.returns-in-31
 unfolding planned plan_of basic_plan ins_of
 returns-in-31 c =
     λ m.
-    let A = same c.before.before.before.before in
+    let A = same (goal.at.returns-in-31 c).After-in_ptrs in
     rw (c.writes.ensures, c.in-31.is, A.object, A.number) (rw (A.some, A.part ∙ not-false _ c.if-not-in_ptrs.false-raw))
 
 pub returns-in_default : goal.returns-in_default
 unfolding planned plan_of basic_plan ins_of
 returns-in_default c =
     λ m.
-    let A = same c.before.before.before.before.before in
+    let A = same (goal.at.returns-in_default c).After-in_ptrs in
     let e = other c.requires.5 c.in_default.in_default-own.rest.1 in
     rw (c.writes-in_default.ensures, e, A.object, A.number) (rw (A.some, A.part ∙ not-false _ c.if-not-in_ptrs.false-raw))

@@ -28,34 +28,36 @@ entry c = c.before.before.before.before.before.before.before.before
 
 pub put_real-requires : goal.put_real-requires
 put_real-requires c =
-    let S = entry c.before.before.before.before.before.before in
+    let S = entry (goal.at.put_real-requires c).After-is_finite in
     let x = c.shifted-point.result in
     let t = sym c.is_finite.ensures ∙ c.if-is_finite.true in
     ((both_true (finite x.across) (finite x.along) t).0, omega (arith, c.cut_to.auto, S.pre.0.fits, S.pre.1))
 
 pub overflow_add-at-then-is_finite : goal.overflow_add-at-then-is_finite
-overflow_add-at-then-is_finite c = let S = entry c.before.before.before.before.before.before.before.before.before.before in omega (arith, S.pre.0.fits, S.pre.1)
+overflow_add-at-then-is_finite c = let S = entry (goal.at.overflow_add-at-then-is_finite c).After-is_finite in omega (arith, S.pre.0.fits, S.pre.1)
 
 pub put_real-requires-then-is_finite : goal.put_real-requires-then-is_finite
 put_real-requires-then-is_finite c =
-    let S = entry c.before.before.before.before.before.before.before.before.before.before in
+    let S = entry (goal.at.put_real-requires-then-is_finite c).After-is_finite in
     let x = c.shifted-point.result in
     let t = sym c.is_finite.ensures ∙ c.if-is_finite.true in
     let k = c.put_real.auto in
     ((both_true (finite x.across) (finite x.along) t).1, omega (arith, k, c.cut_to.auto, S.pre.0.fits, S.pre.1))
 
 pub overflow_add-at-then-is_finite-2 : goal.overflow_add-at-then-is_finite-2
-overflow_add-at-then-is_finite-2 c = let S = entry c.before.before.before.before.before.before.before.before.before.before.before.before.before in omega (arith, S.pre.0.fits, S.pre.2)
+overflow_add-at-then-is_finite-2 c = let S = entry (goal.at.overflow_add-at-then-is_finite-2 c).After-is_finite in omega (arith, S.pre.0.fits, S.pre.2)
 
 pub returns-then-is_finite : goal.returns-then-is_finite
 returns-then-is_finite c =
     let t = sym c.is_finite.ensures ∙ c.if-is_finite.true in
-    rw (c.goes_on.ensures, c.put_real-then-is_finite.ensures, c.put_real.ensures, c.cut_to.ensures) (
-      hoop-done _ _ _ c.requires.1 (as_point _) (point-is c.before.before.before.before.before.before.before.before.before.before.before.before.before.before) t,
+    let r = rw (c.goes_on.ensures, c.put_real-then-is_finite.ensures, c.put_real.ensures, c.cut_to.ensures) (
+      hoop-done _ _ _ c.requires.1 (as_point _) (point-is (goal.at.returns-then-is_finite c).After-is_finite) t,
       (λ e. absurd (true≢false e), refl),
-    )
+    ) in
+    record { does = r.0; kept = r.1; running = r.2 }
 
 pub returns : goal.returns
 returns c =
     let t = sym c.is_finite.ensures ∙ c.if-is_finite.false in
-    rw c.not-Finite.ensures (hoop-raises _ _ _ c.requires.1 (as_point _) (point-is c.before.before) t, (λ e. refl, refl))
+    let r = rw c.not-Finite.ensures (hoop-raises _ _ _ c.requires.1 (as_point _) (point-is (goal.at.returns c).After-is_finite) t, (λ e. refl, refl)) in
+    record { does = r.0; kept = r.1; running = r.2 }

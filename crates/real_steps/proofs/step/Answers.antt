@@ -37,21 +37,24 @@ unfolding ins_at
 returns-in-53 c =
     let e = c.in-53.is in
     let L = c.literal.ensures in
-    (rw (← after-literal _ _ _ e c.requires.1, e) L.0, L.1)
+    let r = (rw (← after-literal _ _ _ e c.requires.1, e) L.0, L.1) in
+    record { does = r.0; kept = r.1; running = r.2 }
 
 pub returns-in-155 : goal.returns-in-155
 unfolding ins_at ins_of
 returns-in-155 c =
     let e = c.in-155.is in
     let L = c.less.ensures in
-    (rw (← after-code _ _ _ _ (inr (inr (inr (inr (inl refl))))) e c.requires.1, e) L.0, L.1)
+    let r = (rw (← after-code _ _ _ _ (inr (inr (inr (inr (inl refl))))) e c.requires.1, e) L.0, L.1) in
+    record { does = r.0; kept = r.1; running = r.2 }
 
 pub returns-in-156 : goal.returns-in-156
 unfolding ins_at ins_of
 returns-in-156 c =
     let e = c.in-156.is in
     let L = c.hoop.ensures in
-    (rw (← after-code _ _ _ _ (inr (inr (inr (inr (inr refl))))) e c.requires.1, e) L.0, L.1)
+    let r = (rw (← after-code _ _ _ _ (inr (inr (inr (inr (inr refl))))) e c.requires.1, e) L.0, L.1) in
+    record { does = r.0; kept = r.1; running = r.2 }
 
 pub returns-in_default : goal.returns-in_default
 unfolding ins_at
@@ -59,4 +62,5 @@ returns-in_default c =
     let n = c.in_default.in_default-own.rest in
     let o = operation-ready c.requires.0 _ refl n.0.0.1 n.0.1 n.1 in
     let L = c.operation.ensures in
-    (rw (← after-code _ _ _ _ (operation-code c.requires.0 o) refl c.requires.1) (L.0 _ _), L.1)
+    let r = (rw (← after-code _ _ _ _ (operation-code c.requires.0 o) refl c.requires.1) (L.0 _ _), L.1) in
+    record { does = r.0; kept = r.1; running = r.2 }

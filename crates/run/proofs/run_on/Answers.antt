@@ -15,37 +15,37 @@ use Rattle.run.proofs.run_on.Goals as goal
 use Rattle.run.proofs.run_on.Goals.{After-go_on-pause-in-loop-pause, After-step_with-out, At-loop-pause, Else-not-out, Joined-at_real, Start}
 
 -- the places that the needs share: the entry, the first pause, a turn of the loop, behind `step_with`, behind its test, and behind the steps after that
-abbrev entry : Joined-at_real invariant-loop decreases-loop → Start invariant-loop decreases-loop
+abbrev entry : Joined-at_real → Start
 entry c = c.before.before.before.before.before.before.before.before.before.before.before.before.before.before.before.before.before.before.before.before.before.before
 
-abbrev turn : After-step_with-out invariant-loop decreases-loop → At-loop-pause invariant-loop decreases-loop
+abbrev turn : After-step_with-out → At-loop-pause
 turn c = c.before.before.before.before.before.before.before.before
 
-abbrev step : Else-not-out invariant-loop decreases-loop → After-step_with-out invariant-loop decreases-loop
+abbrev step : Else-not-out → After-step_with-out
 step c = c.before.before.before.before.before.before.before.before.before.before
 
-abbrev ahead : After-go_on-pause-in-loop-pause invariant-loop decreases-loop → Else-not-out invariant-loop decreases-loop
+abbrev ahead : After-go_on-pause-in-loop-pause → Else-not-out
 ahead c = c.before.before.before.before.before.before.before
 
 -- the machine at each
-abbrev entered : Start invariant-loop decreases-loop → Machine
+abbrev entered : Start → Machine
 entered S = let A = S.args in record { regs = A.regs; main = A.main.now; ptr = A.ptr.now; ctl = A.ctl.now; heap = A.heap.now }
 
-abbrev begun : Joined-at_real invariant-loop decreases-loop → Machine
-begun c = let L = c.if2 in record { regs = L.pause.regs; main = L.main; ptr = L.ptr; ctl = L.ctl; heap = L.heap }
+abbrev begun : Joined-at_real → Machine
+begun c = let L = c.if-at_real in record { regs = L.pause.regs; main = L.main; ptr = L.ptr; ctl = L.ctl; heap = L.heap }
 
-abbrev turned : At-loop-pause invariant-loop decreases-loop → Machine
-turned c = let L = c.loop in record { regs = L.pause.regs; main = L.main; ptr = L.ptr; ctl = L.ctl; heap = L.heap }
+abbrev turned : At-loop-pause → Machine
+turned c = let L = c.loop-pause in record { regs = L.pause.regs; main = L.main; ptr = L.ptr; ctl = L.ctl; heap = L.heap }
 
-abbrev stepped : After-step_with-out invariant-loop decreases-loop → Machine
+abbrev stepped : After-step_with-out → Machine
 stepped c =
-    let l = c.step-with.new.1.1 in
-    record { regs = c.step-with.result.regs; main = l.0; ptr = l.1.0; ctl = l.1.1.0; heap = l.1.1.1.0 }
+    let l = c.step_with-out.new.1.1 in
+    record { regs = c.step_with-out.result.regs; main = l.0; ptr = l.1.0; ctl = l.1.1.0; heap = l.1.1.1.0 }
 
-abbrev went : After-go_on-pause-in-loop-pause invariant-loop decreases-loop → Machine
+abbrev went : After-go_on-pause-in-loop-pause → Machine
 went c =
-    let l = c.go-on3.new.1.1 in
-    record { regs = c.go-on3.result.regs; main = l.0; ptr = l.1.0; ctl = l.1.1.0; heap = l.1.1.1.0 }
+    let l = c.go_on-pause-in-loop-pause.new.1.1 in
+    record { regs = c.go_on-pause-in-loop-pause.result.regs; main = l.0; ptr = l.1.0; ctl = l.1.1.0; heap = l.1.1.1.0 }
 
 -- a rest at what is equal
 rests-at : {f table main main' ptr ptr' ctl ctl' heap heap' : List ℕ} {n : ℕ} {m : Machine} {a a' : Pause} →
@@ -55,30 +55,30 @@ rests-at : {f table main main' ptr ptr' ctl ctl' heap heap' : List ℕ} {n : ℕ
 rests-at e₁ e₂ e₃ e₄ e₅ R = rw (e₁, e₂, e₃, e₄, e₅) R
 
 -- where the first steps pause, past instructions on reals
-rests-first : (c : Joined-at_real invariant-loop decreases-loop) →
+rests-first : (c : Joined-at_real) →
     let A = (entry c).args in
-    Rests A.file.now A.table.now A.budget (entered (entry c)) c.if2.pause.left (begun c) c.if2.pause.plan
+    Rests A.file.now A.table.now A.budget (entered (entry c)) c.if-at_real.pause.left (begun c) c.if-at_real.pause.plan
 rests-first c =
-    let P = c.before.before.before.before.before.before.before.before.before.before.go-on.ensures in
+    let P = c.go_on-pause.ensures in
     ⊎_elim (λ w. rests-at w.14 w.15 w.16 w.17 w.18 (rests-from P.going w.5.ensures))
-    (λ w. rests-at w.1 w.2 w.3 w.4 w.5 (rests-other P (sym w.0.left ∙ c.before.at-real.ensures)))
-    c.if2.branch
+    (λ w. rests-at w.1 w.2 w.3 w.4 w.5 (rests-other P (sym w.0.left ∙ c.at_real.ensures)))
+    c.if-at_real.branch
 
 -- at each turn the run has paused
-paused-at : (c : At-loop-pause invariant-loop decreases-loop) →
+paused-at : (c : At-loop-pause) →
     let A = (entry c.before).args in
-    Paused A.file.now A.table.now A.budget (entered (entry c.before)) c.loop.pause.left (turned c) c.loop.pause.plan
-paused-at c = paused-from (rests-first c.before).paused.going c.loop.invariant.paused
+    Paused A.file.now A.table.now A.budget (entered (entry c.before)) c.loop-pause.pause.left (turned c) c.loop-pause.pause.plan
+paused-at c = paused-from (rests-first c.before).paused.going c.loop-pause.invariant.paused
 
 -- `step_with` keeps the lengths
-kept_at : (c : After-step_with-out invariant-loop decreases-loop) → SameLengths (stepped c) (turned (turn c))
-kept_at c = let k = c.step-with.auto.1.1 in record { main = k.0; ptr = k.1.0; ctl = k.1.1.0; heap = k.1.1.1.0 }
+kept_at : (c : After-step_with-out) → SameLengths (stepped c) (turned (turn c))
+kept_at c = let k = c.step_with-out.auto.1.1 in record { main = k.0; ptr = k.1.0; ctl = k.1.1.0; heap = k.1.1.1.0 }
 
-alike_at : (c : After-step_with-out invariant-loop decreases-loop) → SameLengths (stepped c) (entered (entry (turn c).before))
+alike_at : (c : After-step_with-out) → SameLengths (stepped c) (entered (entry (turn c).before))
 alike_at c = alike-trans (kept_at c) (paused-at (turn c)).going.alike
 
 -- behind the test of `on`: a step further than at the turn
-on-at : {n : ℕ} {m : Machine} (c : Else-not-out invariant-loop decreases-loop) →
+on-at : {n : ℕ} {m : Machine} (c : Else-not-out) →
     let at-loop = turn (step c) in
     let A = (entry at-loop.before).args in
     let L = at-loop.loop.pause in
@@ -86,18 +86,18 @@ on-at : {n : ℕ} {m : Machine} (c : Else-not-out invariant-loop decreases-loop)
 on-at c P =
     let S = (step c).step-with in
     let t = (step c).before.before.before.before.before.before.if3.true in
-    paused-on P t S.result S.ensures (not-false _ c.if4.false) (kept_at (step c))
+    paused-on P t S.result S.ensures (not-false _ c.if-not-out.false) (kept_at (step c))
 
 -- and the steps after it, from the first pause on
-ahead-at : (c : After-go_on-pause-in-loop-pause invariant-loop decreases-loop) →
+ahead-at : (c : After-go_on-pause-in-loop-pause) →
     let first = (turn (step (ahead c))).before in
     let A = (entry first).args in
-    let R = c.go-on3.result in
+    let R = c.go_on-pause-in-loop-pause.result in
     Paused A.file.now A.table.now first.if2.pause.left (begun first) R.left (went c) R.plan
-ahead-at c = paused-from (on-at (ahead c) (turn (step (ahead c))).loop.inv.paused) c.go-on3.ensures
+ahead-at c = paused-from (on-at (ahead c) (turn (step (ahead c))).loop.inv.paused) c.go_on-pause-in-loop-pause.ensures
 
-fewer : (c : After-go_on-pause-in-loop-pause invariant-loop decreases-loop) → c.go-on3.result.left < (turn (step (ahead c))).loop.pause.left
-fewer c = omega (arith, c.go-on3.ensures.going.less, (step (ahead c)).before.before.before.before.before.before.if3.taken)
+fewer : (c : After-go_on-pause-in-loop-pause) → c.go_on-pause-in-loop-pause.result.left < (turn (step (ahead c))).loop.pause.left
+fewer c = omega (arith, c.go_on-pause-in-loop-pause.ensures.going.less, (step (ahead c)).before.before.before.before.before.before.if3.taken)
 
 pub returns-then-regs-eq1 : goal.returns-then-regs-eq1
 returns-then-regs-eq1 c = rw c.answered.ensures (sym (run-finished _ _ c.if-regs-eq1.true))
@@ -122,7 +122,7 @@ step_with-out-requires c =
     (rw P.is (alive-settles I.going.runs.alive I.on?), P.late, R.raises c.loop-pause-test.true)
 
 pub overflow_sub-done : goal.overflow_sub-done
-overflow_sub-done c = omega (arith, (paused-at (turn c.before.before.before.before.before.before.before.before.before.before.before)).going.less)
+overflow_sub-done c = omega (arith, (paused-at (turn (goal.at.overflow_sub-done c).After-step_with-out)).going.less)
 
 pub shape_of-main-then-not-out : goal.shape_of-main-then-not-out
 shape_of-main-then-not-out c = (alike_at c.before.before.before.before.before.before.before.before.before.before.before.before).main
@@ -143,7 +143,7 @@ returns-then-not-out c =
     rw c.answered-then-not-out.ensures (paused-uncaught (paused-at (turn c.before.before.before.before.before.before.before.before.before.before.before.before)) t S.result S.ensures (not-true _ c.if-not-out.true))
 
 pub overflow_sub-done-then-out-eq1 : goal.overflow_sub-done-then-out-eq1
-overflow_sub-done-then-out-eq1 c = omega (arith, (paused-at (turn (step c.before.before))).going.less)
+overflow_sub-done-then-out-eq1 c = omega (arith, (paused-at (turn (step (goal.at.overflow_sub-done-then-out-eq1 c).Else-not-out))).going.less)
 
 pub shape_of-main-then-out-eq1 : goal.shape_of-main-then-out-eq1
 shape_of-main-then-out-eq1 c = (alike_at c.before.before.before.before.before.before.before.before.before.before.before.before.before).main
@@ -170,17 +170,17 @@ go_on-pause-requires-then-at_real-2 c = paused-here c.go_on-pause-in-loop-pause.
 
 pub loop-pause-smaller-then-at_real-2 : goal.loop-pause-smaller-then-at_real-2
 loop-pause-smaller-then-at_real-2 c =
-    omega (arith, fewer c.before.before.before.before.before.before.before.before.before.before.before.before.before.before.before.before.before.before.before.before.before.before.before, c.go_on-pause-then-at_real-2.ensures.paused.going.less)
+    omega (arith, fewer (goal.at.loop-pause-smaller-then-at_real-2 c).After-go_on-pause-in-loop-pause, c.go_on-pause-then-at_real-2.ensures.paused.going.less)
 
 pub loop-pause-preserved-then-at_real-2 : goal.loop-pause-preserved-then-at_real-2
 loop-pause-preserved-then-at_real-2 c =
-    rests-from (ahead-at c.before.before.before.before.before.before.before.before.before.before.before.before.before.before.before.before.before.before.before.before.before.before.before).going c.go_on-pause-then-at_real-2.ensures
+    rests-from (ahead-at (goal.at.loop-pause-preserved-then-at_real-2 c).After-go_on-pause-in-loop-pause).going c.go_on-pause-then-at_real-2.ensures
 
 pub loop-pause-smaller : goal.loop-pause-smaller
-loop-pause-smaller c = fewer c.before.before.before.before.before.before.before.before.before.before
+loop-pause-smaller c = fewer (goal.at.loop-pause-smaller c).After-go_on-pause-in-loop-pause
 
 pub loop-pause-preserved : goal.loop-pause-preserved
-loop-pause-preserved c = rests-other (ahead-at c.before.before.before.before.before.before.before.before.before.before) (sym c.if-at_real-2.false ∙ c.at_real-in-loop-pause.ensures)
+loop-pause-preserved c = rests-other (ahead-at (goal.at.loop-pause-preserved c).After-go_on-pause-in-loop-pause) (sym c.if-at_real-2.false ∙ c.at_real-in-loop-pause.ensures)
 
 pub shape_of-main : goal.shape_of-main
 shape_of-main c = (paused-at c.before.before.before).going.alike.main

@@ -2,6 +2,7 @@
 use native.Mathlib.Omega.{arith}
 use borrow.Author.Tests.{not-true, not-false}
 use mathlib.Core.Path.{sym, ◌∙◌}
+use borrow.Enum.Refused.{opened}
 use Rattle.plan.specs.Arms.{place-small}
 use Rattle.theory_step.specs.Planning.{alive-ready}
 use Rattle.run_steps.specs.Going.{paused-from}
@@ -11,14 +12,14 @@ use Rattle.run_reals.proofs.go_on.Goals as goal
 use Rattle.run_reals.proofs.go_on.Goals.{After-reckon-past, At-loop-at}
 
 -- the turn whose instructions on reals were done
-abbrev turn : After-reckon-past invariant-loop decreases-loop → At-loop-at invariant-loop decreases-loop
+abbrev turn : After-reckon-past → At-loop-at
 turn c = c.before.before.before.before.before.before.before
 
 pub loop-at-init : goal.loop-at-init
 loop-at-init c = c.requires
 
 pub returns-in_default : goal.returns-in_default
-returns-in_default c = rests-other c.loop-at.invariant (not-real _ c.in_default.in_default-own.keys2)
+returns-in_default c = rests-other c.loop-at.invariant (not-real _ (opened c.in_default.in_default-own.keys2))
 
 pub shape_of-main-in_default : goal.shape_of-main-in_default
 shape_of-main-in_default c = (returns-in_default c).paused.going.alike.main
@@ -40,13 +41,13 @@ reckon-past-requires c =
 
 pub overflow_add-behind : goal.overflow_add-behind
 overflow_add-behind c =
-    let P = (turn c.before.before.before.before.before.before).loop.invariant in
+    let P = (turn (goal.at.overflow_add-behind c).After-reckon-past).loop.invariant in
     let K = c.reckon-past.ensures in
     omega (arith, place-small (alive-ready (going-past P K).runs.alive (on-past P K)))
 
 pub returns-then-not-past : goal.returns-then-not-past
 returns-then-not-past c =
-    rests-raised (turn c.before.before.before.before.before.before).loop.invariant c.reckon-past.ensures (not-true _ c.if-not-past.true)
+    rests-raised (turn (goal.at.returns-then-not-past c).After-reckon-past).loop.invariant c.reckon-past.ensures (not-true _ c.if-not-past.true)
 
 pub shape_of-main-then-not-past : goal.shape_of-main-then-not-past
 shape_of-main-then-not-past c = (returns-then-not-past c).paused.going.alike.main
@@ -62,7 +63,7 @@ shape_of-heap-then-not-past c = (returns-then-not-past c).paused.going.alike.hea
 
 pub go_on-at-requires : goal.go_on-at-requires
 go_on-at-requires c =
-    let P = (turn c.before.before.before.before.before.before.before.before.before).loop.invariant in
+    let P = (turn (goal.at.go_on-at-requires c).After-reckon-past).loop.invariant in
     let K = c.reckon-past.ensures in
     ((going-past P K).runs, on-past P K)
 
@@ -72,7 +73,7 @@ loop-at-smaller c =
 
 pub loop-at-preserved : goal.loop-at-preserved
 loop-at-preserved c =
-    paused-from (going-past (turn c.before.before.before.before.before.before.before.before.before.before.before.before.before.before.before.before.before.before).loop.invariant c.reckon-past.ensures) c.go_on-at.ensures
+    paused-from (going-past (turn (goal.at.loop-at-preserved c).After-reckon-past).loop.invariant c.reckon-past.ensures) c.go_on-at.ensures
 
 pub returns : goal.returns
 returns c = rests-spent c.loop-at.invariant c.loop-at-test.false

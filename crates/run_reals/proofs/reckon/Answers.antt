@@ -13,13 +13,13 @@ use Rattle.run_reals.proofs.reckon.Goals as goal
 use Rattle.run_reals.proofs.reckon.Goals.{After-step-moved, At-loop-left, Start}
 
 -- behind the step of a turn: what was known at the turn, and what holds where the result is finite
-abbrev turned : After-step-moved invariant-loop decreases-loop → At-loop-left invariant-loop decreases-loop
+abbrev turned : After-step-moved → At-loop-left
 turned c = c.before.before.before
 
-abbrev entered : At-loop-left invariant-loop decreases-loop → Start invariant-loop decreases-loop
+abbrev entered : At-loop-left → Start
 entered c = c.before.before.before
 
-module _ (c : tie.After-step invariant-loop decreases-loop) (finite : c.step.result.done ≡ true) where
+module _ (c : tie.After-step) (finite : c.step.result.done ≡ true) where
   abbrev now-at : let L = (turned c).loop in AtReal (entered (turned c)).args.file.now L.main L.r L.at
   now-at = (turned c).loop.invariant.0
 
@@ -36,8 +36,8 @@ module _ (c : tie.After-step invariant-loop decreases-loop) (finite : c.step.res
   still-runs = let E = c.step.ensures in reals-on now-at _ _ _ E.0 finite E.1.1 c.step.auto.1.0
 
 -- no more is left than at first
-left-most : (c : At-loop-left invariant-loop decreases-loop) → c.loop.left ≤ (entered c).args.budget
-left-most c = let A = (entered c).requires.0 in (c.loop.invariant.1.going A.rest A.runs).less
+left-most : (c : At-loop-left) → c.loop-left.left ≤ (entered c).args.budget
+left-most c = let A = (entered c).requires.0 in (c.loop-left.invariant.1.going A.rest A.runs).less
 
 pub loop-left-init : goal.loop-left-init
 loop-left-init c = (c.requires.0, reckons-none)
@@ -50,11 +50,11 @@ step-moved-requires c = real-ready c.loop-left.invariant.0
 
 pub shape_of-main-then-not-moved : goal.shape_of-main-then-not-moved
 shape_of-main-then-not-moved c =
-    c.step-moved.auto.1.0 ∙ (turned c.before.before.before.before).loop.invariant.1.kept
+    c.step-moved.auto.1.0 ∙ (turned (goal.at.shape_of-main-then-not-moved c).After-step-moved).loop.invariant.1.kept
 
 pub returns-then-not-moved : goal.returns-then-not-moved
 returns-then-not-moved c =
-    let I = (turned c.before.before.before.before).loop.invariant in
+    let I = (turned (goal.at.returns-then-not-moved c).After-step-moved).loop.invariant in
     let E = c.step-moved.ensures in
     let d = not-true _ c.if-not-moved.true in
     rw (E.1.0 d)
@@ -68,18 +68,18 @@ returns-then-not-moved c =
 pub bounds-file-place : goal.bounds-file-place
 bounds-file-place c =
     let d = not-false _ c.if-not-moved.false in
-    place_in (alive-ready (still-runs c.before.before.before.before.before.before d).alive (still-on c.before.before.before.before.before.before d))
+    place_in (alive-ready (still-runs (goal.at.bounds-file-place c).After-step-moved d).alive (still-on (goal.at.bounds-file-place c).After-step-moved d))
 
 pub shape_of-main-then-not-is_real : goal.shape_of-main-then-not-is_real
 shape_of-main-then-not-is_real c =
-    c.step-moved.auto.1.0 ∙ (turned c.before.before.before.before.before.before.before.before).loop.invariant.1.kept
+    c.step-moved.auto.1.0 ∙ (turned (goal.at.shape_of-main-then-not-is_real c).After-step-moved).loop.invariant.1.kept
 
 pub returns-then-not-is_real : goal.returns-then-not-is_real
 returns-then-not-is_real c =
     let some = c.loop-left-test.true in
     record {
-      reckons = further-on c.before.before.before.before.before.before.before.before (not-false _ c.if-not-moved.false);
-      further = λ e. omega (arith, some, left-most (turned c.before.before.before.before.before.before.before.before));
+      reckons = further-on (goal.at.returns-then-not-is_real c).After-step-moved (not-false _ c.if-not-moved.false);
+      further = λ e. omega (arith, some, left-most (turned (goal.at.returns-then-not-is_real c).After-step-moved));
       real = λ e. absurd (true≢false e);
       raises = λ e. absurd (true≢false e);
     }
@@ -87,7 +87,7 @@ returns-then-not-is_real c =
 pub overflow_add-at : goal.overflow_add-at
 overflow_add-at c =
     let d = not-false _ c.if-not-moved.false in
-    omega (arith, place-small (alive-ready (still-runs c.before.before.before.before.before.before.before.before d).alive (still-on c.before.before.before.before.before.before.before.before d)))
+    omega (arith, place-small (alive-ready (still-runs (goal.at.overflow_add-at c).After-step-moved d).alive (still-on (goal.at.overflow_add-at c).After-step-moved d)))
 
 pub loop-left-smaller : goal.loop-left-smaller
 loop-left-smaller c =
@@ -98,13 +98,13 @@ unfolding ins_at
 loop-left-preserved c =
     let d = not-false _ c.if-not-moved.false in (
       record {
-        rest = (now-at c.before.before.before.before.before.before.before.before d).rest;
-        runs = still-runs c.before.before.before.before.before.before.before.before d;
-        on? = still-on c.before.before.before.before.before.before.before.before d;
+        rest = (now-at (goal.at.loop-left-preserved c).After-step-moved d).rest;
+        runs = still-runs (goal.at.loop-left-preserved c).After-step-moved d;
+        on? = still-on (goal.at.loop-left-preserved c).After-step-moved d;
         real = sym (c.is_real.ensures _ _) ∙ not-false _ c.if-not-is_real.false-raw;
         body = refl;
       },
-      further-on c.before.before.before.before.before.before.before.before d,
+      further-on (goal.at.loop-left-preserved c).After-step-moved d,
     )
 
 pub shape_of-main : goal.shape_of-main
@@ -112,7 +112,7 @@ shape_of-main c = c.loop-left.invariant.1.kept
 
 pub returns : goal.returns
 returns c =
-    let S = entered c.before in
+    let S = entered (goal.at.returns c).At-loop-left in
     record {
       reckons = c.loop-left.invariant.1;
       further = λ e. omega (arith, c.loop-left-test.false, S.pre.1);

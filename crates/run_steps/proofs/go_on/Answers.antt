@@ -1,6 +1,7 @@
 -- `run_steps::go-on` meets its contract: each turn is one step of the model, done without a loop; soundness, kept by each step, gives what the plan and its writes ask.
 use mathlib.Core.Path.{refl, sym, ◌∙◌}
 use native.Mathlib.Omega.{arith}
+use borrow.Enum.Refused.{opened}
 use Rattle.apply.proofs.Tags.{no_write}
 use Rattle.theory_step.specs.Planning.{alive-ready}
 use Rattle.theory_step.specs.Settling.{alive-settles}
@@ -22,7 +23,7 @@ plan_at-plan-requires c =
 pub returns-in_default : goal.returns-in_default
 returns-in_default c =
     let L = c.loop-left in
-    let late = stopped-raise c.plan_at-plan.ensures (no_write _ c.in_default.in_default-own.keys2) in
+    let late = stopped-raise c.plan_at-plan.ensures (no_write _ (opened c.in_default.in_default-own.keys2)) in
     rw c.stop.ensures (record { going = L.invariant.0; on? = L.invariant.1; stopped = λ h. late })
 
 pub shape_of-main-in_default : goal.shape_of-main-in_default
