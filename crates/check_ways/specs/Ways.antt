@@ -396,7 +396,7 @@ module _ {f m : List ℕ} {h p : ℕ} {l : Limits} (H : Here f m h l.end p) (B :
   held-here = held-as m p s S H.held
 
   pub bounded-here : {o : Numbers} → OuterIs m (as_state s) o → Bounded (as_state s) (as_state o) l
-  bounded-here O = rw (O.is, S.is) (bounded f m h p l H B)
+  bounded-here O = rw (O.is ∙ ap (λ (u : State). innermost (state_in m) u) S.is, S.is) (bounded f m h p l H B)
 
 pub led : {f m : List ℕ} {h p kind : ℕ} {l : Limits} → Among f m h p l kind → (k n : ℕ) (sh : Shape) → kind ≡ k → suc (body_of k) ≡ n →
     shape_of f p (ins_of f p k) ≡ sh → Led f m h p n l sh
@@ -464,7 +464,7 @@ pub onwards-taken : {f m : List ℕ} {h p kind : ℕ} {l : Limits} {s o : Number
     StateIs m p s → OuterIs m (as_state s) o → r ≡ plainly (as_state s) (as_state o) l (after f p) (shape_of f p (ins_at f p)) → Onwards f m p l r
 unfolding ins_at
 onwards-taken {f} {m} {h} {p} {kind} {l} A a e S O w =
-    rw (w, O.is, S.is) (takes-plain f m h p l A.here A.bounds (rw A.kind_is (straight kind a e f p)))
+    rw (w, O.is ∙ ap (λ (u : State). innermost (state_in m) u) S.is, S.is) (takes-plain f m h p l A.here A.bounds (rw A.kind_is (straight kind a e f p)))
 
 module _ {f m : List ℕ} {p : ℕ} {l : Limits} {r : Onward} (W : Onwards f m p l r) where
   module _ {s : Numbers} (S : StateIs m p s) (g : r.goes ≡ true) where

@@ -29,7 +29,7 @@ use Rattle.theory_state.specs.Keep.{start-sound}
 use Rattle.theory_state.specs.Rules.{HeapLaws, KeptSound, kept_here, kept_on, step_keeps}
 use Rattle.theory_state.specs.Runs.{after-keeps, run-keeps}
 use Rattle.theory_state.specs.Registers.{sums-back, registers-back, sound-small}
-use Rattle.theory_state.specs.Testing.{test-cases, start-asks, run-asks, readied}
+use Rattle.theory_state.specs.Testing.{test-cases, start-asks, run-asks, readied, start_rest}
 
 -- a state between the steps of a run on the lists l
 abbrev pub Between : Lent → Machine → Type 0
@@ -193,7 +193,7 @@ module _ (H : HeapLaws) where
   ready_held : (l : Lent) → Bytes l.file → (start_of l).answer ≡ answer.Ready → HeldLists (start_of l).lists
   unfolding start_of
   ready_held l B =
-      test-cases {P = λ a. a.answer ≡ answer.Ready → HeldLists a.lists}
+      test-cases {P = λ a. a.answer ≡ answer.Ready → HeldLists a.lists} {ts = register_tests l} {l = l} {rest = start_rest}
       (record {
         by_check = λ n p map v e. absurd (true≢false (cc));
         by_registers = λ map v n e. absurd (true≢false (cc));

@@ -12,14 +12,14 @@ use Rattle.theory_checker.specs.Numbers.{verdict-number}
 use Rattle.audit_heap.specs.Audited.{fault-exact}
 use Rattle.audit_heap.specs.Faults.{one-fault}
 use Rattle.theory_state.specs.Testing.{test-cases, start-asks, asks-start, run-asks, asks-run, refused-number, refused-place, Never, ready-never}
-use Rattle.theory_state.specs.Testing.{run-never}
+use Rattle.theory_state.specs.Testing.{run-never, start_rest, run_rest}
 
 -- ts are the tests for 13, which say what it asks
 module _ {Registers : Type 0} (ts : List Test) (says : All ts → Registers) (said : Registers → All ts) (l : Lent) (q : ℕ) (rest : Lent → After) where
   tested-eleven : Never 11 rest → (tested ts l rest).answer ≡ Refused 11 q → HeapFault Registers l q
   unfolding check_of length_tests
   tested-eleven B =
-      test-cases {P = λ a. a.answer ≡ Refused 11 q → HeapFault Registers l q}
+      test-cases {P = λ a. a.answer ≡ Refused 11 q → HeapFault Registers l q} {ts = ts} {l = l} {rest = rest}
       (record {
         by_check = λ n p map v e. absurd (omega (arith, verdict-number l.file l.map map n p v, refused-number n 11 p q e));
         by_registers = λ map v n e. absurd (omega (arith, refused-number 13 11 0 q e));
@@ -43,8 +43,8 @@ unfolding start_of run_of
 refused-eleven l q =
     let S = register_tests l in
     let R = belong_tests l in (
-      (tested-eleven S (asks-start l) (start-asks l) l q _ (ready-never 11), eleven-tested S (asks-start l) (start-asks l) l q _),
-      λ n. (tested-eleven R (asks-run l) (run-asks l) l q _ (run-never 11 n (λ e. omega arith)), eleven-tested R (asks-run l) (run-asks l) l q _),
+      (tested-eleven S (asks-start l) (start-asks l) l q start_rest (ready-never 11), eleven-tested S (asks-start l) (start-asks l) l q start_rest),
+      λ n. (tested-eleven R (asks-run l) (run-asks l) l q (run_rest n) (run-never 11 n (λ e. omega arith)), eleven-tested R (asks-run l) (run-asks l) l q (run_rest n)),
     )
 
 -- check does not answer 11

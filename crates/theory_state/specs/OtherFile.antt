@@ -20,14 +20,14 @@ use Rattle.theory_checker.specs.Numbers.{verdict-number}
 use Rattle.registers.specs.Registers.{registers-length}
 use Rattle.theory_state.specs.Registers.{sums-back}
 use Rattle.theory_state.specs.Testing.{test-cases, start-asks, asks-start, run-asks, asks-run, refused-number, refused-place, Never, ready-never}
-use Rattle.theory_state.specs.Testing.{run-never}
+use Rattle.theory_state.specs.Testing.{run-never, start_rest, run_rest}
 
 -- ts are the tests for 13, which say what it asks
 module _ {Registers : Type 0} (ts : List Test) (says : All ts → Registers) (said : Registers → All ts) (l : Lent) (rest : Lent → After) where
   tested-thirteen : (p : ℕ) → Never 13 rest → (tested ts l rest).answer ≡ Refused 13 p → WrongRegisters Registers l p
   unfolding check_of
   tested-thirteen p B =
-      test-cases {P = λ a. a.answer ≡ Refused 13 p → WrongRegisters Registers l p}
+      test-cases {P = λ a. a.answer ≡ Refused 13 p → WrongRegisters Registers l p} {ts = ts} {l = l} {rest = rest}
       (record {
         by_check = λ n q map v e. absurd (omega (arith, verdict-number l.file l.map map n q v, refused-number n 13 q p e));
         by_registers = λ map v n e. record { passes = rw v; wrong = λ I. n (said I); place = sym (refused-place 13 13 0 p e) };
@@ -53,10 +53,10 @@ unfolding start_of run_of
 refused-thirteen l =
     let S = register_tests l in
     let R = belong_tests l in (
-      λ p. (tested-thirteen S (asks-start l) (start-asks l) l _ p (ready-never 13), thirteen-tested S (asks-start l) (start-asks l) l _ p),
+      λ p. (tested-thirteen S (asks-start l) (start-asks l) l start_rest p (ready-never 13), thirteen-tested S (asks-start l) (start-asks l) l start_rest p),
       λ n p. (
-        tested-thirteen R (asks-run l) (run-asks l) l _ p (run-never 13 n (λ e. omega arith)),
-        thirteen-tested R (asks-run l) (run-asks l) l _ p,
+        tested-thirteen R (asks-run l) (run-asks l) l (run_rest n) p (run-never 13 n (λ e. omega arith)),
+        thirteen-tested R (asks-run l) (run-asks l) l (run_rest n) p,
       ),
     )
 
@@ -71,7 +71,8 @@ sums-left f map new B v s e r =
 pub start-sums : StartSums
 unfolding start_of
 start-sums l B =
-    test-cases {P = λ a. a.answer ≡ Ready → (length a.lists.bytes ≡ 36) × (sums_from a.lists.bytes ≡ sums_of l.file)}
+    test-cases {P = λ a. a.answer ≡ Ready → (length a.lists.bytes ≡ 36) × (sums_from a.lists.bytes ≡ sums_of l.file)} {ts = register_tests l}
+    {l = l} {rest = start_rest}
     (record {
       by_check = λ n p map v e. absurd (true≢false (cc));
       by_registers = λ map v n e. absurd (true≢false (cc));
@@ -83,7 +84,8 @@ start-sums l B =
 pub run-sums : RunSums
 unfolding run_of
 run-sums n l B =
-    test-cases {P = λ a. (length a.lists.bytes ≡ length l.bytes) × (sums_from a.lists.bytes ≡ sums_from l.bytes)}
+    test-cases {P = λ a. (length a.lists.bytes ≡ length l.bytes) × (sums_from a.lists.bytes ≡ sums_from l.bytes)} {ts = belong_tests l} {l = l}
+    {rest = run_rest n}
     (record {
       by_check = λ k p map v. (refl, refl);
       by_registers = λ map v k. (refl, refl);

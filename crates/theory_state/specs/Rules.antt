@@ -179,7 +179,7 @@ module _ {m : Machine} {os : List ℕ} {m' : Machine} (O : Order m os m') where
 
 push-words : {m : Machine} {os : List ℕ} {m' : Machine} → Order m os m' → (ws : List ℕ) → Order m os (push_words ws m')
 push-words O [] = O
-push-words O (w ∷ ws) = push-words (push-main O w) ws
+push-words {m = m} {os = os} {m' = m'} O (w ∷ ws) = push-words {m = m} {os = os} {m' = push_main w m'} (push-main O w) ws
 
 push-new : {m : Machine} {os : List ℕ} {m' : Machine} (kind : ℕ) (ps ws : List ℕ) → Order m os m' →
     (F : Formed m'.heap os (made kind ps ws m'.heap)) → Order m F.objects (push_new kind ps ws m')

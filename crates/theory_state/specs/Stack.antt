@@ -1,6 +1,6 @@
 -- The control records as a statement, `Stack`, which model's `stack?` computes: `stack?-true` and `true-stack?`, by induction on the
 -- records, since both read the same tests. A record on top is a constructor; the rest says what every such stack has.
-use Rattle.std.specs.Prelude.{ℕ, suc, ◌-◌, ◌<◌, ◌≤◌, ◌≡◌, true, ◌⊎◌, ◌≢◌, length, eqb}
+use Rattle.std.specs.Prelude.{ℕ, zero, suc, ◌-◌, ◌<◌, ◌≤◌, ◌≡◌, true, ◌⊎◌, ◌≢◌, length, eqb}
 use Rattle.std.proofs.Math.Path.{refl}
 use Rattle.std.proofs.Common.{sym, true≢false, inl, inr, arith}
 use mathlib.Core.List.{List, [], ◌∷◌}
@@ -90,12 +90,14 @@ module _ (f map : List ℕ) (lm lp : ℕ) where
   stack-frame l (suc n) {k = k} (first z u F T) = let e : k.frame - 1 ≡ n = omega (arith, down-length l n) in rw e F
   stack-frame l (suc n) {k = k} (frame z u F b T S) = let e : k.frame - 1 ≡ n = omega (arith, down-length l n) in rw e F
   stack-frame l (suc n) (handler u T S) = stack-frame l n S
+  stack-frame l zero {k = k} x' = elim x' [ ]
 
   -- the records that the look names are among the n
   pub stack-numbers : (l : List ℕ) (n : ℕ) {k : Look} → Stack (down l n) k → (k.frame ≤ n) × (k.handler ≤ n)
   stack-numbers l (suc n) (first z u F T) = (omega arith, omega arith)
   stack-numbers l (suc n) (frame z u F b T S) = let r = stack-numbers l n S in (omega (arith, down-length l n), omega arith)
   stack-numbers l (suc n) (handler u T S) = let r = stack-numbers l n S in (omega arith, omega (arith, down-length l n))
+  stack-numbers l zero {k = k} x' = elim x' [ ]
 
   -- where an exception goes: the topmost of n records that is a handler's, number h, and how it is looked at
   pub record HandlerFound (l : List ℕ) (n h : ℕ) : Type 0 where
@@ -129,3 +131,4 @@ module _ (f map : List ℕ) (lm lp : ℕ) where
           })
   find-handler l (suc n) {k = k} e (handler u T S) =
       inr (record { look = k; number = refl; opened = e; some = u; under = n; below = omega arith; tests = T; stack = S })
+  find-handler l zero {k = k} e x'' = elim x'' [ ]

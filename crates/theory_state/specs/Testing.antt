@@ -55,6 +55,13 @@ module _ {P : After → Type 0} {ts : List Test} {l : Lent} {rest : Lent → Aft
       go (pass map) e = registers map e (all ts) refl
       go (refuse n p map) e = C.by_check n p map e
 
+-- what follows the tests, in start and in run
+abbrev pub start_rest : Lent → After
+start_rest l = answers Ready (leaving (sums_of l.file) l (started l))
+
+abbrev pub run_rest : ℕ → Lent → After
+run_rest n l = demand (sound_tests l) 12 l (ran_from n l)
+
 -- what 13 asks, as its tests and as statements
 pub start-asks : (l : Lent) → StartRegisters l → All (register_tests l)
 start-asks l I = (I, tt)

@@ -1,6 +1,6 @@
 -- The plan of an alive state that is not finished comes to the model's step and can be settled: `Settles`, which `step_with` asks for. What
 -- the bridge asks of a machine (`Apt`) follows from what planning had (`Ready`); a raise finds its handler's record on the control stack.
-use Rattle.std.specs.Prelude.{ℕ, suc, ◌-◌, ◌≡◌, refl, List, ◌⊎◌, ◌≢◌, length}
+use Rattle.std.specs.Prelude.{ℕ, zero, suc, ◌-◌, ◌≡◌, refl, List, ◌⊎◌, ◌≢◌, length}
 use Rattle.std.proofs.Common.{subst, ◌∙◌, inl, inr, arith}
 use Rattle.model.specs.Choice.{Mem}
 use Rattle.model.specs.File.{exit}
@@ -54,6 +54,7 @@ module _ {f map table : List ℕ} {m : Machine} (A : Alive f map table m) (n i j
       go (suc k) d (first z o F T) = absurd (u z)
       go (suc k) d (frame z o F b T S) = absurd (u z)
       go (suc k) d (handler o T S) = omega (arith, R.ctl_top, d, T.0, down-length m.ctl k)
+      go zero d x'' = elim x'' [ ]
 
   stands : Stands f m
   stands =

@@ -17,7 +17,7 @@ raise-requires c =
 
 pub returns-in_default : goal.returns-in_default
 returns-in_default c =
-    ends-raised c.requires.0 (no_write _ (opened c.in_default.in_default-own.keys2)) c.requires.2 c.code_of_lem.ensures (c.raise.ensures _)
+    ends-raised c.requires.0 (no_write _ (opened c.in_default.in_default-own.keys2)) c.requires.2 c.code_of-code.ensures (c.raise.ensures _)
 
 pub apply_late-next-requires : goal.apply_late-next-requires
 apply_late-next-requires c =

@@ -16,10 +16,10 @@ pub end_of-requires : goal.end_of-requires
 end_of-requires c = (c.requires.0.heads.placed, c.if-k-n.false)
 
 pub returns-then-end_of-p : goal.returns-then-end_of-p
-returns-then-end_of-p c = let e = c.end_of_lem.ensures in within-high _ _ _ _ c.requires.0 _ _ (omega arith)
+returns-then-end_of-p c = let e = c.end_of.ensures in within-high _ _ _ _ c.requires.0 _ _ (omega arith)
 
 pub returns : goal.returns
 returns c =
-    let e = c.end_of_lem.ensures in
+    let e = c.end_of.ensures in
     rw c.main_at.ensures.is
     (within-here _ _ _ _ c.requires.0 _ _ c.if-k-n.false c.if-p-table.false (omega arith))

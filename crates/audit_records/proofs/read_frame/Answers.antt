@@ -13,7 +13,7 @@ use Rattle.audit_places.specs.Places.{in-proc-below}
 use Rattle.laws.specs.Records.{down-length}
 use Rattle.audit_records.specs.Records.{the_look, BasesFit, frame-proc, frame_fits, call_below, popped-params, told-frame, told-first, told-call, told-caller}
 use Rattle.audit_records.proofs.read_frame.Goals as goal
-use Rattle.audit_records.proofs.read_frame.Goals.{Else-not-frame_right, Start}
+use Rattle.audit_records.proofs.read_frame.Goals.{Else-not-frame_right}
 
 pub frame_right-requires : goal.frame_right-requires
 frame_right-requires c = let pre = c.requires in (pre.0, pre.1.near, pre.1.few)
@@ -25,52 +25,44 @@ returns-then-not-frame_right c =
     told-frame _ _ _ _ _ _ _ w.result w.ensures.is c.requires.3 own
 
 -- where the frame's record has passed its tests
-abbrev entry : Else-not-frame_right → Start
-entry c = c.before.before.before.before.before.before
-
 own_at : (c : Else-not-frame_right) →
-    let a = (entry c).args in
+    let a = c.args in
     true ≡ all (frame_tests a.file.now a.map.now a.lm a.lp (the_frame c.frame_at-w.result) (down a.ctl.now a.left) (the_look a.s))
 own_at c =
-    let a = (entry c).args in
+    let a = c.args in
     sym (not-false _ c.if-not-frame_right.false-raw) ∙ c.frame_right.ensures (down a.ctl.now a.left) (down-length a.ctl.now a.left)
 
 fits-at : (c : Else-not-frame_right) → BasesFit c.frame_at-w.result
 fits-at c =
-    let S = entry c in
-    let a = S.args in
-    frame_fits a.file.now a.map.now a.lm a.lp _ (down a.ctl.now a.left) a.s (own_at c) S.pre.1.main S.pre.1.ptr
+    let a = c.args in
+    frame_fits a.file.now a.map.now a.lm a.lp _ (down a.ctl.now a.left) a.s (own_at c) c.requires.1.main c.requires.1.ptr
 
 pub returns-then-s-eq1 : goal.returns-then-s-eq1
 returns-then-s-eq1 c =
     let w = c.frame_at-w in
-    let S = entry (goal.at.returns-then-s-eq1 c).Else-not-frame_right in
-    told-first _ _ _ _ _ _ _ w.result w.ensures.is S.pre.3 (own_at (goal.at.returns-then-s-eq1 c).Else-not-frame_right) _ c.if-s-eq1.true
-    (c.first_right.ensures S.args.file.now S.args.map.now S.args.lm S.args.lp)
+    told-first _ _ _ _ _ _ _ w.result w.ensures.is c.requires.3 (own_at (goal.at.returns-then-s-eq1 c).Else-not-frame_right) _ c.if-s-eq1.true
+    (c.first_right.ensures c.args.file.now c.args.map.now c.args.lm c.args.lp)
 
 pub head_of-head-requires : goal.head_of-head-requires
 head_of-head-requires c =
-    let S = entry (goal.at.head_of-head-requires c).Else-not-frame_right in
-    let a = S.args in
-    let heads = S.pre.0.heads in
+    let a = c.args in
+    let heads = c.requires.0.heads in
     let w = c.frame_at-w.result in
     (heads, in-proc-below _ _ _ heads _ _ (frame-proc a.file.now a.map.now a.lm a.lp w (down a.ctl.now a.left) a.s (own_at (goal.at.head_of-head-requires c).Else-not-frame_right)))
 
 pub caller_right-requires : goal.caller_right-requires
 caller_right-requires c =
     let w = c.frame_at-w in
-    let S = entry (goal.at.caller_right-requires c).Else-not-frame_right in
     let small = w.ensures.words.returns in
     let e = c.call_before-c.ensures in
-    let l = call_below S.args.file.now w.result.returns in
-    (c.head_of-head.ensures, S.pre.0.shows, fits-at (goal.at.caller_right-requires c).Else-not-frame_right, omega arith)
+    let l = call_below c.args.file.now w.result.returns in
+    (c.head_of-head.ensures, c.requires.0.shows, fits-at (goal.at.caller_right-requires c).Else-not-frame_right, omega arith)
 
 pub returns-then-not-caller_right : goal.returns-then-not-caller_right
 returns-then-not-caller_right c =
     let w = c.frame_at-w in
-    let S = entry (goal.at.returns-then-not-caller_right c).Else-not-frame_right in
-    let no = sym (not-true _ c.if-not-caller_right.true-raw) ∙ c.caller_right.ensures S.args.lm S.args.lp in
-    told-call _ _ _ _ _ _ _ w.result w.ensures.is S.pre.3 (own_at (goal.at.returns-then-not-caller_right c).Else-not-frame_right) c.if-s-eq1.false _
+    let no = sym (not-true _ c.if-not-caller_right.true-raw) ∙ c.caller_right.ensures c.args.lm c.args.lp in
+    told-call _ _ _ _ _ _ _ w.result w.ensures.is c.requires.3 (own_at (goal.at.returns-then-not-caller_right c).Else-not-frame_right) c.if-s-eq1.false _
     c.call_before-c.ensures no
 
 pub caller_of-requires : goal.caller_of-requires
@@ -79,17 +71,16 @@ caller_of-requires c =
     let head = c.head_of-head.ensures in
     let small = w.ensures.words.returns in
     let e = c.call_before-c.ensures in
-    let l = call_below (entry (goal.at.caller_of-requires c).Else-not-frame_right).args.file.now w.result.returns in
+    let l = call_below c.args.file.now w.result.returns in
     (fits-at (goal.at.caller_of-requires c).Else-not-frame_right, head.a_small, head.b_small, omega arith)
 
 pub returns : goal.returns
 returns c =
     let w = c.frame_at-w in
-    let S = entry (goal.at.returns c).Else-not-frame_right in
-    let a = S.args in
+    let a = c.args in
     let yes = sym (not-false _ c.if-not-caller_right.false-raw) ∙ c.caller_right.ensures a.lm a.lp in
     let call = c.call_before-c.result in
     let pops = popped-params a.file.now a.map.now a.lm a.lp w.result call c.head_of-head.result c.head_of-head.ensures yes in
     let r = c.caller_of.ensures in
-    told-caller _ _ _ _ _ _ _ w.result w.ensures.is S.pre.3 (own_at (goal.at.returns c).Else-not-frame_right) c.if-s-eq1.false _ c.call_before-c.ensures _ yes
+    told-caller _ _ _ _ _ _ _ w.result w.ensures.is c.requires.3 (own_at (goal.at.returns c).Else-not-frame_right) c.if-s-eq1.false _ c.call_before-c.ensures _ yes
     (r.0 a.file.now a.lm a.lp (effect_of a.file.now (ins_at a.file.now call)) pops) r.1

@@ -17,6 +17,6 @@ pub returns : goal.returns
 returns c =
     let w = c.handler_at-w in
     let a = c.args in
-    let r = c.Outside-of.ensures in
+    let r = c.outside_of.ensures in
     λ f lm lp h. told-outside _ _ _ _ _ _ _ w.result w.ensures h _
     (sym (not-false _ c.if-not-handler_right.false-raw) ∙ c.handler_right.ensures f lm lp (down a.ctl.now a.left) (down-length a.ctl.now a.left)) (r.0 f lm lp) r.1

@@ -3,16 +3,15 @@ use native.Mathlib.Omega.{arith}
 use borrow.Author.Tests.{not-true, not-false}
 use mathlib.Core.List.{List, [], ◌∷◌}
 use Prim.Native.Nat.{ℕ}
-use borrow.Enum.Refused.{opened}
 use Rattle.model.specs.Choice.{Test, yes?}
 use Rattle.model.specs.Calls.{Lent}
 use Rattle.call_tests.specs.Admit.{Asks, first-whole, Measured, measured, heap-measured, admit-refused, admit-passes, admit-foreign, admit-lengths, admit-heap, admit-all}
 use Rattle.laws.specs.Choices.{if-self}
 use Rattle.call_tests.proofs.admit_with.Goals as goal
-use Rattle.call_tests.proofs.admit_with.Goals.{After-lengths_right, Start}
+use Rattle.call_tests.proofs.admit_with.Goals.{After-lengths_right}
 
 pub returns-in_default : goal.returns-in_default
-returns-in_default c = λ ts bytes asks. admit-refused c.check_with-v.ensures (λ k e. omega (arith, rw e at (opened c.in_default.in_default-own.keys2)))
+returns-in_default c = λ ts bytes asks. admit-refused c.check_with-v.ensures (λ k e. omega (arith, rw e at c.in_default.in_default-own.keys2))
 
 pub returns-then-not-its : goal.returns-then-not-its
 returns-then-not-its c =
@@ -22,16 +21,12 @@ pub head_at-head-requires : goal.head_at-head-requires
 head_at-head-requires c =
     (first-whole _ _ _ (admit-passes c.check_with-v.ensures c.in-Pass.is)).1
 
-abbrev lent : Start → List ℕ → Lent
-lent S bytes =
-    let A = S.args in
-    record { file = A.file.now; map = A.map.now; main = A.main.now; ptr = A.ptr.now; ctl = A.ctl.now; heap = A.heap.now; bytes = bytes }
-
 -- what is known behind the test of the lengths
 measured-at : (c : After-lengths_right) →
+    let A = c.args in
     let C = c.check_with-v in
     (ts : List Test) (bytes : List ℕ) → Asks ts c.args.file.now c.args.its →
-    Measured ts (lent c bytes) C.new.1.0 C.new.1.1.0 c.in-Pass.k c.lengths_right.result
+    Measured ts (record { file = A.file.now; map = A.map.now; main = A.main.now; ptr = A.ptr.now; ctl = A.ctl.now; heap = A.heap.now; bytes = bytes }) C.new.map C.new.table c.in-Pass.k c.lengths_right.result
 measured-at c ts bytes asks =
     measured c.check_with-v.ensures c.in-Pass.is asks (not-false _ c.if-not-its.false-raw) c.head_at-head.ensures
     c.lengths_right.ensures

@@ -11,7 +11,7 @@ limits_of-limits-requires c = begun-whole c.requires
 
 pub loop-p-init : goal.loop-p-init
 loop-p-init c =
-    let L = c.Limits-of.ensures in
+    let L = c.limits_of-limits.ensures in
     (refl, rw L.0 (flowing-start c.requires), L.1)
 
 pub bounds-file-p : goal.bounds-file-p
@@ -42,7 +42,7 @@ loop-p-preserved-then-kind c =
     let L = c.limits_of-limits-then-kind.ensures in (
       o.invariant.0,
       rw (L.0, sym (after-head c.args.file.now o.p c.if-kind.true))
-          (flowing-head c.requires o.invariant.1 (omega arith) c.if-kind.true c.end_of_lem.ensures),
+          (flowing-head c.requires o.invariant.1 (omega arith) c.if-kind.true c.end_of.ensures),
       L.1,
     )
 
@@ -56,12 +56,12 @@ take-to-requires c =
 
 pub shape_of-m-then-to-ne0 : goal.shape_of-m-then-to-ne0
 shape_of-m-then-to-ne0 c =
-    omega (arith, c.take-to.auto.1.1.0, c.loop-p.invariant.1.good.shows.long, c.requires.good.shows.long)
+    omega (arith, c.take-to.auto.m, c.loop-p.invariant.1.good.shows.long, c.requires.good.shows.long)
 
 pub returns-then-to-ne0 : goal.returns-then-to-ne0
 returns-then-to-ne0 c =
     let T = c.take-to in
-    flowing-fault c.requires c.loop-p.invariant.1 (omega arith) c.if-kind.false T.new.1.1.0 T.ensures.is c.if-to-ne0.true
+    flowing-fault c.requires c.loop-p.invariant.1 (omega arith) c.if-kind.false T.new.m T.ensures.is c.if-to-ne0.true
 
 pub loop-p-smaller : goal.loop-p-smaller
 loop-p-smaller c =

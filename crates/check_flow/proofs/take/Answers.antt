@@ -1,6 +1,6 @@
 -- `check_flow::take`: each family by its own function; a code with no arm leads to the next instruction alone, or nowhere.
 use Prim.Native.Nat.{suc}
-use mathlib.Core.Logic.{⊎_elim, inl, inr}
+use mathlib.Core.Logic.{inl, inr}
 use mathlib.Core.Path.{◌∙◌, ap, refl}
 use native.Mathlib.Omega.{arith}
 use Rattle.model.specs.File.{codes, bodies, body_of, ins_of}
@@ -10,6 +10,7 @@ use Rattle.check_rows.specs.Site.{body-room}
 use Rattle.check_rows.specs.Kinds.{NoJump, body-jumps}
 use Rattle.check_ways.specs.Ways.{leads_to, led, here_place, took}
 use Rattle.check_flow.proofs.take.Goals as goal
+use Rattle.check_flow.proofs.take.Goals.{in_default-via-then-kind-lt1, in_default-via-else-kind-lt1+else-kind-lt7}
 
 pub leave-requires : goal.leave-requires
 unfolding ins_of shape_of body_of bodies codes
@@ -51,7 +52,7 @@ overflow_add-p-in-1-to-6 c =
 
 pub plain-requires : goal.plain-requires
 plain-requires c =
-    let aside : NoJump c.args.kind = ⊎_elim (λ t. inl (omega arith)) (λ t. inr (omega arith)) c.in_default.branch in
+    let aside : NoJump c.args.kind = elim c.in_default.branch [ in_default-via-then-kind-lt1 w ↦ inl (omega arith) | in_default-via-else-kind-lt1+else-kind-lt7 w ↦ inr (omega arith) ] in
     let r = c.in_default-1.rest in
     (c.requires.0, c.requires.1, aside, ((((tt, c.requires.2), r.0.0.1), r.0.1), r.1))
 
@@ -63,7 +64,7 @@ returns-in-73 c =
 pub returns-in-160 : goal.returns-in-160
 unfolding body_of bodies codes
 returns-in-160 c =
-    rw c.done-in-160.ensures (took c.requires.1 160 3 c.in-160.is refl c.before.before.before.«open».ensures)
+    rw c.done-in-160.ensures (took c.requires.1 160 3 c.in-160.is refl c.open.ensures)
 
 pub returns-in-161 : goal.returns-in-161
 unfolding body_of bodies codes

@@ -1,6 +1,6 @@
 -- `check_rows::plain_at`: in each row the code is known, and the definition computes; a code with no row pops reals (`last_row`).
 use mathlib.Core.List.{[], ◌∷◌}
-use mathlib.Core.Logic.{◌⊎◌, ⊎_elim, inl, inr}
+use mathlib.Core.Logic.{◌⊎◌, inl, inr}
 use Prim.Native.Nat.{suc, ◌<◌}
 use mathlib.Core.Path.{◌∙◌, refl, ap}
 use native.Mathlib.Omega.{arith}
@@ -11,6 +11,7 @@ use Rattle.check_rows.specs.Site.{body-room, low}
 use Rattle.check_rows.specs.Kinds.{body-locals, body-blocks, last_row}
 use Rattle.check_rows.specs.Rows.{row, row_shape, at_row, at_rows}
 use Rattle.check_rows.proofs.plain_at.Goals as goal
+use Rattle.check_rows.proofs.plain_at.Goals.{in_default-via-then-kind-lt20, in_default-via-else-kind-lt20+else-kind-lt24}
 
 pub step-requires : goal.step-requires
 step-requires c = (c.requires.5, low c.requires.1, omega arith, omega arith, omega arith)
@@ -99,7 +100,7 @@ locals-requires c =
 pub reals-requires : goal.reals-requires
 reals-requires c =
     let k = c.args.kind in
-    let out : (k < 20) ⊎ (23 < k) = ⊎_elim (λ t. inl (omega arith)) (λ t. inr (omega arith)) c.in_default.branch in (
+    let out : (k < 20) ⊎ (23 < k) = elim c.in_default.branch [ in_default-via-then-kind-lt20 w ↦ inl (omega arith) | in_default-via-else-kind-lt20+else-kind-lt24 w ↦ inr (omega arith) ] in (
       low c.requires.1,
       last_row k c.requires.3 c.requires.4 out c.in_default-1.rest (λ e. c.requires.1.known (ap body_of c.requires.2 ∙ e)),
       c.requires.5,

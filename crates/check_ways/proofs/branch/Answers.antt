@@ -46,13 +46,13 @@ depths_ok-requires c =
 -- behind the test of the depths: what is left of the tests, and what passes on
 left_at : (c : After-depths_ok) →
     let a = c.args in
-    let s = c.state-in.result in
+    let s = c.state_in-s.result in
     let popped = state (s.main - 1) s.ptr s.inner in
     Judged (take_in a.file.now a.p a.m.now) ((c.depths_ok.result, 7) ∷ [])
     (pass_all_in ((a.p + 3, popped) ∷ (a.target, (if a.keep then as_state s else popped)) ∷ []) a.m.now)
 left_at c =
-    let J = test-passes (on_branch c.args.keep _ c.requires c.state-in.ensures) (sym c.own.ensures ∙ c.if1.true) in
-    let K = test-passes (test-passes J (lt-ltb _ _ c.if2.false)) (lt-ltb _ _ c.if3.false) in
+    let J = test-passes (on_branch c.args.keep _ c.requires c.state_in-s.ensures) (sym c.own.ensures ∙ c.if-own.true) in
+    let K = test-passes (test-passes J (lt-ltb _ _ c.if-s-ge-UNREACHED_DEPTH.false)) (lt-ltb _ _ c.if-limits-next.false) in
     rw (c.depths_ok.ensures, c.effect.ensures, c.outer_of-o.ensures.is) K
 
 pub overflow_sub-rest : goal.overflow_sub-rest
@@ -67,7 +67,7 @@ pass_both-requires c =
     let w = own-place c.requires.here _ (sym c.own.ensures ∙ c.if-own.true) in
     let b : c.state_in-s.result.main - 1 < 65536 = omega (arith, a) in (
       fitting (next_place c.requires.here _ c.if-limits-next.false) b S.ptr_small S.inner_small,
-      rw c.at_Target.ensures (fits-either c.args.keep (fitting w a S.ptr_small S.inner_small) (fitting w b S.ptr_small S.inner_small)),
+      rw c.at_target.ensures (fits-either c.args.keep (fitting w a S.ptr_small S.inner_small) (fitting w b S.ptr_small S.inner_small)),
     )
 
 pub returns-then-depths_ok : goal.returns-then-depths_ok
@@ -75,7 +75,7 @@ returns-then-depths_ok c =
     let a = c.args in
     let s = c.state_in-s.result in
     c.pass_both.ensures
-    ∙ second-as a.m.now (a.p + 3) a.target (state (s.main - 1) s.ptr s.inner) c.at_Target.ensures
+    ∙ second-as a.m.now (a.p + 3) a.target (state (s.main - 1) s.ptr s.inner) c.at_target.ensures
     ∙ sym (all-passed (test-passes (left_at (goal.at.returns-then-depths_ok c).After-depths_ok) c.if-depths_ok.true))
 
 pub returns-then-own : goal.returns-then-own

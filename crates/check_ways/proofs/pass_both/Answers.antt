@@ -4,9 +4,9 @@ use Rattle.check_ways.proofs.pass_both.Goals as goal
 
 pub returns-then-first-ne0 : goal.returns-then-first-ne0
 returns-then-first-ne0 c =
-    both_first _ _ _ _ _ _ c.pass_one-first.new.0 c.if-first-ne0.true c.pass_one-first.ensures
+    both_first _ _ _ _ _ _ c.pass_one-first.new.m c.if-first-ne0.true c.pass_one-first.ensures
 
 pub returns : goal.returns
 returns c =
-    both-second _ _ _ _ _ c.pass_one.result c.pass_one-first.new.0 c.pass_one.new.0
+    both-second _ _ _ _ _ c.pass_one.result c.pass_one-first.new.m c.pass_one.new.m
     (rw c.if-first-ne0.false at c.pass_one-first.ensures) c.pass_one.ensures

@@ -26,5 +26,5 @@ check_part-requires c =
 
 pub returns : goal.returns
 returns c =
-    check-rest c.args.file.now c.args.map.now c.check_part.new.1.1.0 (omega arith) (omega arith) c.check_part.new.1.0 _
+    check-rest c.args.file.now c.args.map.now c.check_part.new.table (omega arith) (omega arith) c.check_part.new.m _
     c.check_part.result (omega arith) c.check_part.ensures refl

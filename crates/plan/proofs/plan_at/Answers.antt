@@ -21,7 +21,10 @@ ready : (c : After-shared_slice_known-6-1) →
 ready c = c.requires
 
 pub bounds-file-place : goal.bounds-file-place
-bounds-file-place c = place_in (ready c)
+bounds-file-place c =
+    let a = c.args in
+    let R : StepReady a.file.now a.table.now (record { regs = a.regs; main = a.main.now; ptr = a.ptr.now; ctl = a.ctl.now; heap = a.heap.now }) = c.requires in
+    place_in R
 
 pub jumps-requires : goal.jumps-requires
 unfolding body_of bodies codes

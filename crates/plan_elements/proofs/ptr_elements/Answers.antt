@@ -1,5 +1,6 @@
 -- `plan_elements::ptr_elements`: as `word_elements`; the elements are the pointer words, of which the size has three more, and the bound lies behind them.
 use Prim.Native.Nat.{ℕ, ◌+◌, ◌-◌, ◌<◌}
+use mathlib.Core.List.{List}
 use mathlib.Core.Logic.{⊎_elim}
 use mathlib.Core.Path.{◌≡◌, ◌∙◌, sym, ap}
 use native.Mathlib.Omega.{arith}
@@ -26,29 +27,19 @@ shape : (c : Else-kind_at-ne-PTR_VECTOR_KIND) →
     let h = c.args.heap.now in
     let o = c.word-object.result in
     size_at h o ≡ 3 + ptrs_at h o
-shape c = (object c.before.before).of_pointers (sym c.kind_at.ensures ∙ c.if-kind_at-ne-PTR_VECTOR_KIND.false)
+shape c = (lies c.requires.5 c.word-object.ensures.is c.if-object-eq0.false).of_pointers (sym c.kind_at.ensures ∙ c.if-kind_at-ne-PTR_VECTOR_KIND.false)
 
 -- so its size tells the number of its elements, and where its bound lies
-counted : (c : After-size_at-size) →
-    let h = c.args.heap.now in
-    let o = c.word-object.result in
-    c.size_at-size.result - 3 ≡ elements_at on_ptr h o
+counted : (h : List ℕ) (o : ℕ) {size : ℕ} → size ≡ size_at h o → size_at h o ≡ 3 + ptrs_at h o → size - 3 ≡ elements_at on_ptr h o
 unfolding elements_at
-counted c = omega (arith, shape c.before, c.size_at-size.ensures.is)
+counted h o e s = omega (arith, e, s)
 
 -- a word of the vector is one of the part that begins with it
 inside : (c : After-size_at-size) (i : ℕ) → i < c.size_at-size.result →
     i < length (heap_from c.args.heap.now c.word-object.result)
 inside c i l =
     let h = c.args.heap.now in
-    rw (length-heap-from h c.word-object.result) (omega (arith, l, object c.before.before.before, c.size_at-size.ensures.is))
-
-bound : (c : After-under) →
-    let h = c.args.heap.now in
-    let o = c.word-object.result in
-    word_at (heap_from h o) (c.size_at-size.result - 1) ≡ bound_at h o
-bound c =
-    bound-behind _ _ (c.size_at-size.ensures.is ∙ shape c.before)
+    rw (length-heap-from h c.word-object.result) (omega (arith, l, (lies c.requires.5 c.word-object.ensures.is c.if-object-eq0.false), c.size_at-size.ensures.is))
 
 -- what the code finds: nil; another kind; an index below the bound; one past the last element; the element
 nil : (c : Then-object-eq0) →
@@ -66,14 +57,14 @@ under : (c : Then-under) →
     element_of on_ptr S.heap.now (word_at S.ptr.now (S.regs.ptop - 1)) (word_at S.main.now (S.regs.mtop - 1)) ≡ nowhere
 under c =
     under-sought on_ptr _ _ _ c.word-object.ensures.is c.if-object-eq0.false c.kind_at.ensures c.if-kind_at-ne-PTR_VECTOR_KIND.false
-    (counted c.before.before.before.before.before) (bound c.before) (sym c.under.ensures ∙ c.if-under.true)
+    (counted _ _ c.size_at-size.ensures.is ((lies c.requires.5 c.word-object.ensures.is c.if-object-eq0.false).of_pointers (sym c.kind_at.ensures ∙ c.if-kind_at-ne-PTR_VECTOR_KIND.false))) (bound-behind _ _ (c.size_at-size.ensures.is ∙ (lies c.requires.5 c.word-object.ensures.is c.if-object-eq0.false).of_pointers (sym c.kind_at.ensures ∙ c.if-kind_at-ne-PTR_VECTOR_KIND.false))) (sym c.under.ensures ∙ c.if-under.true)
 
 past : (c : Then-elements-far) →
     let S = c.args in
     element_of on_ptr S.heap.now (word_at S.ptr.now (S.regs.ptop - 1)) (word_at S.main.now (S.regs.mtop - 1)) ≡ nowhere
 past c =
     past-sought on_ptr _ _ _ c.word-object.ensures.is c.if-object-eq0.false c.kind_at.ensures c.if-kind_at-ne-PTR_VECTOR_KIND.false
-    (counted c) (bound (c)) c.distance-far.ensures c.if-elements-far.true
+    (counted _ _ c.size_at-size.ensures.is ((lies c.requires.5 c.word-object.ensures.is c.if-object-eq0.false).of_pointers (sym c.kind_at.ensures ∙ c.if-kind_at-ne-PTR_VECTOR_KIND.false))) (bound-behind _ _ (c.size_at-size.ensures.is ∙ (lies c.requires.5 c.word-object.ensures.is c.if-object-eq0.false).of_pointers (sym c.kind_at.ensures ∙ c.if-kind_at-ne-PTR_VECTOR_KIND.false))) c.distance-far.ensures c.if-elements-far.true
 
 by_two : (o far : ℕ) → o + 2 + far ≡ o + (2 + far)
 by_two o far = omega arith
@@ -85,7 +76,7 @@ at : (c : Else-elements-far) →
     ≡ found (o + (2 + c.distance-far.result))
 at c =
     let e = found-sought on_ptr _ _ _ c.word-object.ensures.is c.if-object-eq0.false c.kind_at.ensures c.if-kind_at-ne-PTR_VECTOR_KIND.false
-    (counted c) (bound (c)) c.distance-far.ensures c.if-elements-far.false in
+    (counted _ _ c.size_at-size.ensures.is ((lies c.requires.5 c.word-object.ensures.is c.if-object-eq0.false).of_pointers (sym c.kind_at.ensures ∙ c.if-kind_at-ne-PTR_VECTOR_KIND.false))) (bound-behind _ _ (c.size_at-size.ensures.is ∙ (lies c.requires.5 c.word-object.ensures.is c.if-object-eq0.false).of_pointers (sym c.kind_at.ensures ∙ c.if-kind_at-ne-PTR_VECTOR_KIND.false))) c.distance-far.ensures c.if-elements-far.false in
     e ∙ ap found (by_two c.word-object.result c.distance-far.result)
 
 pub returns-then-object-eq0 : goal.returns-then-object-eq0
@@ -110,11 +101,8 @@ overflow_sub-elements c = omega (arith, shape (goal.at.overflow_sub-elements c).
 pub slice_bounds-vector-count : goal.slice_bounds-vector-count
 slice_bounds-vector-count c = omega (arith, object (goal.at.slice_bounds-vector-count c).Else-object-eq0)
 
-part-vector-start : tie.Need-slice-bounds-vector-start
-part-vector-start c = omega (arith, object c.before.before.before)
-
-part-vector-end : tie.Need-slice-bounds-vector-end
-part-vector-end c = search rules
+pub slice_bounds-vector-start : goal.slice_bounds-vector-start
+slice_bounds-vector-start c = omega (arith, object (goal.at.slice_bounds-vector-start c).Else-object-eq0)
 
 pub overflow_sub-bound : goal.overflow_sub-bound
 overflow_sub-bound c = omega (arith, shape (goal.at.overflow_sub-bound c).Else-kind_at-ne-PTR_VECTOR_KIND, c.size_at-size.ensures.is)

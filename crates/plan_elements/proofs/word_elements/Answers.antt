@@ -1,5 +1,6 @@
 -- `plan_elements::word_elements`: what the code finds is the element that the definition finds; at each of the two codes that computes.
 use Prim.Native.Nat.{ℕ, ◌+◌, ◌-◌, ◌≤◌}
+use mathlib.Core.List.{List}
 use mathlib.Core.Logic.{⊎_elim}
 use mathlib.Core.Path.{◌≡◌, ◌∙◌, sym, ap}
 use native.Mathlib.Omega.{arith}
@@ -24,14 +25,11 @@ shape : (c : Else-kind_at-ne-WORD_VECTOR_KIND) →
     let h = c.args.heap.now in
     let o = c.word-object.result in
     (ptrs_at h o ≡ 0) × (3 ≤ size_at h o)
-shape c = (object c.before.before).of_words (sym c.kind_at.ensures ∙ c.if-kind_at-ne-WORD_VECTOR_KIND.false)
+shape c = (lies c.requires.5 c.word-object.ensures.is c.if-object-eq0.false).of_words (sym c.kind_at.ensures ∙ c.if-kind_at-ne-WORD_VECTOR_KIND.false)
 
-bound : (c : After-under) →
-    let h = c.args.heap.now in
-    let o = c.word-object.result in
-    word_at h (o + 2) ≡ bound_at h o
+bound_at-first : (h : List ℕ) (o : ℕ) → ptrs_at h o ≡ 0 → word_at h (o + 2) ≡ bound_at h o
 unfolding bound_at
-bound c = rw (shape c.before.before.before.before).0
+bound_at-first h o e = rw e
 
 -- what the code finds: nil; another kind; an index below the bound; one past the last element; the element
 nil : (c : Then-object-eq0) →
@@ -50,7 +48,7 @@ under : (c : Then-under) →
 unfolding elements_at
 under c =
     under-sought on_main _ _ _ c.word-object.ensures.is c.if-object-eq0.false c.kind_at.ensures c.if-kind_at-ne-WORD_VECTOR_KIND.false
-    (ap (λ (n : ℕ). n - 3) c.size_at-elements.ensures.is) (bound c.before) (sym c.under.ensures ∙ c.if-under.true)
+    (ap (λ (n : ℕ). n - 3) c.size_at-elements.ensures.is) (bound_at-first _ _ ((lies c.requires.5 c.word-object.ensures.is c.if-object-eq0.false).of_words (sym c.kind_at.ensures ∙ c.if-kind_at-ne-WORD_VECTOR_KIND.false)).0) (sym c.under.ensures ∙ c.if-under.true)
 
 past : (c : Then-elements-far) →
     let S = c.args in
@@ -58,7 +56,7 @@ past : (c : Then-elements-far) →
 unfolding elements_at
 past c =
     past-sought on_main _ _ _ c.word-object.ensures.is c.if-object-eq0.false c.kind_at.ensures c.if-kind_at-ne-WORD_VECTOR_KIND.false
-    (ap (λ (n : ℕ). n - 3) c.size_at-elements.ensures.is) (bound (c)) c.distance-far.ensures c.if-elements-far.true
+    (ap (λ (n : ℕ). n - 3) c.size_at-elements.ensures.is) (bound_at-first _ _ ((lies c.requires.5 c.word-object.ensures.is c.if-object-eq0.false).of_words (sym c.kind_at.ensures ∙ c.if-kind_at-ne-WORD_VECTOR_KIND.false)).0) c.distance-far.ensures c.if-elements-far.true
 
 at : (c : Else-elements-far) →
     let S = c.args in
@@ -68,7 +66,7 @@ at : (c : Else-elements-far) →
 unfolding elements_at
 at c =
     found-sought on_main _ _ _ c.word-object.ensures.is c.if-object-eq0.false c.kind_at.ensures c.if-kind_at-ne-WORD_VECTOR_KIND.false
-    (ap (λ (n : ℕ). n - 3) c.size_at-elements.ensures.is) (bound (c)) c.distance-far.ensures c.if-elements-far.false
+    (ap (λ (n : ℕ). n - 3) c.size_at-elements.ensures.is) (bound_at-first _ _ ((lies c.requires.5 c.word-object.ensures.is c.if-object-eq0.false).of_words (sym c.kind_at.ensures ∙ c.if-kind_at-ne-WORD_VECTOR_KIND.false)).0) c.distance-far.ensures c.if-elements-far.false
 
 pub returns-then-object-eq0 : goal.returns-then-object-eq0
 unfolding planned plan_of basic_plan ins_of

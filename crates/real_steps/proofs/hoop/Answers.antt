@@ -10,7 +10,7 @@ use Rattle.model.specs.Reals.{scaled, shifted}
 use Rattle.reals.specs.Given.{as_point}
 use Rattle.real_steps.specs.Does.{real_at, point_at}
 use Rattle.real_steps.proofs.hoop.Goals as goal
-use Rattle.real_steps.proofs.hoop.Goals.{After-is_finite, Start}
+use Rattle.real_steps.proofs.hoop.Goals.{After-is_finite}
 
 -- the point that is tested
 point-is : (c : After-is_finite) →
@@ -19,45 +19,43 @@ point-is : (c : After-is_finite) →
     as_point c.shifted-point.result ≡ shifted (point_at l (low + 4)) (scaled (real_at l (low + 8)) (point_at l low))
 point-is c =
     c.shifted-point.ensures
-    ∙ ap (shifted (as_point c.point_at.result)) c.scaled.ensures
-    ∙ λ i. shifted (c.point_at.ensures i) (scaled (c.real-at.ensures i) (c.point_at.ensures i))
-
--- what was given, where the test is made
-abbrev entry : After-is_finite → Start
-entry c = c.before.before.before.before.before.before.before.before
+    ∙ ap (shifted (as_point c.point_at-shift.result)) c.scaled.ensures
+    ∙ λ i. shifted (c.point_at-shift.ensures i) (scaled (c.real_at-scale.ensures i) (c.point_at.ensures i))
 
 pub put_real-requires : goal.put_real-requires
 put_real-requires c =
-    let S = entry (goal.at.put_real-requires c).After-is_finite in
     let x = c.shifted-point.result in
     let t = sym c.is_finite.ensures ∙ c.if-is_finite.true in
-    ((both_true (finite x.across) (finite x.along) t).0, omega (arith, c.cut_to.auto, S.pre.0.fits, S.pre.1))
+    ((both_true (finite x.across) (finite x.along) t).0, omega (arith, c.cut_to.auto, c.requires.0.fits, c.requires.1))
 
 pub overflow_add-at-then-is_finite : goal.overflow_add-at-then-is_finite
-overflow_add-at-then-is_finite c = let S = entry (goal.at.overflow_add-at-then-is_finite c).After-is_finite in omega (arith, S.pre.0.fits, S.pre.1)
+overflow_add-at-then-is_finite c = omega (arith, c.requires.0.fits, c.requires.1)
 
 pub put_real-requires-then-is_finite : goal.put_real-requires-then-is_finite
 put_real-requires-then-is_finite c =
-    let S = entry (goal.at.put_real-requires-then-is_finite c).After-is_finite in
     let x = c.shifted-point.result in
     let t = sym c.is_finite.ensures ∙ c.if-is_finite.true in
     let k = c.put_real.auto in
-    ((both_true (finite x.across) (finite x.along) t).1, omega (arith, k, c.cut_to.auto, S.pre.0.fits, S.pre.1))
+    ((both_true (finite x.across) (finite x.along) t).1, omega (arith, k, c.cut_to.auto, c.requires.0.fits, c.requires.1))
 
 pub overflow_add-at-then-is_finite-2 : goal.overflow_add-at-then-is_finite-2
-overflow_add-at-then-is_finite-2 c = let S = entry (goal.at.overflow_add-at-then-is_finite-2 c).After-is_finite in omega (arith, S.pre.0.fits, S.pre.2)
+overflow_add-at-then-is_finite-2 c = omega (arith, c.requires.0.fits, c.requires.2)
 
 pub returns-then-is_finite : goal.returns-then-is_finite
 returns-then-is_finite c =
     let t = sym c.is_finite.ensures ∙ c.if-is_finite.true in
-    let r = rw (c.goes_on.ensures, c.put_real-then-is_finite.ensures, c.put_real.ensures, c.cut_to.ensures) (
-      hoop-done _ _ _ c.requires.1 (as_point _) (point-is (goal.at.returns-then-is_finite c).After-is_finite) t,
-      (λ e. absurd (true≢false e), refl),
-    ) in
-    record { does = r.0; kept = r.1; running = r.2 }
+    record {
+      does = rw (c.goes_on.ensures, c.put_real-then-is_finite.ensures, c.put_real.ensures, c.cut_to.ensures)
+          (hoop-done _ _ _ c.requires.1 (as_point _) (point-is (goal.at.returns-then-is_finite c).After-is_finite) t);
+      kept = rw c.goes_on.ensures (λ e. absurd (true≢false e));
+      running = rw c.goes_on.ensures;
+    }
 
 pub returns : goal.returns
 returns c =
     let t = sym c.is_finite.ensures ∙ c.if-is_finite.false in
-    let r = rw c.not-Finite.ensures (hoop-raises _ _ _ c.requires.1 (as_point _) (point-is (goal.at.returns c).After-is_finite) t, (λ e. refl, refl)) in
-    record { does = r.0; kept = r.1; running = r.2 }
+    record {
+      does = rw c.not_finite.ensures (hoop-raises _ _ _ c.requires.1 (as_point _) (point-is (goal.at.returns c).After-is_finite) t);
+      kept = λ e. refl;
+      running = rw c.not_finite.ensures;
+    }

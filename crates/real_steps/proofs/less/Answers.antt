@@ -6,8 +6,8 @@ use Rattle.real_steps.proofs.less.Goals as goal
 
 pub returns : goal.returns
 returns c =
-    let r = rw (c.goes_on.ensures, c.cut_to.ensures) (
-      less_done _ _ _ c.requires.1 _ (c.less-word.ensures ∙ rw (c.real_at.ensures, c.real_at-2.ensures)),
-      (λ e. absurd (true≢false e), refl),
-    ) in
-    record { does = r.0; kept = r.1; running = r.2 }
+    record {
+      does = rw (c.goes_on.ensures, c.cut_to.ensures) (less_done _ _ _ c.requires.1 _ (c.less-word.ensures ∙ rw (c.real_at.ensures, c.real_at-2.ensures)));
+      kept = rw c.goes_on.ensures (λ e. absurd (true≢false e));
+      running = rw c.goes_on.ensures;
+    }

@@ -6,8 +6,8 @@ use Rattle.real_steps.proofs.literal.Goals as goal
 
 pub returns : goal.returns
 returns c =
-    let r = rw c.goes_on.ensures (
-      literal-done _ _ _ _ _ _ _ c.operand4.ensures.is c.Operand-low.ensures.is,
-      (λ e. absurd (true≢false e), refl),
-    ) in
-    record { does = r.0; kept = r.1; running = r.2 }
+    record {
+      does = rw c.goes_on.ensures (literal-done _ _ _ _ _ _ _ c.operand4.ensures.is c.operand_low.ensures.is);
+      kept = rw c.goes_on.ensures (λ e. absurd (true≢false e));
+      running = rw c.goes_on.ensures;
+    }

@@ -8,21 +8,20 @@ pub returns-then-is_finite : goal.returns-then-is_finite
 returns-then-is_finite c =
     let O = c.operate-x.ensures in
     let t = sym c.is_finite.ensures ∙ c.if-is_finite.true in
-    let r = rw (c.goes_on.ensures, c.put_real.ensures, c.cut_to.ensures) (
-      λ f p. rw (O.code f p)
-          (operation-done _ _ _ c.requires.1 O.op _
-          (O.is ∙ rw (c.real_at.ensures, c.real_at-2.ensures)) t),
-      (λ e. absurd (true≢false e), refl),
-    ) in
-    record { does = r.0; kept = r.1; running = r.2 }
+    record {
+      does = rw (c.goes_on.ensures, c.put_real.ensures, c.cut_to.ensures)
+          (λ f p. rw (O.code f p) (operation-done _ _ _ c.requires.1 O.op _ (O.is ∙ rw (c.real_at.ensures, c.real_at-2.ensures)) t));
+      kept = rw c.goes_on.ensures (λ e. absurd (true≢false e));
+      running = rw c.goes_on.ensures;
+    }
 
 pub returns : goal.returns
 returns c =
     let O = c.operate-x.ensures in
     let t = sym c.is_finite.ensures ∙ c.if-is_finite.false in
-    let r = rw c.not-Finite.ensures (
-      λ f p. rw (O.code f p)
-          (operation-raises _ _ _ c.requires.1 O.op _ (O.is ∙ rw (c.real_at.ensures, c.real_at-2.ensures)) t),
-      (λ e. refl, refl),
-    ) in
-    record { does = r.0; kept = r.1; running = r.2 }
+    record {
+      does = rw c.not_finite.ensures
+          (λ f p. rw (O.code f p) (operation-raises _ _ _ c.requires.1 O.op _ (O.is ∙ rw (c.real_at.ensures, c.real_at-2.ensures)) t));
+      kept = λ e. refl;
+      running = rw c.not_finite.ensures;
+    }

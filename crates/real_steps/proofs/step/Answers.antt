@@ -37,24 +37,21 @@ unfolding ins_at
 returns-in-53 c =
     let e = c.in-53.is in
     let L = c.literal.ensures in
-    let r = (rw (← after-literal _ _ _ e c.requires.1, e) L.0, L.1) in
-    record { does = r.0; kept = r.1; running = r.2 }
+    record { does = rw (← after-literal _ _ _ e c.requires.1, e) L.does; kept = L.kept; running = L.running }
 
 pub returns-in-155 : goal.returns-in-155
 unfolding ins_at ins_of
 returns-in-155 c =
     let e = c.in-155.is in
     let L = c.less.ensures in
-    let r = (rw (← after-code _ _ _ _ (inr (inr (inr (inr (inl refl))))) e c.requires.1, e) L.0, L.1) in
-    record { does = r.0; kept = r.1; running = r.2 }
+    record { does = rw (← after-code _ _ _ _ (inr (inr (inr (inr (inl refl))))) e c.requires.1, e) L.does; kept = L.kept; running = L.running }
 
 pub returns-in-156 : goal.returns-in-156
 unfolding ins_at ins_of
 returns-in-156 c =
     let e = c.in-156.is in
     let L = c.hoop.ensures in
-    let r = (rw (← after-code _ _ _ _ (inr (inr (inr (inr (inr refl))))) e c.requires.1, e) L.0, L.1) in
-    record { does = r.0; kept = r.1; running = r.2 }
+    record { does = rw (← after-code _ _ _ _ (inr (inr (inr (inr (inr refl))))) e c.requires.1, e) L.does; kept = L.kept; running = L.running }
 
 pub returns-in_default : goal.returns-in_default
 unfolding ins_at
@@ -62,5 +59,4 @@ returns-in_default c =
     let n = c.in_default.in_default-own.rest in
     let o = operation-ready c.requires.0 _ refl n.0.0.1 n.0.1 n.1 in
     let L = c.operation.ensures in
-    let r = (rw (← after-code _ _ _ _ (operation-code c.requires.0 o) refl c.requires.1) (L.0 _ _), L.1) in
-    record { does = r.0; kept = r.1; running = r.2 }
+    record { does = rw (← after-code _ _ _ _ (operation-code c.requires.0 o) refl c.requires.1) (L.does _ _); kept = L.kept; running = L.running }

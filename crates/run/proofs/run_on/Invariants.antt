@@ -5,8 +5,8 @@ use Rattle.run.proofs.run_on.Given as goal
 
 abbrev pub invariant-loop-pause : goal.invariant-loop-pause
 invariant-loop-pause l =
-    Rests l.file l.table l.initial.pause.left (record { regs = l.initial.pause.regs; l.main = l.initial.main; l.ptr = l.initial.ptr; l.ctl = l.initial.ctl; l.heap = l.initial.heap })
-    l.pause.left (record { regs = l.pause.regs; l.main = l.main; l.ptr = l.ptr; l.ctl = l.ctl; l.heap = l.heap }) l.pause.plan
+    Rests l.file l.table l.initial.pause.left (record { regs = l.initial.pause.regs; main = l.initial.main; ptr = l.initial.ptr; ctl = l.initial.ctl; heap = l.initial.heap })
+    l.pause.left (record { regs = l.pause.regs; main = l.main; ptr = l.ptr; ctl = l.ctl; heap = l.heap }) l.pause.plan
 
 abbrev pub decreases-loop-pause : goal.decreases-loop-pause
 decreases-loop-pause l = l.pause.left

@@ -1,4 +1,4 @@
--- `run_reals::go-on` meets its contract: instructions on reals and the steps between them are steps of the run; it ends where neither goes on.
+-- `run_reals::go_on` meets its contract: instructions on reals and the steps between them are steps of the run; it ends where neither goes on.
 use native.Mathlib.Omega.{arith}
 use borrow.Author.Tests.{not-true, not-false}
 use mathlib.Core.Path.{sym, ◌∙◌}
@@ -9,11 +9,6 @@ use Rattle.run_steps.specs.Going.{paused-from}
 use Rattle.run_reals.specs.Reckoning.{real-paused, going-past, on-past, rests-other, rests-spent, rests-raised}
 use Rattle.run_reals.proofs.Tags.{not-real}
 use Rattle.run_reals.proofs.go_on.Goals as goal
-use Rattle.run_reals.proofs.go_on.Goals.{After-reckon-past, At-loop-at}
-
--- the turn whose instructions on reals were done
-abbrev turn : After-reckon-past → At-loop-at
-turn c = c.before.before.before.before.before.before.before
 
 pub loop-at-init : goal.loop-at-init
 loop-at-init c = c.requires
@@ -41,13 +36,13 @@ reckon-past-requires c =
 
 pub overflow_add-behind : goal.overflow_add-behind
 overflow_add-behind c =
-    let P = (turn (goal.at.overflow_add-behind c).After-reckon-past).loop.invariant in
+    let P = c.loop-at.invariant in
     let K = c.reckon-past.ensures in
     omega (arith, place-small (alive-ready (going-past P K).runs.alive (on-past P K)))
 
 pub returns-then-not-past : goal.returns-then-not-past
 returns-then-not-past c =
-    rests-raised (turn (goal.at.returns-then-not-past c).After-reckon-past).loop.invariant c.reckon-past.ensures (not-true _ c.if-not-past.true)
+    rests-raised c.loop-at.invariant c.reckon-past.ensures (not-true _ c.if-not-past.true)
 
 pub shape_of-main-then-not-past : goal.shape_of-main-then-not-past
 shape_of-main-then-not-past c = (returns-then-not-past c).paused.going.alike.main
@@ -63,7 +58,7 @@ shape_of-heap-then-not-past c = (returns-then-not-past c).paused.going.alike.hea
 
 pub go_on-at-requires : goal.go_on-at-requires
 go_on-at-requires c =
-    let P = (turn (goal.at.go_on-at-requires c).After-reckon-past).loop.invariant in
+    let P = c.loop-at.invariant in
     let K = c.reckon-past.ensures in
     ((going-past P K).runs, on-past P K)
 
@@ -73,7 +68,7 @@ loop-at-smaller c =
 
 pub loop-at-preserved : goal.loop-at-preserved
 loop-at-preserved c =
-    paused-from (going-past (turn (goal.at.loop-at-preserved c).After-reckon-past).loop.invariant c.reckon-past.ensures) c.go_on-at.ensures
+    paused-from (going-past c.loop-at.invariant c.reckon-past.ensures) c.go_on-at.ensures
 
 pub returns : goal.returns
 returns c = rests-spent c.loop-at.invariant c.loop-at-test.false

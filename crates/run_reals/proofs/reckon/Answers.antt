@@ -10,34 +10,28 @@ use Rattle.plan.specs.Arms.{place_in, place-small}
 use Rattle.theory_step.specs.Planning.{alive-ready}
 use Rattle.run_steps.specs.Going.{Runs}
 use Rattle.run_reals.proofs.reckon.Goals as goal
-use Rattle.run_reals.proofs.reckon.Goals.{After-step-moved, At-loop-left, Start}
+use Rattle.run_reals.proofs.reckon.Goals.{After-step-moved, At-loop-left}
 
--- behind the step of a turn: what was known at the turn, and what holds where the result is finite
-abbrev turned : After-step-moved → At-loop-left
-turned c = c.before.before.before
+-- behind the step of a turn, where its result is finite
+module _ (c : After-step-moved) (finite : c.step-moved.result.done ≡ true) where
+  abbrev now-at : let L = c.loop-left in AtReal c.args.file.now L.main L.r L.at
+  now-at = c.loop-left.invariant.0
 
-abbrev entered : At-loop-left → Start
-entered c = c.before.before.before
-
-module _ (c : tie.After-step) (finite : c.step.result.done ≡ true) where
-  abbrev now-at : let L = (turned c).loop in AtReal (entered (turned c)).args.file.now L.main L.r L.at
-  now-at = (turned c).loop.invariant.0
-
-  further-on : let S = (entered (turned c)).args in
-      Reckons S.file.now S.main.now S.regs S.budget c.step.new.1.0 c.step.result.regs ((turned c).loop.left - 1)
+  further-on : let S = c.args in
+      Reckons S.file.now S.main.now S.regs S.budget c.step-moved.new.main c.step-moved.result.regs (c.loop-left.left - 1)
   further-on =
-      let E = c.step.ensures in
-      reckons-step now-at _ _ _ E.0 (turned c).loop.invariant.1 c.before.before.loop-test.true finite E.1.1 c.step.auto.1.0
+      let E = c.step-moved.ensures in
+      reckons-step now-at _ _ _ E.does c.loop-left.invariant.1 c.loop-left-test.true finite E.running c.step-moved.auto.main
 
-  still-on : c.step.result.regs.state ≡ 1 → ⊥
-  still-on u = now-at.on? (sym c.step.ensures.1.1 ∙ u)
+  still-on : c.step-moved.result.regs.state ≡ 1 → ⊥
+  still-on u = now-at.on? (sym c.step-moved.ensures.running ∙ u)
 
-  still-runs : Runs (entered (turned c)).args.file.now now-at.rest.table (with now-at.rest c.step.result.regs c.step.new.1.0)
-  still-runs = let E = c.step.ensures in reals-on now-at _ _ _ E.0 finite E.1.1 c.step.auto.1.0
+  still-runs : Runs c.args.file.now now-at.rest.table (with now-at.rest c.step-moved.result.regs c.step-moved.new.main)
+  still-runs = let E = c.step-moved.ensures in reals-on now-at _ _ _ E.does finite E.running c.step-moved.auto.main
 
 -- no more is left than at first
-left-most : (c : At-loop-left) → c.loop-left.left ≤ (entered c).args.budget
-left-most c = let A = (entered c).requires.0 in (c.loop-left.invariant.1.going A.rest A.runs).less
+left-most : (c : At-loop-left) → c.loop-left.left ≤ c.args.budget
+left-most c = let A = c.requires.0 in (c.loop-left.invariant.1.going A.rest A.runs).less
 
 pub loop-left-init : goal.loop-left-init
 loop-left-init c = (c.requires.0, reckons-none)
@@ -50,19 +44,19 @@ step-moved-requires c = real-ready c.loop-left.invariant.0
 
 pub shape_of-main-then-not-moved : goal.shape_of-main-then-not-moved
 shape_of-main-then-not-moved c =
-    c.step-moved.auto.1.0 ∙ (turned (goal.at.shape_of-main-then-not-moved c).After-step-moved).loop.invariant.1.kept
+    c.step-moved.auto.main ∙ c.loop-left.invariant.1.kept
 
 pub returns-then-not-moved : goal.returns-then-not-moved
 returns-then-not-moved c =
-    let I = (turned (goal.at.returns-then-not-moved c).After-step-moved).loop.invariant in
+    let I = c.loop-left.invariant in
     let E = c.step-moved.ensures in
     let d = not-true _ c.if-not-moved.true in
-    rw (E.1.0 d)
+    rw (E.kept d)
     (record {
       reckons = I.1;
       further = λ e. absurd (true≢false (sym e));
       real = λ e. I.0.real;
-      raises = λ e. reals-raise I.0 _ _ _ E.0 d;
+      raises = λ e. reals-raise I.0 _ _ _ E.does d;
     })
 
 pub bounds-file-place : goal.bounds-file-place
@@ -72,14 +66,14 @@ bounds-file-place c =
 
 pub shape_of-main-then-not-is_real : goal.shape_of-main-then-not-is_real
 shape_of-main-then-not-is_real c =
-    c.step-moved.auto.1.0 ∙ (turned (goal.at.shape_of-main-then-not-is_real c).After-step-moved).loop.invariant.1.kept
+    c.step-moved.auto.main ∙ c.loop-left.invariant.1.kept
 
 pub returns-then-not-is_real : goal.returns-then-not-is_real
 returns-then-not-is_real c =
     let some = c.loop-left-test.true in
     record {
       reckons = further-on (goal.at.returns-then-not-is_real c).After-step-moved (not-false _ c.if-not-moved.false);
-      further = λ e. omega (arith, some, left-most (turned (goal.at.returns-then-not-is_real c).After-step-moved));
+      further = λ e. omega (arith, some, left-most (goal.at.returns-then-not-is_real c).At-loop-left);
       real = λ e. absurd (true≢false e);
       raises = λ e. absurd (true≢false e);
     }
@@ -112,10 +106,9 @@ shape_of-main c = c.loop-left.invariant.1.kept
 
 pub returns : goal.returns
 returns c =
-    let S = entered (goal.at.returns c).At-loop-left in
     record {
       reckons = c.loop-left.invariant.1;
-      further = λ e. omega (arith, c.loop-left-test.false, S.pre.1);
+      further = λ e. omega (arith, c.loop-left-test.false, c.requires.1);
       real = λ e. absurd (true≢false e);
       raises = λ e. absurd (true≢false e);
     }

@@ -1,4 +1,4 @@
--- `run_steps::go-on` meets its contract: each turn is one step of the model, done without a loop; soundness, kept by each step, gives what the plan and its writes ask.
+-- `run_steps::go_on` meets its contract: each turn is one step of the model, done without a loop; soundness, kept by each step, gives what the plan and its writes ask.
 use mathlib.Core.Path.{refl, sym, ◌∙◌}
 use native.Mathlib.Omega.{arith}
 use borrow.Enum.Refused.{opened}
@@ -51,17 +51,17 @@ pub loop-left-preserved : goal.loop-left-preserved
 loop-left-preserved c =
     let I = c.loop-left.invariant in
     let A = c.apply-tried in
-    let k = A.auto.1 in (
-      going-applied I.0 I.1 (sym c.in-Write.is ∙ c.plan_at-plan.ensures) c.loop-left-test.true c.if-done.true A.ensures.0
-          (record { main = k.0; ptr = k.1.0; ctl = k.1.1.0; heap = k.1.1.1.0 }),
-      λ u. I.1 (sym A.ensures.1.0 ∙ u),
+    let k = A.auto in (
+      going-applied I.0 I.1 (sym c.in-Write.is ∙ c.plan_at-plan.ensures) c.loop-left-test.true c.if-done.true A.ensures.state
+          (record { main = k.main; ptr = k.ptr; ctl = k.ctl; heap = k.heap }),
+      λ u. I.1 (sym A.ensures.running ∙ u),
     )
 
 pub returns-else-done : goal.returns-else-done
 returns-else-done c =
     let I = c.loop-left.invariant in
     let A = c.apply-tried in
-    rw c.stop-else-done.ensures (paused-late I.0 I.1 (sym c.in-Write.is ∙ c.plan_at-plan.ensures) refl c.if-done.false A.ensures.0 A.ensures.1.1)
+    rw c.stop-else-done.ensures (paused-late I.0 I.1 (sym c.in-Write.is ∙ c.plan_at-plan.ensures) refl c.if-done.false A.ensures.state A.ensures.undone)
 
 pub shape_of-main-else-done : goal.shape_of-main-else-done
 shape_of-main-else-done c = (returns-else-done c).going.alike.main
