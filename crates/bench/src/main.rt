@@ -1,11 +1,11 @@
 // Reads a code file on standard input, runs it on the bench, and prints one line.
 #![tactic(auto)]
 
-use libc::STDIN_FILENO;
+use std::io;
 
-fn main() {
+fn main(rt: HostRuntime) -> io::Result<()> {
     // One byte more than a code file may have: a longer input fills it, and is refused as 1.
     let mut buffer = [0u8; 4097];
-    let n = io::read_full(STDIN_FILENO, &mut buffer);
-    show::bench(&buffer[..n]);
+    let n = input::read_full(&mut rt.stdin(), &mut buffer)?;
+    show::bench(&rt, &buffer[..n])
 }

@@ -1,4 +1,5 @@
 // The calls that firmware reaches: check, start and run on numbers and lists. An answer travels as four numbers.
+// C calls them by the same names, which the crate exports_c defines.
 #![tactic(auto)]
 
 ghost use Rattle.std.specs.Prelude.{◌≡◌};
@@ -28,6 +29,7 @@ fn numbers(kind: u32, number: u32, place: usize, steps: u32) -> Reply
 }
 
 // An answer in numbers (Manual 7.1).
+#[tactic(auto, unfolding(model::specs::Calls::told_of))]
 fn told(answer: Answer) -> Reply
     ensures { as_told result ≡ told_of answer }
 {
@@ -41,16 +43,14 @@ fn told(answer: Answer) -> Reply
     }
 }
 
-#[unsafe(no_mangle)]
-pub extern "C" fn yalgovim_check(file: &[u8], map: &mut [u16]) -> Reply
+pub fn yalgovim_check(file: &[u8], map: &mut [u16]) -> Reply
     ensures { checks result map.new
         ≡ checks_to (check_of file.now map.old) }
 {
     told(checker::check(file, map))
 }
 
-#[unsafe(no_mangle)]
-pub extern "C" fn yalgovim_start(
+pub fn yalgovim_start(
     file: &[u8],
     map: &mut [u16],
     main: &mut [u32],
@@ -60,7 +60,7 @@ pub extern "C" fn yalgovim_start(
     registers: &mut [u8],
 ) -> Reply
     ensures { replies result (record {
-      file = file.entry.now;
+      file = file.now;
       map = map.new;
       main = main.new;
       ptr = ptr.new;
@@ -69,7 +69,7 @@ pub extern "C" fn yalgovim_start(
       bytes = registers.new;
     })
         ≡ replies_to (start_of (record {
-          file = file.entry.now;
+          file = file.now;
           map = map.old;
           main = main.old;
           ptr = ptr.old;
@@ -81,8 +81,7 @@ pub extern "C" fn yalgovim_start(
     told(calls::start(file, map, main, ptr, ctl, heap, registers))
 }
 
-#[unsafe(no_mangle)]
-pub extern "C" fn yalgovim_run(
+pub fn yalgovim_run(
     file: &[u8],
     map: &mut [u16],
     main: &mut [u32],
@@ -93,7 +92,7 @@ pub extern "C" fn yalgovim_run(
     budget: u32,
 ) -> Reply
     ensures { replies result (record {
-      file = file.entry.now;
+      file = file.now;
       map = map.new;
       main = main.new;
       ptr = ptr.new;
@@ -102,7 +101,7 @@ pub extern "C" fn yalgovim_run(
       bytes = registers.new;
     })
         ≡ replies_to (run_of budget (record {
-          file = file.entry.now;
+          file = file.now;
           map = map.old;
           main = main.old;
           ptr = ptr.old;

@@ -4,9 +4,11 @@
 mod line;
 
 use model::{Answer, FILE_MOST, REGISTER_BYTES};
+use std::io;
 
 // Runs what the lists hold, and prints the line.
 pub fn go(
+    rt: &impl Print,
     file: &[u8],
     map: &mut [u16],
     main: &mut [u32],
@@ -15,13 +17,14 @@ pub fn go(
     heap: &mut [u32],
     regs: &mut [u8],
     budget: u32,
-) {
+) -> io::Result<()> {
     let a = calls::run(file, map, main, ptr, ctl, heap, regs, budget);
-    line::line(a, main, regs);
+    line::line(rt, a, main, regs)
 }
 
 // Starts, runs if that was ready, and prints the line.
 pub fn begin(
+    rt: &impl Print,
     file: &[u8],
     map: &mut [u16],
     main: &mut [u32],
@@ -30,17 +33,16 @@ pub fn begin(
     heap: &mut [u32],
     regs: &mut [u8],
     budget: u32,
-) {
+) -> io::Result<()> {
     let a = calls::start(file, map, main, ptr, ctl, heap, regs);
     let Answer::Ready = a else {
-        line::line(a, main, regs);
-        return;
+        return line::line(rt, a, main, regs);
     };
-    go(file, map, main, ptr, ctl, heap, regs, budget);
+    go(rt, file, map, main, ptr, ctl, heap, regs, budget)
 }
 
 // The bench: stacks of 256, 256 and 250 words, an empty heap of 1,024, a budget of 1,000.
-pub fn bench(file: &[u8]) {
+pub fn bench(rt: &impl Print, file: &[u8]) -> io::Result<()> {
     let mut map = [0u16; 3 * FILE_MOST];
     let mut main = [0u32; 256];
     let mut ptr = [0u32; 256];
@@ -49,6 +51,6 @@ pub fn bench(file: &[u8]) {
     heap[0] = 2;
     let mut regs = [0u8; REGISTER_BYTES];
     begin(
-        file, &mut map, &mut main, &mut ptr, &mut ctl, &mut heap, &mut regs, 1000,
-    );
+        rt, file, &mut map, &mut main, &mut ptr, &mut ctl, &mut heap, &mut regs, 1000,
+    )
 }

@@ -1,6 +1,6 @@
 // The bench's line: an answer, and for an ending the steps and the main stack.
-use libc::STDOUT_FILENO;
 use model::{Answer, REGISTER_BYTES};
+use std::io;
 
 fn long(x: u32) -> u64 {
     x as u64
@@ -20,69 +20,68 @@ fn main_top(bytes: &[u8]) -> u64 {
 }
 
 // A word as a signed number.
-fn signed(w: u32) {
+fn signed(rt: &impl Print, w: u32) -> io::Result<()> {
     if w < 0x80000000 {
-        io::print_decimal(STDOUT_FILENO, long(w));
+        rt.print(long(w))
     } else {
-        io::write_all(STDOUT_FILENO, b"-");
-        io::print_decimal(STDOUT_FILENO, 0x100000000 - w as u64);
+        rt.write_all(b"-")?;
+        rt.print(0x100000000 - w as u64)
     }
 }
 
 // The words below the top, from the bottom, with commas.
-fn words(main: &[u32], top: u64) {
-    let mut i = 0;
-    while i < main.len() {
+fn words(rt: &impl Print, main: &[u32], top: u64) -> io::Result<()> {
+    for i in 0..main.len() {
         if count(i) >= top {
-            return;
+            return Ok(());
         }
         if i > 0 {
-            io::write_all(STDOUT_FILENO, b",");
+            rt.write_all(b",")?;
         }
-        signed(main[i]);
-        i += 1;
+        signed(rt, main[i])?;
     }
+    Ok(())
 }
 
-fn steps_and_main(steps: u32, main: &[u32], regs: &[u8]) {
-    io::write_all(STDOUT_FILENO, b" steps=");
-    io::print_decimal(STDOUT_FILENO, long(steps));
-    io::write_all(STDOUT_FILENO, b" main=");
-    words(main, main_top(regs));
+fn steps_and_main(rt: &impl Print, steps: u32, main: &[u32], regs: &[u8]) -> io::Result<()> {
+    rt.write_all(b" steps=")?;
+    rt.print(long(steps))?;
+    rt.write_all(b" main=")?;
+    words(rt, main, main_top(regs))
 }
 
-fn numbered(n: u32, place: usize) {
-    signed(n);
-    io::write_all(STDOUT_FILENO, b" at ");
-    io::print_decimal(STDOUT_FILENO, count(place));
+fn numbered(rt: &impl Print, n: u32, place: usize) -> io::Result<()> {
+    signed(rt, n)?;
+    rt.write_all(b" at ")?;
+    rt.print(count(place))
 }
 
 // One line: the answer; for an ending also the steps and the main stack.
-pub fn line(a: Answer, main: &[u32], regs: &[u8]) {
+pub fn line(rt: &impl Print, a: Answer, main: &[u32], regs: &[u8]) -> io::Result<()> {
     match a {
         Answer::Passed => {
-            io::write_all(STDOUT_FILENO, b"passed");
+            rt.write_all(b"passed")?;
         }
         Answer::Ready => {
-            io::write_all(STDOUT_FILENO, b"ready");
+            rt.write_all(b"ready")?;
         }
         Answer::Finished(n) => {
-            io::write_all(STDOUT_FILENO, b"finished");
-            steps_and_main(n, main, regs);
+            rt.write_all(b"finished")?;
+            steps_and_main(rt, n, main, regs)?;
         }
         Answer::Spent(n) => {
-            io::write_all(STDOUT_FILENO, b"spent");
-            steps_and_main(n, main, regs);
+            rt.write_all(b"spent")?;
+            steps_and_main(rt, n, main, regs)?;
         }
         Answer::Uncaught(code, place, n) => {
-            io::write_all(STDOUT_FILENO, b"uncaught ");
-            numbered(code, place);
-            steps_and_main(n, main, regs);
+            rt.write_all(b"uncaught ")?;
+            numbered(rt, code, place)?;
+            steps_and_main(rt, n, main, regs)?;
         }
         Answer::Refused(n, place) => {
-            io::write_all(STDOUT_FILENO, b"refused ");
-            numbered(n, place);
+            rt.write_all(b"refused ")?;
+            numbered(rt, n, place)?;
         }
     }
-    io::write_all(STDOUT_FILENO, b"\n");
+    rt.write_all(b"\n")
 }
