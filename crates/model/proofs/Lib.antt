@@ -1,2 +1,2 @@
 pub mod LongestVectors
-pub mod FirstHeaders
+pub mod FirstFaults
