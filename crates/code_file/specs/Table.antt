@@ -51,5 +51,5 @@ unfolding lengths entry_right body_of bodies codes
 right-all = tt
 
 pub lengths-are : (k : ℕ) → k < 256 → get_or lengths k 0 ≡ body_of k
-unfolding lengths entry_right
-lengths-are k h = eqb→eq (get_or lengths k 0) (body_of k) (at entry_right lengths right-all k h)
+unfolding lengths entry_right body_of bodies codes
+lengths-are k h = eqb→eq (get_or lengths k 0) (body_of k) (at entry_right lengths tt k h)

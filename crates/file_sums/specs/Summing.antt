@@ -1,5 +1,5 @@
 -- The sums after some bytes, with what the bytes behind them add: one byte more is the definitions' own step.
-use Rattle.std.specs.Prelude.{ℕ, ◌+◌, ◌<◌, ◌≤◌, ◌≡◌, length}
+use Rattle.std.specs.Prelude.{ℕ, ◌+◌, ◌<◌, ◌≡◌, length}
 use mathlib.Core.List.{List, [], ◌∷◌}
 use Rattle.std.proofs.Math.Path.{ap}
 use Rattle.std.proofs.Common.{◌∙◌, drop-cons}
@@ -7,11 +7,8 @@ use Rattle.std.proofs.Math.Numerals.{add-one}
 use native.Mathlib.Omega.{arith}
 use Rattle.std.proofs.Math.ListN.{drop}
 use Rattle.std.proofs.Math.Seq.{drop-length}
-use Rattle.model.specs.File.{byte_at, file_most}
+use Rattle.model.specs.File.{byte_at}
 use Rattle.model.specs.Sums.{total, totals, sums_of}
-use Rattle.model.specs.Claim.{Bytes}
-use Rattle.model.specs.declared.Sums.{Sums}
-use Rattle.file_sums.specs.Fits.{sums-fit}
 
 -- i bytes are summed: b is their sum, s the sum of sums
 pub record Summing (f : List ℕ) (i b s : ℕ) : Type 0 where
@@ -42,12 +39,3 @@ module _ {f : List ℕ} {i b s : ℕ} (S : Summing f i b s) where
       let u : b ≡ total f = omega arith in
       let v : s ≡ total (totals 0 f) = omega arith in
       λ j. record { first = u j; second = v j }
-
-  -- the sums so far are words, as the sums of the file are
-  pub summed-fit : Bytes f → length f ≤ file_most → (b < 4294967296) × (s < 4294967296)
-  unfolding sums_of
-  summed-fit B h =
-      let w = sums-fit f B h in
-      let u = S.first in
-      let v = S.second in
-      (omega arith, omega arith)

@@ -1,16 +1,12 @@
 -- Manual 2.7, 4.9, 4.10, 4.28 to 4.30: single instructions on vectors, in one table: the rules compute to what was worked out by hand from
--- order 2. And vectors that do not fit, of any length, by the definition alone. Assumes nothing.
-use Rattle.std.specs.Prelude.{ℕ, suc, ◌+◌, ◌-◌, ◌<◌, List, [], ◌∷◌, ◌++◌, map, ◌≡◌, pos, length, replicate}
+-- order 2. Vectors that do not fit, of any length, stand in proofs/LongestVectors.antt. Assumes nothing.
+use Rattle.std.specs.Prelude.{ℕ, ◌+◌, ◌-◌, List, [], ◌∷◌, ◌++◌, map, ◌≡◌, length, replicate}
 use Rattle.std.proofs.Math.Path.{refl}
-use Rattle.std.proofs.Common.{arith}
-use Rattle.std.proofs.lemmas.List.{length-replicate}
-use Rattle.std.proofs.lemmas.Bool.{lt-leb}
 use Rattle.model.specs.Words.{signed, cut}
 use Rattle.model.specs.File.{on_main, on_ptr, vector, maker_pops, Basic, make, field, set_field, element, set_element}
-use Rattle.model.specs.Heap.{kind_at, ptrs_at, size_at, in_ptrs, in_plain, kinds, kind_of, may_set_plain, may_set_ptr, made, mark_of}
+use Rattle.model.specs.Heap.{kind_at, ptrs_at, size_at, in_ptrs, in_plain, kinds, kind_of, may_set_plain, may_set_ptr, made}
 use Rattle.model.specs.Vectors.{bound_at, elements_at, element_of}
 use Rattle.model.specs.Control.{Machine}
-use Rattle.model.specs.Moves.{main_word, ptr_word}
 use Rattle.model.specs.Instructions.{Result, done, throws, new_of, makes, basic_rule}
 
 -- the words of a stack, the rest of its n words being free
@@ -18,7 +14,7 @@ abbrev stack : ℕ → List ℕ → List ℕ
 stack n ws = ws ++ replicate (n - length ws) 0
 
 -- a machine with these words on stacks of n and k words, and with this heap; all else is 0 or empty
-abbrev machine : ℕ → ℕ → List ℕ → List ℕ → List ℕ → Machine
+abbrev pub machine : ℕ → ℕ → List ℕ → List ℕ → List ℕ → Machine
 machine n k ms ps h =
     record {
       regs = record { place = 0; frame = 0; handler = 0; mtop = length ms; ptop = length ps; ctop = 0; state = 0 };
@@ -52,7 +48,7 @@ raises b h ms ps code = row b h ms ps (throws code)
 abbrev minus : ℕ → ℕ
 minus n = 4294967296 - n
 
-abbrev greatest : ℕ
+abbrev pub greatest : ℕ
 greatest = 2147483647
 
 abbrev least : ℕ
@@ -72,7 +68,7 @@ of_pointers n = 50331648 + n
 abbrev behind : ℕ → List ℕ → List ℕ
 behind mark ws = mark ∷ 0 ∷ view_of 0 ∷ 2 ∷ view_of 0 ∷ 2 ∷ ws
 
-abbrev room : ℕ → List ℕ
+abbrev pub room : ℕ → List ℕ
 room n = behind 6 (replicate n 0)
 
 -- at 2 the words x, y, z from index b on, at 8 the pointers p, q from index c on, at 13 a view of a pointer and a word
@@ -95,10 +91,10 @@ abbrev no_pointers : List ℕ
 no_pointers = behind 9 (of_pointers 0 ∷ 3 ∷ 30 ∷ [])
 
 -- the instructions, by their codes
-abbrev i80 : Basic
+abbrev pub i80 : Basic
 i80 = make (vector on_main)
 
-abbrev i81 : Basic
+abbrev pub i81 : Basic
 i81 = make (vector on_ptr)
 
 abbrev i82 : Basic
@@ -252,22 +248,3 @@ vector-rows-hold =
     unfold vector_rows signed cut maker_pops kind_at ptrs_at size_at in_ptrs in_plain kinds kind_of may_set_plain may_set_ptr made bound_at elements_at in
     unfold element_of new_of makes basic_rule in
     refl
-
--- Manual 4.28: any length that is not negative raises 4 where the vector does not fit; its words are not written out, so that 2^31 - 1 is one
-words-full : (m : Machine) (n : ℕ) → signed (main_word m 2) ≡ pos n → length m.heap < mark_of m.heap + (3 + n) → basic_rule m i80 ≡ throws 4
-unfolding basic_rule makes new_of
-words-full m n e l =
-    rw e (rw (length-replicate n (main_word m 1)) (rw (lt-leb (mark_of m.heap + (2 + (0 + suc n))) (length m.heap) (omega (arith, l))) refl))
-
-pointers-full : (m : Machine) (n : ℕ) → signed (main_word m 1) ≡ pos n → length m.heap < mark_of m.heap + (3 + n) → basic_rule m i81 ≡ throws 4
-unfolding basic_rule makes new_of
-pointers-full m n e l =
-    rw e (rw (length-replicate n (ptr_word m 1)) (rw (lt-leb (mark_of m.heap + (2 + (n + 1))) (length m.heap) (omega (arith, l))) refl))
-
-longest-words : basic_rule (machine 5 2 (11 ∷ 30 ∷ greatest ∷ 76 ∷ []) (4 ∷ []) (room 9)) i80 ≡ throws 4
-unfolding signed
-longest-words = words-full (machine 5 2 (11 ∷ 30 ∷ greatest ∷ 76 ∷ []) (4 ∷ []) (room 9)) greatest refl (omega arith)
-
-longest-pointers : basic_rule (machine 4 3 (11 ∷ 30 ∷ greatest ∷ []) (4 ∷ 2 ∷ []) (room 9)) i81 ≡ throws 4
-unfolding signed
-longest-pointers = pointers-full (machine 4 3 (11 ∷ 30 ∷ greatest ∷ []) (4 ∷ 2 ∷ []) (room 9)) greatest refl (omega arith)

@@ -16,7 +16,7 @@ use Rattle.model.specs.Calls.{sound_tests, After, demand, tested, started, start
 use Rattle.model.specs.Claim.{Call, check, start, run, call_of, NotRefused, Depths, Pointers, Before, Claim, Bytes, CallsHold}
 use Rattle.model.specs.declared.Sums.{Sums}
 use Rattle.model.specs.declared.Answer.TheVariants as answer
-use Rattle.file_sums.specs.Fits.{sums-fit}
+use Rattle.file_sums.proofs.Fitting.{sums-fit}
 use Rattle.registers.specs.Registers.{registers-length}
 use Rattle.theory_checker.specs.Exact.{passed-as, passed-again}
 use Rattle.theory_checker.specs.Leaves.{uncaught-stays}

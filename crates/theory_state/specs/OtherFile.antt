@@ -14,7 +14,7 @@ use Rattle.model.specs.Claim.{Bytes, RunRegisters, WrongRegisters, turned_away, 
 use Rattle.model.specs.declared.Regs.{Regs}
 use Rattle.model.specs.declared.Sums.{Sums}
 use Rattle.model.specs.declared.Answer.TheVariants.{Passed, Ready, Refused}
-use Rattle.file_sums.specs.Fits.{sums-fit}
+use Rattle.file_sums.proofs.Fitting.{sums-fit}
 use Rattle.theory_checker.specs.Exact.{passed-as}
 use Rattle.theory_checker.specs.Numbers.{verdict-number}
 use Rattle.registers.specs.Registers.{registers-length}

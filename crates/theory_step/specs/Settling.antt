@@ -11,7 +11,8 @@ use Rattle.model.specs.Control.{Machine, records, as_handler, rec_at, down}
 use Rattle.model.specs.Moves.{main_word, ptr_word}
 use Rattle.model.specs.Step.{step}
 use Rattle.model.specs.Sound.{inner_at}
-use Rattle.plan_meaning.specs.Bridge.{Apt, bridge, suited}
+use Rattle.plan_meaning.specs.Bridge.{Apt}
+use Rattle.plan_meaning.proofs.Bridge.{bridge, suited}
 use Rattle.plan_meaning.specs.Planned.{plan_at}
 use Rattle.plan_meaning.specs.Settled.{settle}
 use Rattle.plan_meaning.specs.Suits.{RealSuits, Suited}

@@ -27,6 +27,6 @@ returns-then-not-size_right c =
 
 pub returns : goal.returns
 returns c =
-    judged-right _ _ _ _ c.ptrs_right.ensures c.if-not-ptrs_right.false-raw (omega (arith, c.if-mark-next.false)) _ _ c.size_at-size.ensures _ _
-    c.ptrs_at.ensures (omega (arith, c.if-size-ptrs_at.false)) (omega (arith, c.if-mark-q.false)) _ c.size_right.ensures
-    c.if-not-size_right.false-raw
+    let size = c.size_at-size.ensures in
+    judged-right _ _ _ _ c.ptrs_right.ensures c.if-not-ptrs_right.false-raw (omega (arith, c.if-mark-next.false)) _ _ size _ _ c.ptrs_at.ensures
+    (omega (arith, c.if-size-ptrs_at.false)) (omega (arith, c.if-mark-q.false)) _ c.size_right.ensures c.if-not-size_right.false-raw

@@ -1,7 +1,7 @@
 -- `file_sums::sums_of` meets its contract: before each turn the bytes below i are summed, and all sums on the way are words.
-use Prim.Native.Nat.{◌-◌}
 use native.Mathlib.Omega.{arith}
-use Rattle.file_sums.specs.Summing.{none-summed, one-summed, all-summed, summed-fit}
+use Rattle.file_sums.specs.Summing.{none-summed, one-summed, all-summed}
+use Rattle.file_sums.proofs.Fitting.{summed-fit}
 use Rattle.file_sums.proofs.sums_of.Goals as goal
 
 pub loop-i-init : goal.loop-i-init

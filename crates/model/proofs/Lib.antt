@@ -1,0 +1,2 @@
+pub mod LongestVectors
+pub mod FirstFaults
