@@ -4,7 +4,7 @@ use Rattle.std.specs.Prelude.{ℕ, ◌<◌, ◌≡◌, Bool, true, false, not, L
 use Rattle.std.proofs.Math.Path.{refl}
 use Rattle.std.proofs.Common.{sym, ◌∙◌, inl, inr, arith}
 use Rattle.std.proofs.lemmas.Bool.{not-true, not-false}
-use Rattle.model.specs.Choice.{if◌then◌else◌}
+use Rattle.model.specs.Choice.{when◌then◌else◌}
 use Rattle.model.specs.Words.{word_at}
 use Rattle.model.specs.Heap.{Heap, mark_of, first_object, Objects, Audit, fault, clean, pointer_words, objects_in, heap_of, objects_of}
 use Rattle.audit_heap.specs.declared.HeapAudit.{HeapAudit}
@@ -87,7 +87,7 @@ module _ (h : List ℕ) (t : List Bool) (w : HeapAudit) (n : ℕ) (R : Range h) 
       same Clean (Fault i) c J u M = let z : ◌≡◌ {A = ℕ} 0 1 = cc in absurd (omega arith)
       same (Fault i) b c J u M = let z : ◌≡◌ {A = ℕ} 0 1 = cc in absurd (omega arith)
 
-  root-test : (v : Bool) → v ≡ is_marked t (word_at h 1) → first_bad (marked_at t h) (1 ∷ []) ≡ (if v then Clean else Fault 1)
+  root-test : (v : Bool) → v ≡ is_marked t (word_at h 1) → first_bad (marked_at t h) (1 ∷ []) ≡ (when v then Clean else Fault 1)
   unfolding first_bad marked_at
   root-test v f = rw (← f)
 

@@ -11,7 +11,7 @@ use native.Mathlib.Omega.{arith}
 use Rattle.std.proofs.Math.ListN.{get_or}
 use Rattle.std.proofs.Math.Seq.{get_or-set_same, get_or-set_other}
 use borrow.Author.Tests.{eq-eqb, ne_eqb, le-leb, lt-leb, le-ltb, lt-ltb, not-true, not-false}
-use Rattle.model.specs.Choice.{if◌then◌else◌, member}
+use Rattle.model.specs.Choice.{when◌then◌else◌, member}
 use Rattle.model.specs.Words.{word_at}
 use Rattle.model.specs.Heap.{mark_of, first_object, ptrs_at, size_at, kind_of, Object, Objects, Audit, fault, clean, and_object, bad_header}
 use Rattle.model.specs.Heap.{bad_size, walk, is_pointer, range, pointer_words}
@@ -85,7 +85,7 @@ module _ (h : List ℕ) (q mark : ℕ) where
     judged-kind f = rw (← e, not-true r f)
 
     module _ (f : not r ≡ false) (a : q + 1 < mark) where
-      judged-size : fault_at h q mark ≡ (if bad_size h q mark then Fault (q + 1) else Clean)
+      judged-size : fault_at h q mark ≡ (when bad_size h q mark then Fault (q + 1) else Clean)
       unfolding fault_at bad_header
       judged-size = rw (← e, not-false r f, lt-leb mark (q + 1) a)
 
@@ -103,13 +103,13 @@ module _ (h : List ℕ) (q mark : ℕ) where
             let w' : mark < q + size_at h q = rw S.is at w in
             sym (judged-size ∙ rw (lt-ltb mark (q + size_at h q) w') (go (ltb (size_at h q) (2 + ptrs_at h q))))
           where
-            go : (t : Bool) → (if t || true || not ((kind_of h q).size (ptrs_at h q) (size_at h q)) then Fault (q + 1) else Clean) ≡ Fault (q + 1)
+            go : (t : Bool) → (when t || true || not ((kind_of h q).size (ptrs_at h q) (size_at h q)) then Fault (q + 1) else Clean) ≡ Fault (q + 1)
             go true = refl
             go false = refl
 
         module _ (ptrs d : ℕ) (T : Small d (ptrs_at h q) ptrs) (w : 2 + ptrs ≤ size) (v : q + size ≤ mark)
             (u : Bool) (g : u ≡ (kind_of h q).size (ptrs_at h q) (size_at h q)) where
-          judged-row : fault_at h q mark ≡ (if not u then Fault (q + 1) else Clean)
+          judged-row : fault_at h q mark ≡ (when not u then Fault (q + 1) else Clean)
           unfolding bad_size
           judged-row =
               let w' : 2 + ptrs_at h q ≤ size_at h q = rw (S.is, T.is) at w in
@@ -126,7 +126,7 @@ module _ (h : List ℕ) (q mark : ℕ) where
   unfolding fault_at bad_header
   judged-cut a = rw (le-leb mark (q + 1) a) (go (not ((kind_of h q).ptrs (ptrs_at h q))))
     where
-      go : (t : Bool) → Fault q ≡ (if t || true then Fault q else if bad_size h q mark then Fault (q + 1) else Clean)
+      go : (t : Bool) → Fault q ≡ (when t || true then Fault q else when bad_size h q mark then Fault (q + 1) else Clean)
       go true = refl
       go false = refl
 
@@ -135,7 +135,7 @@ module _ (h : List ℕ) (q mark : ℕ) where
   judged-object e = go (bad_header h q mark) refl (bad_size h q mark) refl e
     where
       go : (s : Bool) → bad_header h q mark ≡ s → (t : Bool) → bad_size h q mark ≡ t →
-          (if s then Fault q else if t then Fault (q + 1) else Clean) ≡ Clean → Object h q mark
+          (when s then Fault q else when t then Fault (q + 1) else Clean) ≡ Clean → Object h q mark
       go true f t g e = let z : ◌≡◌ {A = ℕ} 0 1 = cc in absurd (omega arith)
       go false f true g e = let z : ◌≡◌ {A = ℕ} 0 1 = cc in absurd (omega arith)
       go false f false g e = good-object h q mark f g
@@ -145,7 +145,7 @@ module _ (h : List ℕ) (q mark : ℕ) where
   walk_step n a = rw (lt-leb mark q a) (go (bad_header h q mark) (bad_size h q mark) (and_object q (walk n h (q + size_at h q) mark)))
     where
       go : (s t : Bool) (r : Audit) →
-          (if s then fault q else if t then fault (q + 1) else r) ≡ or_audit (if s then Fault q else if t then Fault (q + 1) else Clean) r
+          (when s then fault q else when t then fault (q + 1) else r) ≡ or_audit (when s then Fault q else when t then Fault (q + 1) else Clean) r
       go true t r = refl
       go false true r = refl
       go false false r = refl
@@ -155,13 +155,13 @@ module _ (h : List ℕ) (q mark : ℕ) where
 member-last : (q o : ℕ) (os : List ℕ) → member q (os ++ o ∷ []) ≡ member q os || eqb q o
 member-last q o [] = go (eqb q o)
   where
-    go : (t : Bool) → (if t then true else false) ≡ t
+    go : (t : Bool) → (when t then true else false) ≡ t
     go true = refl
     go false = refl
 member-last q o (p ∷ os) = go (eqb q p) (member-last q o os)
   where
     go : (t : Bool) → member q (os ++ o ∷ []) ≡ member q os || eqb q o →
-        (if t then true else member q (os ++ o ∷ [])) ≡ (if t then true else member q os) || eqb q o
+        (when t then true else member q (os ++ o ∷ [])) ≡ (when t then true else member q os) || eqb q o
     go true e = refl
     go false e = e
 

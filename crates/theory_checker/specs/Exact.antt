@@ -7,7 +7,7 @@ use native.Mathlib.Omega.{arith}
 use Rattle.std.proofs.Math.Dec.{leb}
 use Rattle.std.proofs.Math.ListN.{get_or-append}
 use borrow.Author.Tests.{leb-true, le-leb}
-use Rattle.model.specs.Choice.{if◌then◌else◌, Mem}
+use Rattle.model.specs.Choice.{when◌then◌else◌, Mem}
 use Rattle.model.specs.File.{file_most, Records, broken, starts, records_of, Heads, wrong, right, heads_of, procs, instructions}
 use Rattle.model.specs.Checker.{none, state, unset, Known, state_at, firsts, Flow, refused, passed, flow, map_from}
 use Rattle.model.specs.Rules.{Assignment, Keeps}
@@ -86,7 +86,7 @@ pub record Passed (f map new : List ℕ) : Type 0 where
   pub is : new ≡ finished_map f map known
 
 module _ (f map : List ℕ) where
-  if-pass : (t : Bool) (v : Verdict) (n : ℕ) (new : List ℕ) → (if t then v else refuse n 0 map) ≡ pass new → (t ≡ true) × (v ≡ pass new)
+  if-pass : (t : Bool) (v : Verdict) (n : ℕ) (new : List ℕ) → (when t then v else refuse n 0 map) ≡ pass new → (t ≡ true) × (v ≡ pass new)
   if-pass true v n new e = (refl, e)
   if-pass false v n new e = (cc, cc)
 
@@ -106,7 +106,7 @@ module _ (f map : List ℕ) where
   pub passed-as : (new : List ℕ) → verdict_of f map ≡ pass new → Passed f map new
   unfolding verdict_of flow
   passed-as new e =
-      let v : Verdict = if leb (map_size f) (length map) then scanned f map (records_of f) else refuse 2 0 map in
+      let v : Verdict = when leb (map_size f) (length map) then scanned f map (records_of f) else refuse 2 0 map in
       let a = if-pass (leb 1 (length f) && leb (length f) file_most) v 1 new e in
       let l = both_true (leb 1 (length f)) (leb (length f) file_most) a.0 in
       let b = if-pass (leb (map_size f) (length map)) (scanned f map (records_of f)) 2 new a.1 in

@@ -10,7 +10,7 @@ use Rattle.std.proofs.Math.Path.{refl, ap}
 use Rattle.std.proofs.Math.Decide.{ℕ_discrete}
 use Rattle.std.proofs.Math.Dec.{eqb}
 use borrow.Author.Tests.{eqb-true, eqb-false, ne_eqb}
-use Rattle.model.specs.Choice.{if◌then◌else◌, all, All, all_true, true-all, Mem, member}
+use Rattle.model.specs.Choice.{when◌then◌else◌, all, All, all_true, true-all, Mem, member}
 use Rattle.model.specs.File.{byte_at, Ins, basic, jump, branch, branch_keep, call, return, enter, exit, raise, ins_of, ins_at, starts, records_of, procs}
 use Rattle.model.specs.File.{head_of, entry, proc_at, instructions, params_main, greatest_main, greatest_ptr, head_tests}
 use Rattle.model.specs.Checker.{none, State, state, unset, is_set, Known, state_at, first, firsts, Effect, effect, basic_effect, effect_of, moved}
@@ -57,10 +57,10 @@ pub record Moves (f : List ℕ) (p : ℕ) (s o : State) (q : ℕ) (u : State) : 
   pub high : High s o u
 
 -- n words popped of a stack of depth d, which is not below the floor a, and m pushed
-floor-kept : (n m a d : ℕ) → (if eqb n 0 then 0 else a + n) ≤ d → a ≤ d → a ≤ d - n + m
+floor-kept : (n m a d : ℕ) → (when eqb n 0 then 0 else a + n) ≤ d → a ≤ d → a ≤ d - n + m
 floor-kept n m a d h l = go (eqb n 0) refl h
   where
-    go : (t : Bool) → eqb n 0 ≡ t → (if t then 0 else a + n) ≤ d → a ≤ d - n + m
+    go : (t : Bool) → eqb n 0 ≡ t → (when t then 0 else a + n) ≤ d → a ≤ d - n + m
     go true z k = let w = eqb-true n 0 z in omega arith
     go false z k = omega arith
 
@@ -246,7 +246,7 @@ unfolding firsts
 firsts-inner f zero q = refl
 firsts-inner f (suc n) q = go (eqb q (entry f n)) (firsts-inner f n q)
   where
-    go : (t : Bool) → (state_at (firsts f n) q).inner ≡ none → (if t then (first f n).1 else state_at (firsts f n) q).inner ≡ none
+    go : (t : Bool) → (state_at (firsts f n) q).inner ≡ none → (when t then (first f n).1 else state_at (firsts f n) q).inner ≡ none
     go true e = refl
     go false e = e
 
@@ -256,7 +256,7 @@ firsts-from f zero q h = absurd (true≢false (sym h))
 firsts-from f (suc n) q h = go (eqb q (entry f n)) refl (firsts-from f n q) h
   where
     go : (t : Bool) → eqb q (entry f n) ≡ t → (Set (state_at (firsts f n) q) → (m : ℕ) × (m < n) × (q ≡ entry f m)) →
-        Set (if t then (first f n).1 else state_at (firsts f n) q) → (m : ℕ) × (m < suc n) × (q ≡ entry f m)
+        Set (when t then (first f n).1 else state_at (firsts f n) q) → (m : ℕ) × (m < suc n) × (q ≡ entry f m)
     go true e r h = (n, omega arith, eqb-true q (entry f n) e)
     go false e r h = let w = r h in (w.0, let a = w.1 in omega arith, w.2)
 
@@ -271,7 +271,7 @@ module _ (f ps : List ℕ) (B : Bytes f) (e : records_of f ≡ starts ps) (H : H
   firsts_at (suc k) n l h = go (eqb (entry f n) (entry f k)) refl (firsts_at k n (omega arith))
     where
       go : (t : Bool) → eqb (entry f n) (entry f k) ≡ t → (n < k → state_at (firsts f k) (entry f n) ≡ (first f n).1) →
-          (if t then (first f k).1 else state_at (firsts f k) (entry f n)) ≡ (first f n).1
+          (when t then (first f k).1 else state_at (firsts f k) (entry f n)) ≡ (first f n).1
       go true w r =
           let z : n ≡ k = entry-once n k (omega arith) (omega arith) (eqb-true (entry f n) (entry f k) w) in
           ap (λ (x : ℕ). (first f x).1) (sym z)
