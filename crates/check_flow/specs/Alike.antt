@@ -13,7 +13,8 @@ use Rattle.model.specs.Claim.{Bytes}
 use Rattle.laws.specs.Members.{in-member, member-in}
 use Rattle.laws_file.specs.Walk.{instruction-below}
 use Rattle.laws_file.specs.Procedures.{DepthsWithin}
-use Rattle.theory_checker.specs.Flow.{DepthsFrom, InnerFrom, Moves, moves}
+use Rattle.theory_checker.specs.Flow.{DepthsFrom, InnerFrom, Moves}
+use Rattle.theory_checker.proofs.Flow.{moves}
 use Rattle.check_scan.specs.Marks.{unreached, state_in, put_in, PartShows, put-shows}
 use Rattle.check_rows.specs.Rows.{is_set_in}
 use Rattle.check_ways.specs.Takes.{pass_all_in, take_in_with, take_in}

@@ -18,7 +18,7 @@ use Rattle.model.specs.Checker.{none, State, state, is_set, Known, state_at, inn
 use Rattle.laws_file.specs.Walk.{instructions-others, instructions-are, Walk, walk-above, records-walk, after-above, first_head, instruction-below, HeadsHold}
 use Rattle.laws_file.specs.Procedures.{end_of, head-zero, head-none, head_whole, end_low, between}
 use Rattle.laws.specs.Members.{member-in, in-member, select_in, in-select}
-use Rattle.theory_checker.specs.Flow.{own-in, keeps-shape, flow-keeps, flow-rest}
+use Rattle.theory_checker.proofs.Flow.{own-in, keeps-shape, flow-keeps, flow-rest}
 use Rattle.laws_file.specs.Rest.{rest_of, rest_end, rest-inv, whole-inside, records-first}
 use Rattle.check_scan.specs.Marks.{unreached, state_in}
 use Rattle.check_scan.specs.Heading.{Placed}

@@ -15,7 +15,7 @@ use Rattle.model.specs.declared.Regs.{Regs}
 use Rattle.model.specs.declared.Sums.{Sums}
 use Rattle.model.specs.declared.Answer.TheVariants.{Passed, Ready, Refused}
 use Rattle.file_sums.proofs.Fitting.{sums-fit}
-use Rattle.theory_checker.specs.Exact.{passed-as}
+use Rattle.theory_checker.proofs.Exact.{passed-as}
 use Rattle.theory_checker.specs.Numbers.{verdict-number}
 use Rattle.registers.specs.Registers.{registers-length}
 use Rattle.theory_state.specs.Registers.{sums-back}

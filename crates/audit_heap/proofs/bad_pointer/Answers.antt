@@ -1,6 +1,5 @@
 -- Where every word is a pointer there is no fault. Else, the invariant: the first fault of the whole range is that from `i` on, no word
 -- before `i` being at fault.
-use Prim.Native.Nat.{◌-◌}
 use mathlib.Core.Path.{subst}
 use native.Mathlib.Omega.{arith}
 use Rattle.audit_words.specs.Every.{Every}
