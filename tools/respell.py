@@ -96,7 +96,7 @@ def main():
             path = os.path.join(folder, name)
             with open(path, encoding="utf-8") as f:
                 old = f.read()
-            keep = LEMMAS if f"{os.sep}specs" not in folder and name.endswith(".rt") else set()
+            keep = LEMMAS if name.endswith(".rt") else set()
             new = TOKEN.sub(lambda m: m.group() if m.group() in keep else MAP.get(m.group(), m.group()), old)
             if new != old:
                 with open(path, "w", encoding="utf-8") as f:
