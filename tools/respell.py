@@ -82,6 +82,8 @@ wordsMany=words_many wordsWithPointer=words_with_pointer x-byte=x_byte x-is=x_is
 zero-ctl=zero_ctl zero-main=zero_main zero-ptr=zero_ptr zeroAt=zero_at zerosFirst=zeros_first
 """
 MAP = dict(pair.split("=") for pair in NAMES.split())
+# Names of lemmas that are names of functions of src/ too, and of their proofs: these keep them in src/.
+LEMMAS = {"go_on", "goes_on", "head_bytes", "kept_in", "none_of", "object_of", "on_room", "on_value", "own_in", "ptr_word"}
 TOKEN = re.compile(r"[^\s(){}\[\],;.:\"λ∀«»|@`]+")
 
 
@@ -94,7 +96,8 @@ def main():
             path = os.path.join(folder, name)
             with open(path, encoding="utf-8") as f:
                 old = f.read()
-            new = TOKEN.sub(lambda m: MAP.get(m.group(), m.group()), old)
+            keep = LEMMAS if f"{os.sep}specs" not in folder and name.endswith(".rt") else set()
+            new = TOKEN.sub(lambda m: m.group() if m.group() in keep else MAP.get(m.group(), m.group()), old)
             if new != old:
                 with open(path, "w", encoding="utf-8") as f:
                     f.write(new)

@@ -62,7 +62,7 @@ raised_by main t (Real p) = code_of out_of_range
 abbrev pub RealRaises : List ℕ → Machine → Plan → Type 0
 RealRaises f m plan = (p : ℕ) → plan ≡ Real p → settle f m plan ≡ raised f m (code_of out_of_range)
 
-settle-raised : (f : List ℕ) (m : Machine) (plan : Plan) → ((put : Put) → plan ≡ Write put → ⊥) → RealRaises f m plan →
+pub settle-raised : (f : List ℕ) (m : Machine) (plan : Plan) → ((put : Put) → plan ≡ Write put → ⊥) → RealRaises f m plan →
     settle f m plan ≡ raised f m (raised_by m.main (mtop m) plan)
 unfolding settle raised_by
 settle-raised f m (Write put) never n = absurd (never put refl)
@@ -178,8 +178,3 @@ pub record Settles (f table : List ℕ) (m : Machine) (plan : Plan) : Type 0 whe
   pub raises : ((put : Put) → plan ≡ Write put → ⊥) → Raises f table m.regs m.main m.ptr m.ctl
   -- 162 pops a word
   pub thrown : plan ≡ Thrown → 1 ≤ mtop m
-
--- a plan that neither writes nor is done as a whole: its exception is raised
-pub ends-raised : {f table : List ℕ} {m : Machine} {plan : Plan} {code : ℕ} {x : Ended} → Settles f table m plan → ((put : Put) → plan ≡ Write put → ⊥) → RealRaises f m plan →
-    code ≡ raised_by m.main (mtop m) plan → x ≡ ended_of (raised f m code) → x ≡ ended_of (settle f m plan)
-ends-raised {f = f} {m = m} {plan = plan} S never n e d = rw (settle-raised f m plan never n, ← e) d

@@ -14,7 +14,7 @@ use borrow.Author.Tests.{lt-ltb, le-ltb, le-leb, lt-leb, ltb-true, ltb-false, le
 use native.Mathlib.Decide.{dec_lt}
 use native.Mathlib.Nat.{div-le_self, div-lt_iff_lt-mul, mul-le-mul, le_trans, lt_of_le_of_lt}
 use native.Mathlib.Omega.{arith}
-use Rattle.model.specs.Choice.{if◌then◌else◌}
+use Rattle.model.specs.Choice.{when◌then◌else◌}
 use Rattle.model.specs.Words.{signed, to_word, bit, in_range, value_of}
 use Rattle.model.specs.declared.Value.TheVariants.{Word}
 use Rattle.arithmetic.specs.Distance.{negative?}
@@ -24,7 +24,7 @@ split a b = elim (dec_lt a b) [ yes h ↦ inl h | no h ↦ inr (omega arith) ]
 
 -- ---- words
 
-sel-if : (t : Bool) (x y z : ℤ) → y ≡ z → (if t then x else y) ≡ sel t x z
+sel-if : (t : Bool) (x y z : ℤ) → y ≡ z → (when t then x else y) ≡ sel t x z
 sel-if true x y z e = refl
 sel-if false x y z e = e
 

@@ -14,7 +14,7 @@ use mir.ValLaws.{to_z-of_z}
 use borrow.Author.Tests.{lt-leb}
 use native.Mathlib.Nat.{div-add-mod, mod-lt, mul-zero}
 use native.Mathlib.Omega.{arith}
-use Rattle.model.specs.Choice.{if◌then◌else◌}
+use Rattle.model.specs.Choice.{when◌then◌else◌}
 use Rattle.model.specs.Words.{signed, to_word, in_range, value_of, Op, operate}
 use Rattle.model.specs.declared.Value.{Value}
 use Rattle.model.specs.declared.Value.TheVariants.{Word, Outside}
@@ -67,11 +67,11 @@ unfolding to_word
 word-bits (pos n) = refl
 word-bits (negsuc n) = omega arith
 
-first : (t : Bool) (w : ℕ) {q : ℕ} → (if t then Word w else Outside) ≡ Word q → (t ≡ true) × (w ≡ q)
+first : (t : Bool) (w : ℕ) {q : ℕ} → (when t then Word w else Outside) ≡ Word q → (t ≡ true) × (w ≡ q)
 first true w e = (refl, cc)
 first false w e = let z : ◌≡◌ {A = ℕ} 0 1 = cc in absurd (omega arith)
 
-second : (t : Bool) (v : Value) {q : ℕ} → (if t then Outside else v) ≡ Word q → v ≡ Word q
+second : (t : Bool) (v : Value) {q : ℕ} → (when t then Outside else v) ≡ Word q → v ≡ Word q
 second true v e = let z : ◌≡◌ {A = ℕ} 0 1 = cc in absurd (omega arith)
 second false v e = e
 

@@ -1,10 +1,8 @@
 -- The answers of the audit, from what its parts answer: `heap_of` is the walk, then the root, the pointer words and the free words, and
 -- the table of marks tells the pointers of the objects that the walk found.
-use Rattle.std.specs.Prelude.{ℕ, ◌<◌, ◌≡◌, Bool, true, false, not, List, [], ◌∷◌, ◌⊎◌, length}
+use Rattle.std.specs.Prelude.{ℕ, ◌<◌, ◌≡◌, Bool, List, [], ◌∷◌, ◌⊎◌, length}
 use Rattle.std.proofs.Math.Path.{refl}
 use Rattle.std.proofs.Common.{sym, ◌∙◌, inl, inr, arith}
-use Rattle.std.proofs.lemmas.Bool.{not-true, not-false}
-use Rattle.model.specs.Choice.{if◌then◌else◌}
 use Rattle.model.specs.Words.{word_at}
 use Rattle.model.specs.Heap.{Heap, mark_of, first_object, Objects, Audit, fault, clean, pointer_words, objects_in, heap_of, objects_of}
 use Rattle.audit_heap.specs.declared.HeapAudit.{HeapAudit}
@@ -12,7 +10,7 @@ use Rattle.audit_heap.specs.declared.HeapAudit.TheVariants.{Clean, Fault}
 use Rattle.audit_heap.specs.First.{first_bad, walked, free_words, audit_answer, or_else, or_audit, pointer_at, bad-append}
 use Rattle.audit_heap.specs.Audited.{heap_clean, clean-heap, heap-judged, heap-walk-fault, heap-mark-fault, walk-shows}
 use Rattle.audit_words.specs.Every.{zero_at}
-use Rattle.audit_words.specs.Table.{Marks, is_marked, marked_at, marked-pointer}
+use Rattle.audit_words.specs.Table.{Marks, marked_at, marked-pointer}
 use Rattle.audit_heap.specs.Found.{Range, objects_found, Walked, Audited}
 use Rattle.numbers.specs.Small.{Small}
 
@@ -60,7 +58,7 @@ audited-walk h t t' r n q R W e = go (walked h) refl (sym W.is ∙ e)
 
 module _ (h : List ℕ) (t : List Bool) (w : HeapAudit) (n : ℕ) (R : Range h) (W : Walked h w n t) (e : w ≡ Clean) where
   -- the three tests that are left: the root, the pointer words, the free words
-  audited-is : (a b c r : HeapAudit) → first_bad (marked_at t h) (1 ∷ []) ≡ a → first_bad (marked_at t h) (pointer_words h (objects_found h)) ≡ b →
+  pub audited-is : (a b c r : HeapAudit) → first_bad (marked_at t h) (1 ∷ []) ≡ a → first_bad (marked_at t h) (pointer_words h (objects_found h)) ≡ b →
       first_bad (zero_at h) (free_words h) ≡ c → r ≡ or_else a (or_else b c) → Audited h r t
   unfolding objects_of
   audited-is a b c r f g k l =
@@ -86,22 +84,6 @@ module _ (h : List ℕ) (t : List Bool) (w : HeapAudit) (n : ℕ) (R : Range h) 
       same Clean Clean (Fault i) J u M = let z : ◌≡◌ {A = ℕ} 0 1 = cc in absurd (omega arith)
       same Clean (Fault i) c J u M = let z : ◌≡◌ {A = ℕ} 0 1 = cc in absurd (omega arith)
       same (Fault i) b c J u M = let z : ◌≡◌ {A = ℕ} 0 1 = cc in absurd (omega arith)
-
-  root-test : (v : Bool) → v ≡ is_marked t (word_at h 1) → first_bad (marked_at t h) (1 ∷ []) ≡ (if v then Clean else Fault 1)
-  unfolding first_bad marked_at
-  root-test v f = rw (← f)
-
-  pub audited-root : (v : Bool) → v ≡ is_marked t (word_at h 1) → not v ≡ true → Audited h (Fault 1) t
-  audited-root v f g = audited-is (Fault 1) _ _ (Fault 1) (root-test v f ∙ rw (not-true v g)) refl refl refl
-
-  pub audited-pointer : (v : Bool) (b : HeapAudit) (q : ℕ) → v ≡ is_marked t (word_at h 1) → not v ≡ false →
-      b ≡ first_bad (marked_at t h) (pointer_words h (objects_found h)) → b ≡ Fault q → Audited h (Fault q) t
-  audited-pointer v b q f g k l = audited-is Clean (Fault q) _ (Fault q) (root-test v f ∙ rw (not-false v g)) (sym k ∙ l) refl refl
-
-  pub audited-free : (v : Bool) (b c : HeapAudit) → v ≡ is_marked t (word_at h 1) → not v ≡ false →
-      b ≡ first_bad (marked_at t h) (pointer_words h (objects_found h)) → b ≡ Clean →
-      c ≡ first_bad (zero_at h) (free_words h) → Audited h c t
-  audited-free v b c f g k l m = audited-is Clean Clean c c (root-test v f ∙ rw (not-false v g)) (sym k ∙ l) (sym m) refl
 
 -- What the audit's answer shows
 

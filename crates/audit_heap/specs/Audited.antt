@@ -7,7 +7,7 @@ use Rattle.std.proofs.Math.Decide.{dec_lt}
 use native.Mathlib.Omega.{arith}
 use Rattle.std.proofs.Math.ListN.{length, get_or-eq_default}
 use borrow.Author.Tests.{eqb-true, eqb-false, leb-true, leb-false, le-leb, lt-leb, ltb-true, ltb-false, not-true, not-false}
-use Rattle.model.specs.Choice.{if◌then◌else◌, Mem}
+use Rattle.model.specs.Choice.{when◌then◌else◌, Mem}
 use Rattle.model.specs.Words.{word_at}
 use Rattle.laws.specs.Members.{Rising, mem-append, mem-more, mem-right, rising-append}
 use Rattle.model.specs.Heap.{mark_of, root_of, first_object, ptrs_at, size_at, kind_of, Object, Objects, Pointer, Heap, Audit, fault, clean, and_object}
@@ -102,7 +102,7 @@ walk-shows (suc n) h q ps W a b =
 
     go : (s : Bool) → leb (mark_of h) q ≡ s → (t : Bool) → bad_header h q (mark_of h) ≡ t → (u : Bool) → bad_size h q (mark_of h) ≡ u →
         (Objects h first_object next (ps ++ q ∷ []) → next ≤ mark_of h → mark_of h ≤ next + n → Shows h next (walk n h next (mark_of h))) →
-        Shows h q (if s then clean [] else if t then fault q else if u then fault (q + 1) else and_object q (walk n h next (mark_of h)))
+        Shows h q (when s then clean [] else when t then fault q else when u then fault (q + 1) else and_object q (walk n h next (mark_of h)))
     go true e t f u g rest = omega (arith, leb-true (mark_of h) q e)
     go false e true f u g rest = header (to e) (header-bad h q f)
     go false e false f true g rest = size_word q (to e) (λ F. true≢false (sym (bad-header h q F) ∙ f)) (size-bad h q g) refl
@@ -190,7 +190,7 @@ unfolding heap_of
 heap-mark-fault h (inl e) = rw (lt-leb first_object (mark_of h) e)
 heap-mark-fault h (inr e) = rw (lt-leb (mark_of h) (length h) e) (go (leb first_object (mark_of h)))
   where
-    go : (t : Bool) → (if t && false then judge h (walked h) else fault 0) ≡ fault 0
+    go : (t : Bool) → (when t && false then judge h (walked h) else fault 0) ≡ fault 0
     go true = refl
     go false = refl
 

@@ -6,7 +6,7 @@ use Rattle.std.proofs.Math.Bool.{true, false}
 use mathlib.Core.List.{List, [], ◌∷◌, ◌++◌}
 use Rattle.std.proofs.Common.{inl, inr, arith}
 use Rattle.std.proofs.Math.Decide.{ℕ_discrete}
-use Rattle.model.specs.Choice.{if◌then◌else◌, Mem}
+use Rattle.model.specs.Choice.{when◌then◌else◌, Mem}
 use Rattle.model.specs.Words.{word_at}
 use Rattle.laws.specs.Members.{Rising}
 use Rattle.model.specs.Heap.{mark_of, first_object, Audit, fault, clean, walk, is_pointer, range, pointers_first, zeros_first}
@@ -16,7 +16,7 @@ use Rattle.audit_heap.specs.declared.HeapAudit.TheVariants.{Clean, Fault}
 
 unfoldable pub first_bad : (ℕ → Bool) → List ℕ → HeapAudit
 first_bad P [] = Clean
-first_bad P (i ∷ is) = if P i then first_bad P is else Fault i
+first_bad P (i ∷ is) = when P i then first_bad P is else Fault i
 
 -- the walk of a whole heap, and its words from the mark on
 abbrev pub walked : List ℕ → Audit
@@ -49,7 +49,7 @@ pointers-first h os [] rest = refl
 pointers-first h os (i ∷ is) rest = go (is_pointer os (word_at h i)) (pointers-first h os is rest)
   where
     go : (t : Bool) → pointers_first h os is rest ≡ or_audit (first_bad (pointer_at h os) is) rest →
-        (if t then pointers_first h os is rest else fault i) ≡ or_audit (if t then first_bad (pointer_at h os) is else Fault i) rest
+        (when t then pointers_first h os is rest else fault i) ≡ or_audit (when t then first_bad (pointer_at h os) is else Fault i) rest
     go true e = e
     go false e = refl
 
@@ -59,7 +59,7 @@ zeros-first h [] rest = refl
 zeros-first h (i ∷ is) rest = go (eqb (word_at h i) 0) (zeros-first h is rest)
   where
     go : (t : Bool) → zeros_first h is rest ≡ or_audit (first_bad (zero_at h) is) rest →
-        (if t then zeros_first h is rest else fault i) ≡ or_audit (if t then first_bad (zero_at h) is else Fault i) rest
+        (when t then zeros_first h is rest else fault i) ≡ or_audit (when t then first_bad (zero_at h) is else Fault i) rest
     go true e = e
     go false e = refl
 
@@ -70,7 +70,7 @@ module _ (P : ℕ → Bool) where
   bad-append (i ∷ is) js = go (P i) (bad-append is js)
     where
       go : (t : Bool) → first_bad P (is ++ js) ≡ or_else (first_bad P is) (first_bad P js) →
-          (if t then first_bad P (is ++ js) else Fault i) ≡ or_else (if t then first_bad P is else Fault i) (first_bad P js)
+          (when t then first_bad P (is ++ js) else Fault i) ≡ or_else (when t then first_bad P is else Fault i) (first_bad P js)
       go true e = e
       go false e = refl
 
@@ -80,7 +80,7 @@ module _ (P : ℕ → Bool) where
   all-good (j ∷ is) e i m = go (P j) refl (all-good is) e m
     where
       go : (t : Bool) → P j ≡ t → (first_bad P is ≡ Clean → (i : ℕ) → Mem i is → P i ≡ true) →
-          (if t then first_bad P is else Fault j) ≡ Clean → Mem i (j ∷ is) → P i ≡ true
+          (when t then first_bad P is else Fault j) ≡ Clean → Mem i (j ∷ is) → P i ≡ true
       go true u f w (inl m) = rw m u
       go true u f w (inr m) = f w i m
       go false u f w m = cc
@@ -97,7 +97,7 @@ module _ (P : ℕ → Bool) where
   bad-in (i ∷ is) q e = go (P i) refl (bad-in is q) e
     where
       go : (t : Bool) → P i ≡ t → (first_bad P is ≡ Fault q → Mem q is × (P q ≡ false)) →
-          (if t then first_bad P is else Fault i) ≡ Fault q → Mem q (i ∷ is) × (P q ≡ false)
+          (when t then first_bad P is else Fault i) ≡ Fault q → Mem q (i ∷ is) × (P q ≡ false)
       go true u f w = let r = f w in (inr r.0, r.1)
       go false u f w = let g : q ≡ i = cc in (inl g, rw g u)
 
@@ -107,7 +107,7 @@ module _ (P : ℕ → Bool) where
   good-below (j ∷ is) q R e i m l = go (P j) refl (good-below is q R.1) e m
     where
       go : (t : Bool) → P j ≡ t → (first_bad P is ≡ Fault q → (i : ℕ) → Mem i is → i < q → P i ≡ true) →
-          (if t then first_bad P is else Fault j) ≡ Fault q → Mem i (j ∷ is) → P i ≡ true
+          (when t then first_bad P is else Fault j) ≡ Fault q → Mem i (j ∷ is) → P i ≡ true
       go true u f w (inl m) = rw m u
       go true u f w (inr m) = f w i m l
       go false u f w (inl m) = let g : q ≡ j = cc in absurd (omega arith)

@@ -1,6 +1,6 @@
 -- What the audit finds: the fault of one object, the objects that the walk marks, and the answers of walk and audit.
 use Rattle.std.specs.Prelude.{ℕ, ◌+◌, ◌≤◌, ◌≡◌, Bool, List, [], length}
-use Rattle.model.specs.Choice.{if◌then◌else◌}
+use Rattle.model.specs.Choice.{when◌then◌else◌}
 use Rattle.model.specs.Heap.{mark_of, first_object, bad_header, bad_size, pointer_words, objects_in, heap_of, objects_of}
 use Rattle.audit_heap.specs.declared.HeapAudit.{HeapAudit}
 use Rattle.audit_heap.specs.declared.HeapAudit.TheVariants.{Clean, Fault}
@@ -16,7 +16,7 @@ pub record Range (h : List ℕ) : Type 0 where
 
 -- the fault of one object
 unfoldable pub fault_at : List ℕ → ℕ → ℕ → HeapAudit
-fault_at h q mark = if bad_header h q mark then Fault q else if bad_size h q mark then Fault (q + 1) else Clean
+fault_at h q mark = when bad_header h q mark then Fault q else when bad_size h q mark then Fault (q + 1) else Clean
 
 -- the objects that the walk finds
 unfoldable pub objects_found : List ℕ → List ℕ

@@ -1,6 +1,6 @@
 -- What a turn of each loop of the audit shows. A loop's invariant says that the definition gives for the whole what it gives for the
 -- part still to come; each turn takes one step of the definition.
-use Prim.Native.Nat.{ℕ, zero, suc, ◌+◌, ◌-◌, ◌<◌, ◌≤◌}
+use Prim.Native.Nat.{ℕ, suc, ◌+◌, ◌-◌, ◌<◌, ◌≤◌}
 use Rattle.std.proofs.Math.Path.{◌≡◌, refl, sym}
 use Rattle.std.proofs.Common.{◌∙◌, length-set}
 use Rattle.std.specs.Prelude.{Bool, ◌||◌, ◌≢◌, eqb, ltb, length, set}
@@ -11,7 +11,7 @@ use native.Mathlib.Omega.{arith}
 use Rattle.std.proofs.Math.ListN.{get_or}
 use Rattle.std.proofs.Math.Seq.{get_or-set_same, get_or-set_other}
 use borrow.Author.Tests.{eq-eqb, ne_eqb, le-leb, lt-leb, le-ltb, lt-ltb, not-true, not-false}
-use Rattle.model.specs.Choice.{if◌then◌else◌, member}
+use Rattle.model.specs.Choice.{when◌then◌else◌, member}
 use Rattle.model.specs.Words.{word_at}
 use Rattle.model.specs.Heap.{mark_of, first_object, ptrs_at, size_at, kind_of, Object, Objects, Audit, fault, clean, and_object, bad_header}
 use Rattle.model.specs.Heap.{bad_size, walk, is_pointer, range, pointer_words}
@@ -21,9 +21,8 @@ use Rattle.audit_words.specs.Every.{zero_at, Passing}
 use Rattle.audit_words.specs.Table.{Unmarked, Marks, is_marked, marked_at}
 use Rattle.audit_heap.specs.First.{first_bad, walked, or_else, or_audit, bad-append, none-bad, range-mem}
 use Rattle.audit_heap.specs.Audited.{good-object}
-use Rattle.audit_heap.specs.Found.{Range, fault_at, objects_found, LinksCounted, Walked}
+use Rattle.audit_heap.specs.Found.{Range, fault_at, objects_found, LinksCounted}
 use Rattle.numbers.specs.Small.{Small}
-use Rattle.model.specs.Checker.{none}
 
 -- A range of words
 
@@ -85,7 +84,7 @@ module _ (h : List ℕ) (q mark : ℕ) where
     judged-kind f = rw (← e, not-true r f)
 
     module _ (f : not r ≡ false) (a : q + 1 < mark) where
-      judged-size : fault_at h q mark ≡ (if bad_size h q mark then Fault (q + 1) else Clean)
+      judged-size : fault_at h q mark ≡ (when bad_size h q mark then Fault (q + 1) else Clean)
       unfolding fault_at bad_header
       judged-size = rw (← e, not-false r f, lt-leb mark (q + 1) a)
 
@@ -103,13 +102,13 @@ module _ (h : List ℕ) (q mark : ℕ) where
             let w' : mark < q + size_at h q = rw S.is at w in
             sym (judged-size ∙ rw (lt-ltb mark (q + size_at h q) w') (go (ltb (size_at h q) (2 + ptrs_at h q))))
           where
-            go : (t : Bool) → (if t || true || not ((kind_of h q).size (ptrs_at h q) (size_at h q)) then Fault (q + 1) else Clean) ≡ Fault (q + 1)
+            go : (t : Bool) → (when t || true || not ((kind_of h q).size (ptrs_at h q) (size_at h q)) then Fault (q + 1) else Clean) ≡ Fault (q + 1)
             go true = refl
             go false = refl
 
         module _ (ptrs d : ℕ) (T : Small d (ptrs_at h q) ptrs) (w : 2 + ptrs ≤ size) (v : q + size ≤ mark)
             (u : Bool) (g : u ≡ (kind_of h q).size (ptrs_at h q) (size_at h q)) where
-          judged-row : fault_at h q mark ≡ (if not u then Fault (q + 1) else Clean)
+          judged-row : fault_at h q mark ≡ (when not u then Fault (q + 1) else Clean)
           unfolding bad_size
           judged-row =
               let w' : 2 + ptrs_at h q ≤ size_at h q = rw (S.is, T.is) at w in
@@ -126,7 +125,7 @@ module _ (h : List ℕ) (q mark : ℕ) where
   unfolding fault_at bad_header
   judged-cut a = rw (le-leb mark (q + 1) a) (go (not ((kind_of h q).ptrs (ptrs_at h q))))
     where
-      go : (t : Bool) → Fault q ≡ (if t || true then Fault q else if bad_size h q mark then Fault (q + 1) else Clean)
+      go : (t : Bool) → Fault q ≡ (when t || true then Fault q else when bad_size h q mark then Fault (q + 1) else Clean)
       go true = refl
       go false = refl
 
@@ -135,17 +134,17 @@ module _ (h : List ℕ) (q mark : ℕ) where
   judged-object e = go (bad_header h q mark) refl (bad_size h q mark) refl e
     where
       go : (s : Bool) → bad_header h q mark ≡ s → (t : Bool) → bad_size h q mark ≡ t →
-          (if s then Fault q else if t then Fault (q + 1) else Clean) ≡ Clean → Object h q mark
+          (when s then Fault q else when t then Fault (q + 1) else Clean) ≡ Clean → Object h q mark
       go true f t g e = let z : ◌≡◌ {A = ℕ} 0 1 = cc in absurd (omega arith)
       go false f true g e = let z : ◌≡◌ {A = ℕ} 0 1 = cc in absurd (omega arith)
       go false f false g e = good-object h q mark f g
 
-  walk_step : (n : ℕ) → q < mark → walk (suc n) h q mark ≡ or_audit (fault_at h q mark) (and_object q (walk n h (q + size_at h q) mark))
+  pub walk_step : (n : ℕ) → q < mark → walk (suc n) h q mark ≡ or_audit (fault_at h q mark) (and_object q (walk n h (q + size_at h q) mark))
   unfolding walk fault_at
   walk_step n a = rw (lt-leb mark q a) (go (bad_header h q mark) (bad_size h q mark) (and_object q (walk n h (q + size_at h q) mark)))
     where
       go : (s t : Bool) (r : Audit) →
-          (if s then fault q else if t then fault (q + 1) else r) ≡ or_audit (if s then Fault q else if t then Fault (q + 1) else Clean) r
+          (when s then fault q else when t then fault (q + 1) else r) ≡ or_audit (when s then Fault q else when t then Fault (q + 1) else Clean) r
       go true t r = refl
       go false true r = refl
       go false false r = refl
@@ -155,13 +154,13 @@ module _ (h : List ℕ) (q mark : ℕ) where
 member-last : (q o : ℕ) (os : List ℕ) → member q (os ++ o ∷ []) ≡ member q os || eqb q o
 member-last q o [] = go (eqb q o)
   where
-    go : (t : Bool) → (if t then true else false) ≡ t
+    go : (t : Bool) → (when t then true else false) ≡ t
     go true = refl
     go false = refl
 member-last q o (p ∷ os) = go (eqb q p) (member-last q o os)
   where
     go : (t : Bool) → member q (os ++ o ∷ []) ≡ member q os || eqb q o →
-        (if t then true else member q (os ++ o ∷ [])) ≡ (if t then true else member q os) || eqb q o
+        (when t then true else member q (os ++ o ∷ [])) ≡ (when t then true else member q os) || eqb q o
     go true e = refl
     go false e = e
 
@@ -202,15 +201,15 @@ abbrev and_objects : List ℕ → Audit → Audit
 and_objects [] r = r
 and_objects (o ∷ os) r = and_object o (and_objects os r)
 
-objects-fault : (os : List ℕ) (p : ℕ) → and_objects os (fault p) ≡ fault p
+pub objects-fault : (os : List ℕ) (p : ℕ) → and_objects os (fault p) ≡ fault p
 objects-fault [] p = refl
 objects-fault (o ∷ os) p = rw (objects-fault os p)
 
-objects-clean : (os : List ℕ) → and_objects os (clean []) ≡ clean os
+pub objects-clean : (os : List ℕ) → and_objects os (clean []) ≡ clean os
 objects-clean [] = refl
 objects-clean (o ∷ os) = rw (objects-clean os)
 
-objects-last : (os : List ℕ) (o : ℕ) (r : Audit) → and_objects os (and_object o r) ≡ and_objects (os ++ o ∷ []) r
+pub objects-last : (os : List ℕ) (o : ℕ) (r : Audit) → and_objects os (and_object o r) ≡ and_objects (os ++ o ∷ []) r
 objects-last [] o r = refl
 objects-last (p ∷ os) o r = rw (objects-last os o r)
 
@@ -226,19 +225,19 @@ words-none h o (p ∷ os) e f =
     let n = append-none (range (p + 2) (ptrs_at h p)) (pointer_words h os) f in
     rw n.0 (words-none h o os e n.1)
 
-linked-more : (h : List ℕ) (o : ℕ) (os : List ℕ) (links ptrs b : ℕ) → Small b (ptrs_at h o) ptrs → LinksCounted h os links →
+pub linked-more : (h : List ℕ) (o : ℕ) (os : List ℕ) (links ptrs b : ℕ) → Small b (ptrs_at h o) ptrs → LinksCounted h os links →
     LinksCounted h (os ++ o ∷ []) (links + ptrs)
 unfolding LinksCounted
 linked-more h o os links ptrs b S L z = words-none h o os (omega (arith, S.is)) (L (omega arith))
 
 -- the objects before q are marked, and have so many pointer words
 pub record Marking (h : List ℕ) (q links : ℕ) (t : List Bool) : Type 0 where
-  done : List ℕ
-  left : ℕ
-  same : walked h ≡ and_objects done (walk left h q (mark_of h))
-  marks : Marks done t
-  linked : LinksCounted h done links
-  enough : mark_of h ≤ q + left
+  pub done : List ℕ
+  pub left : ℕ
+  pub same : walked h ≡ and_objects done (walk left h q (mark_of h))
+  pub marks : Marks done t
+  pub linked : LinksCounted h done links
+  pub enough : mark_of h ≤ q + left
   pub reach : q ≤ mark_of h
   pub room : length h ≤ length t
   pub few : links ≤ q
@@ -257,67 +256,6 @@ marking-none h t R l U =
       room = rw (length-set t 0 true) l;
       few = omega arith;
     }
-
-module _ (h : List ℕ) (q links mark b : ℕ) (t : List Bool) (M : Marking h q links t) (S : Small b (mark_of h) mark) where
-  -- one step of the walk
-  step_of : q < mark → (n : ℕ) → mark_of h ≤ q + n →
-      walk n h q (mark_of h) ≡ or_audit (fault_at h q mark) (and_object q (walk (n - 1) h (q + size_at h q) (mark_of h)))
-  step_of a zero e = let z = S.is in absurd (omega arith)
-  step_of a (suc n) e =
-      let z = S.is in
-      let w : q < mark_of h = omega arith in
-      let p : suc n - 1 ≡ n = omega arith in
-      rw (p, z) (walk_step h q (mark_of h) n w)
-
-  pub marking-fault : (a : HeapAudit) (p : ℕ) (t' : List Bool) → q < mark → a ≡ fault_at h q mark → a ≡ Fault p → Walked h (Fault p) 0 t'
-  marking-fault a p t' w e f =
-      let g : fault_at h q mark ≡ Fault p = sym e ∙ f in
-      let k : walked h ≡ fault p = M.same ∙ rw (step_of w M.left M.enough, g) (objects-fault M.done p) in
-      record {
-        is = rw k;
-        marks = λ c. let z : ◌≡◌ {A = ℕ} 0 1 = cc in absurd (omega arith);
-        linked = λ c. let z : ◌≡◌ {A = ℕ} 0 1 = cc in absurd (omega arith);
-      }
-
-  pub marking-object : (a : HeapAudit) → a ≡ fault_at h q mark → a ≡ Clean → Object h q mark
-  marking-object a e f = judged-object h q mark (sym e ∙ f)
-
-  pub marking-more : (a : HeapAudit) (ptrs c size d : ℕ) → Range h → q < mark → a ≡ fault_at h q mark → a ≡ Clean →
-      Small c (ptrs_at h q) ptrs → Small d (size_at h q) size → Marking h (q + size) (links + ptrs) (set t q true)
-  marking-more a ptrs c size d R w e f P D =
-      let g : fault_at h q mark ≡ Clean = sym e ∙ f in
-      let O = judged-object h q mark g in
-      let z = S.is in
-      let y = D.is in
-      record {
-        done = M.done ++ q ∷ [];
-        left = M.left - 1;
-        same = rw y (M.same ∙ rw (step_of w M.left M.enough, g) (objects-last M.done q (walk (M.left - 1) h (q + size_at h q) (mark_of h))));
-        marks = marks-more t q (omega (arith, R.high, M.room)) M.done M.marks;
-        linked = linked-more h q M.done links ptrs c P M.linked;
-        enough = omega (arith, M.enough, O.holds);
-        reach = omega (arith, O.ends);
-        room = rw (length-set t q true) M.room;
-        few = omega (arith, M.few, P.is, O.holds);
-      }
-
-  pub marking-end : mark ≤ q → Walked h Clean links t
-  unfolding walk objects_found
-  marking-end w =
-      let z = S.is in
-      let r : mark_of h ≤ q = omega arith in
-      let e : walked h ≡ clean M.done = M.same ∙ rw (ends M.left r) (objects-clean M.done) in
-      record { is = rw e; marks = λ c. all_done e; linked = λ c. all-linked e }
-    where
-      ends : (n : ℕ) → mark_of h ≤ q → walk n h q (mark_of h) ≡ clean []
-      ends zero r = refl
-      ends (suc n) r = rw (le-leb (mark_of h) q r)
-
-      all_done : walked h ≡ clean M.done → Marks (objects_found h) t
-      all_done e = rw e M.marks
-
-      all-linked : walked h ≡ clean M.done → LinksCounted h (objects_found h) links
-      all-linked e = rw e M.linked
 
 -- The walk that tests pointer words
 

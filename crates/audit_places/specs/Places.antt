@@ -15,7 +15,7 @@ use Rattle.model.specs.Claim.{Bytes}
 use Rattle.laws.specs.Members.{member-in, in-member}
 use Rattle.laws_file.specs.Walk.{procs-some, proc-below}
 use Rattle.laws_file.specs.Procedures.{end_of, head_whole, end_low, own-head, own-end, between}
-use Rattle.theory_checker.specs.Exact.{passed-as, passed-shape, passed-rest}
+use Rattle.theory_checker.proofs.Exact.{passed-as, passed-shape, passed-rest}
 use Rattle.code_file.specs.declared.Head.{Head}
 use Rattle.code_file.specs.Heads.{HeadIs, proc_head, head-of}
 use Rattle.check_scan.specs.Heading.{Placed}

@@ -8,7 +8,7 @@ use Rattle.std.proofs.Math.Decide.{dec_lt}
 use Rattle.std.proofs.Math.Dec.{eqb}
 use Rattle.std.proofs.Math.ListN.{length, get_or-eq_default}
 use borrow.Author.Tests.{eq-eqb, ne_eqb, eqb-true}
-use Rattle.model.specs.Choice.{if◌then◌else◌, Test, all, all_true}
+use Rattle.model.specs.Choice.{when◌then◌else◌, Test, all, all_true}
 use Rattle.model.specs.File.{byte_at, operand, proc_at, ins_of, ins_at, params_main, params_ptr}
 use Rattle.model.specs.Checker.{none, Effect, effect_of}
 use Rattle.model.specs.Control.{Rec, Frame, Handler, as_frame, as_handler, frame_rec, handler_rec}
@@ -154,19 +154,19 @@ module _ (f map : List ℕ) (lm lp : ℕ) (rs : List Rec) (s : LookRead) where
     -- what follows a frame's own tests, where c is the call
     abbrev rest : ℕ → Bool
     rest c =
-        if eqb s.frame 1
+        when eqb s.frame 1
         then all (first_tests f map lm lp (the_frame w) (the_look s))
         else
-        (if all (caller_tests f map lm lp (the_frame w) c (pops c))
+        (when all (caller_tests f map lm lp (the_frame w) c (pops c))
         then stack? f map lm lp rs (caller f map lm lp (the_frame w) (the_look s) c (pops c))
         else false)
 
     stack-frame : (t : Bool) → t ≡ all (frame_tests f map lm lp (the_frame w) rs (the_look s)) →
-        stack? f map lm lp (v ∷ rs) (the_look s) ≡ (if t then rest (call_before f w.returns) else false)
+        stack? f map lm lp (v ∷ rs) (the_look s) ≡ (when t then rest (call_before f w.returns) else false)
     unfolding stack?
     stack-frame t e =
         ap (λ (x : Frame). stack? f map lm lp (frame_rec x ∷ rs) (the_look s)) (sym v-is)
-        ∙ rw (eq-eqb s.inner none bare) (ap (λ (b : Bool). if b then rest (call_before f w.returns) else false) (sym e))
+        ∙ rw (eq-eqb s.inner none bare) (ap (λ (b : Bool). when b then rest (call_before f w.returns) else false) (sym e))
 
     pub told-frame : false ≡ all (frame_tests f map lm lp (the_frame w) rs (the_look s)) →
         RecordTells f map lm lp v rs s (End false)
@@ -180,12 +180,12 @@ module _ (f map : List ℕ) (lm lp : ℕ) (rs : List Rec) (s : LookRead) where
       module _ (later : s.frame ≡ 1 → ⊥) (c : ℕ) (c-is : c ≡ call_before f w.returns) where
         later-frame : (t : Bool) → t ≡ all (caller_tests f map lm lp (the_frame w) c (pops c)) →
             stack? f map lm lp (v ∷ rs) (the_look s)
-            ≡ (if t then stack? f map lm lp rs (caller f map lm lp (the_frame w) (the_look s) c (pops c)) else false)
+            ≡ (when t then stack? f map lm lp rs (caller f map lm lp (the_frame w) (the_look s) c (pops c)) else false)
         later-frame t d =
             stack-frame true e
             ∙ ap rest (sym c-is)
             ∙ rw (ne_eqb s.frame 1 later)
-            (ap (λ (b : Bool). if b then stack? f map lm lp rs (caller f map lm lp (the_frame w) (the_look s) c (pops c)) else false) (sym d))
+            (ap (λ (b : Bool). when b then stack? f map lm lp rs (caller f map lm lp (the_frame w) (the_look s) c (pops c)) else false) (sym d))
 
         pub told-call : false ≡ all (caller_tests f map lm lp (the_frame w) c (pops c)) →
             RecordTells f map lm lp v rs s (End false)
@@ -199,12 +199,12 @@ module _ (f map : List ℕ) (lm lp : ℕ) (rs : List Rec) (s : LookRead) where
   module _ (v : Rec) (w : HandlerRead) (v-is : the_handler w ≡ as_handler v) (held : s.inner ≡ none → ⊥) where
     stack-handler : (t : Bool) → t ≡ all (handler_tests f map lm lp (the_handler w) rs (the_look s)) →
         stack? f map lm lp (v ∷ rs) (the_look s)
-        ≡ (if t then stack? f map lm lp rs (outside f map lm lp (the_handler w) (the_look s)) else false)
+        ≡ (when t then stack? f map lm lp rs (outside f map lm lp (the_handler w) (the_look s)) else false)
     unfolding stack?
     stack-handler t e =
         ap (λ (x : Handler). stack? f map lm lp (handler_rec x ∷ rs) (the_look s)) (sym v-is)
         ∙ rw (ne_eqb s.inner none held)
-        (ap (λ (b : Bool). if b then stack? f map lm lp rs (outside f map lm lp (the_handler w) (the_look s)) else false) (sym e))
+        (ap (λ (b : Bool). when b then stack? f map lm lp rs (outside f map lm lp (the_handler w) (the_look s)) else false) (sym e))
 
     pub told-handler : false ≡ all (handler_tests f map lm lp (the_handler w) rs (the_look s)) →
         RecordTells f map lm lp v rs s (End false)

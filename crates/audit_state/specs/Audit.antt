@@ -3,7 +3,7 @@ use Rattle.std.specs.Prelude.{ℕ, ◌*◌, ◌/◌, ◌≤◌, Bool, List, [], 
 use Rattle.std.proofs.Math.Bool.{true, false}
 use Rattle.std.proofs.Common.{ap, sym, ◌∙◌, eq-eqb, ne_eqb}
 use native.Mathlib.Omega.{arith}
-use Rattle.model.specs.Choice.{if◌then◌else◌, Test, same, at_most, yes?, all, All, all_true}
+use Rattle.model.specs.Choice.{when◌then◌else◌, Test, same, at_most, yes?, all, All, all_true}
 use Rattle.model.specs.File.{results_main, results_ptr}
 use Rattle.model.specs.Heap.{objects_of}
 use Rattle.model.specs.Control.{Machine, set_regs, record_words, down, records, root_words}
@@ -79,22 +79,22 @@ records_ok f map m =
 module _ (f map : List ℕ) (m : Machine) where
   sound-is :
       sound? f map m
-      ≡ (if eqb m.regs.state 1
-      then (if done_ok (results_main f 0) (results_ptr f 0) m.regs then all (stack_tests m) else false)
-      else (if tops_ok map m.regs (length m.ctl) then (if records_ok f map m then all (stack_tests m) else false) else false))
+      ≡ (when eqb m.regs.state 1
+      then (when done_ok (results_main f 0) (results_ptr f 0) m.regs then all (stack_tests m) else false)
+      else (when tops_ok map m.regs (length m.ctl) then (when records_ok f map m then all (stack_tests m) else false) else false))
   unfolding sound? running_tests finished_tests tops_ok done_ok
   sound-is = go (eqb m.regs.state 1)
     where
       go : (t : Bool) →
-          (if t then all (finished_tests f m) else all (running_tests f map m))
-          ≡ (if t
-          then (if done_ok (results_main f 0) (results_ptr f 0) m.regs then all (stack_tests m) else false)
-          else (if tops_ok map m.regs (length m.ctl) then (if records_ok f map m then all (stack_tests m) else false) else false))
+          (when t then all (finished_tests f m) else all (running_tests f map m))
+          ≡ (when t
+          then (when done_ok (results_main f 0) (results_ptr f 0) m.regs then all (stack_tests m) else false)
+          else (when tops_ok map m.regs (length m.ctl) then (when records_ok f map m then all (stack_tests m) else false) else false))
       go true = all_both (done_tests (results_main f 0) (results_ptr f 0) m.regs) (stack_tests m)
       go false = all_both (tops_tests map m.regs (length m.ctl)) (yes? (records_ok f map m) ∷ stack_tests m)
 
   module _ (done : m.regs.state ≡ 1) {h : Head} (H : HeadFor f 0 h) where
-    done-is : (t : Bool) → done_ok h.r h.s m.regs ≡ t → sound? f map m ≡ (if t then all (stack_tests m) else false)
+    done-is : (t : Bool) → done_ok h.r h.s m.regs ≡ t → sound? f map m ≡ (when t then all (stack_tests m) else false)
     done-is t e = sound-is ∙ rw (eq-eqb m.regs.state 1 done, ← H.r_is, ← H.s_is, e)
 
     pub sound-done : {r : Bool} → done_ok h.r h.s m.regs ≡ true → r ≡ all (stack_tests m) → r ≡ sound? f map m
@@ -105,7 +105,7 @@ module _ (f map : List ℕ) (m : Machine) where
 
   module _ (on : m.regs.state ≡ 1 → ⊥) where
     on-is : (t : Bool) → tops_ok map m.regs (length m.ctl) ≡ t →
-        sound? f map m ≡ (if t then (if records_ok f map m then all (stack_tests m) else false) else false)
+        sound? f map m ≡ (when t then (when records_ok f map m then all (stack_tests m) else false) else false)
     on-is t e = sound-is ∙ rw (ne_eqb m.regs.state 1 on, e)
 
     pub sound-tops : tops_ok map m.regs (length m.ctl) ≡ false → false ≡ sound? f map m
@@ -113,10 +113,10 @@ module _ (f map : List ℕ) (m : Machine) where
 
     module _ (t : tops_ok map m.regs (length m.ctl) ≡ true) {top : Look} (top-is : (m' : Machine) → the_look top ≡ topmost map (set_regs m.regs m')) {b : Bool}
         (b_is : b ≡ stack? f map (length m.main) (length m.ptr) (down m.ctl (records m)) (the_look top)) where
-      records-are : (u : Bool) → b ≡ u → sound? f map m ≡ (if u then all (stack_tests m) else false)
+      records-are : (u : Bool) → b ≡ u → sound? f map m ≡ (when u then all (stack_tests m) else false)
       records-are u e =
           let same-look = ap (stack? f map (length m.main) (length m.ptr) (down m.ctl (records m))) (top-is m) in
-          on-is true t ∙ ap (λ (v : Bool). if v then all (stack_tests m) else false) (sym (b_is ∙ same-look) ∙ e)
+          on-is true t ∙ ap (λ (v : Bool). when v then all (stack_tests m) else false) (sym (b_is ∙ same-look) ∙ e)
 
       pub sound-records : b ≡ false → false ≡ sound? f map m
       sound-records e = sym (records-are false e)

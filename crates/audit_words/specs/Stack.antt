@@ -2,7 +2,7 @@
 use Rattle.std.specs.Prelude.{ℕ, zero, suc, ◌<◌, ◌≤◌, ◌≡◌, refl, Bool, true, false, List, [], ◌∷◌, ◌⊎◌, eqb, length, drop}
 use Rattle.std.proofs.Math.Path.{sym}
 use Rattle.std.proofs.Common.{◌∙◌, inl, inr, arith, drop-cons, eqb-true}
-use Rattle.model.specs.Choice.{if◌then◌else◌, if-both}
+use Rattle.model.specs.Choice.{when◌then◌else◌, if-both}
 use Rattle.model.specs.Words.{word_at}
 use Rattle.model.specs.Heap.{is_pointer}
 use Rattle.model.specs.Sound.{pointers, zeros}
@@ -39,7 +39,7 @@ zeros-told l top false F = sym (one-not l top F.at F.low F.high F.fails)
     one-not (w ∷ l) zero zero a b e = rw e
     one-not (w ∷ l) zero (suc j) a b e = rw (one-not l 0 j (omega arith) (omega arith) e) (go (eqb w 0))
       where
-        go : (t : Bool) → (if t then false else false) ≡ false
+        go : (t : Bool) → (when t then false else false) ≡ false
         go true = refl
         go false = refl
     one-not (w ∷ l) (suc i) zero a b e = absurd (omega arith)
@@ -51,7 +51,7 @@ pointers-fail os [] i h e = absurd (omega arith)
 pointers-fail os (v ∷ l) zero h e = rw e
 pointers-fail os (v ∷ l) (suc i) h e = rw (pointers-fail os l i (omega arith) e) (go (is_pointer os v))
   where
-    go : (t : Bool) → (if t then false else false) ≡ false
+    go : (t : Bool) → (when t then false else false) ≡ false
     go true = refl
     go false = refl
 

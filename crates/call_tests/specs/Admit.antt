@@ -9,7 +9,7 @@ use Rattle.model.specs.Heap.{clean, heap_of, objects_of}
 use Rattle.model.specs.Calls.{pass, refuse, verdict_of, Checked, checked, answered, check_of, Lent, with_map, After, answers, demand, audited, register_tests, length_tests}
 use Rattle.model.specs.Calls.{after_check, tested, heap_most}
 use Rattle.model.specs.Calls as model
-use Rattle.theory_checker.specs.Exact.{passed-as}
+use Rattle.theory_checker.proofs.Exact.{passed-as}
 use Rattle.laws_file.specs.Procedures.{head-zero, head_whole}
 use Rattle.check_scan.specs.Heading.{Placed}
 use Rattle.checker.specs.Parts.{answer_of, Checks}

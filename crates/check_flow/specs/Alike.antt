@@ -5,7 +5,7 @@ use Rattle.std.proofs.Math.Bool.{true}
 use Rattle.std.proofs.Common.{true≢false, inl, inr, sym, ◌∙◌, arith}
 use Rattle.std.proofs.Math.Path.{refl}
 use borrow.Author.Tests.{lt-ltb, eq-eqb, ne_eqb, eqb-true, eqb-false}
-use Rattle.model.specs.Choice.{if◌then◌else◌, all, all_true, Mem, member}
+use Rattle.model.specs.Choice.{when◌then◌else◌, all, all_true, Mem, member}
 use Rattle.model.specs.File.{Ins, ins_at, instructions, head_of, proc_at, greatest_main, greatest_ptr, records_of, starts}
 use Rattle.model.specs.Checker.{none, State, state, is_set, same_state, Known, state_at, innermost, passes, target_tests, next_tests, depth_tests}
 use Rattle.model.specs.Checker.{leave_tests, Taking, bad, good, need, meet, and_take, pass_all, take_with, take_one}
@@ -13,7 +13,8 @@ use Rattle.model.specs.Claim.{Bytes}
 use Rattle.laws.specs.Members.{in-member, member-in}
 use Rattle.laws_file.specs.Walk.{instruction-below}
 use Rattle.laws_file.specs.Procedures.{DepthsWithin}
-use Rattle.theory_checker.specs.Flow.{DepthsFrom, InnerFrom, Moves, moves}
+use Rattle.theory_checker.specs.Flow.{DepthsFrom, InnerFrom, Moves}
+use Rattle.theory_checker.proofs.Flow.{moves}
 use Rattle.check_scan.specs.Marks.{unreached, state_in, put_in, PartShows, put-shows}
 use Rattle.check_rows.specs.Rows.{is_set_in}
 use Rattle.check_ways.specs.Takes.{pass_all_in, take_in_with, take_in}
@@ -54,7 +55,7 @@ module _ (f : List ℕ) (k : Known) (m : List ℕ) (G : Good f k m) (q : ℕ) (i
 grown : (k : Known) (q r : ℕ) (s : State) → is_set s ≡ true → is_set (state_at k r) ≡ true → is_set (state_at ((q, s) ∷ k) r) ≡ true
 grown k q r s h e = go (eqb r q)
   where
-    go : (t : Bool) → is_set (if t then s else state_at k r) ≡ true
+    go : (t : Bool) → is_set (when t then s else state_at k r) ≡ true
     go true = h
     go false = e
 
@@ -64,7 +65,7 @@ outer-grown k q s u n (inl e) = rw (eq-eqb u.inner none e)
 outer-grown k q s u n (inr e) = go (eqb u.inner q) refl
   where
     go : (t : Bool) → eqb u.inner q ≡ t →
-        (if eqb u.inner none then state 0 0 none else (if t then s else state_at k u.inner)) ≡ innermost (state_at k) u
+        (when eqb u.inner none then state 0 0 none else (when t then s else state_at k u.inner)) ≡ innermost (state_at k) u
     go true z = let w = eqb-true u.inner q z in absurd (true≢false (sym e ∙ rw w n))
     go false z = refl
 
@@ -93,13 +94,13 @@ good-put f k m q s G in? low n F W =
       within = λ r e. inside r e (eqb r q) refl;
     }
   where
-    inside : (r : ℕ) → is_set (if eqb r q then s else state_at k r) ≡ true → (t : Bool) → eqb r q ≡ t →
-        DepthsWithin f r (if eqb r q then s else state_at k r)
+    inside : (r : ℕ) → is_set (when eqb r q then s else state_at k r) ≡ true → (t : Bool) → eqb r q ≡ t →
+        DepthsWithin f r (when eqb r q then s else state_at k r)
     inside r e true w = let z = eqb-true r q w in rw (w, z) W
     inside r e false w = let v : is_set (state_at k r) ≡ true = rw w at e in rw w (G.within r v)
 
-    at : (r : ℕ) → is_set (if eqb r q then s else state_at k r) ≡ true → (t : Bool) → eqb r q ≡ t →
-        Fit ((q, s) ∷ k) (if eqb r q then s else state_at k r)
+    at : (r : ℕ) → is_set (when eqb r q then s else state_at k r) ≡ true → (t : Bool) → eqb r q ≡ t →
+        Fit ((q, s) ∷ k) (when eqb r q then s else state_at k r)
     at r e true w = rw w (fit-grown k q s s (byte-set s F.main_byte) n F)
     at r e false w =
         let v : is_set (state_at k r) ≡ true = rw w at e in
@@ -169,8 +170,8 @@ module _ (f ps : List ℕ) (B : Bytes f) (e : records_of f ≡ starts ps) (k : K
   outer-fit s F = go F.held (eqb s.inner none) refl
     where
       go : (s.inner ≡ none) ⊎ (is_set (state_at k s.inner) ≡ true) → (t : Bool) → eqb s.inner none ≡ t →
-          ((if t then state 0 0 none else state_at k s.inner).inner ≡ none)
-          ⊎ (is_set (state_at k (if t then state 0 0 none else state_at k s.inner).inner) ≡ true)
+          ((when t then state 0 0 none else state_at k s.inner).inner ≡ none)
+          ⊎ (is_set (state_at k (when t then state 0 0 none else state_at k s.inner).inner) ≡ true)
       go h true z = inl refl
       go (inl w) false z = absurd (eqb-false s.inner none z w)
       go (inr w) false z = (G.fits s.inner w).held
@@ -182,10 +183,10 @@ module _ (f ps : List ℕ) (B : Bytes f) (e : records_of f ≡ starts ps) (k : K
   outer-above s F = go F.held (eqb s.inner none) refl
     where
       go : (s.inner ≡ none) ⊎ (is_set (state_at k s.inner) ≡ true) → (t : Bool) → eqb s.inner none ≡ t →
-          ((innermost (state_at k) (if t then state 0 0 none else state_at k s.inner)).main
-          ≤ (if t then state 0 0 none else state_at k s.inner).main)
-          × ((innermost (state_at k) (if t then state 0 0 none else state_at k s.inner)).ptr
-          ≤ (if t then state 0 0 none else state_at k s.inner).ptr)
+          ((innermost (state_at k) (when t then state 0 0 none else state_at k s.inner)).main
+          ≤ (when t then state 0 0 none else state_at k s.inner).main)
+          × ((innermost (state_at k) (when t then state 0 0 none else state_at k s.inner)).ptr
+          ≤ (when t then state 0 0 none else state_at k s.inner).ptr)
       go h true z = (omega arith, omega arith)
       go (inl w) false z = absurd (eqb-false s.inner none z w)
       go (inr w) false z = ((G.fits s.inner w).main_above, (G.fits s.inner w).ptr_above)
@@ -224,7 +225,7 @@ module _ (f ps : List ℕ) (B : Bytes f) (e : records_of f ≡ starts ps) (k : K
             let F = G.fits p set? in rw z (M.high.main F.main_above, M.high.ptr F.ptr_above)
 
         under-own : (t : Bool) → (u.main ≡ (state_at k p).main) × (u.ptr ≡ (state_at k p).ptr) →
-            ((if t then state 0 0 none else state_at k p).main ≤ u.main) × ((if t then state 0 0 none else state_at k p).ptr ≤ u.ptr)
+            ((when t then state 0 0 none else state_at k p).main ≤ u.main) × ((when t then state 0 0 none else state_at k p).ptr ≤ u.ptr)
         under-own true d = (omega arith, omega arith)
         under-own false d = (omega arith, omega arith)
 

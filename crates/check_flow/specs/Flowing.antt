@@ -11,14 +11,14 @@ use native.Mathlib.Omega.{arith}
 use Rattle.std.proofs.Math.Dec.{ltb}
 use Rattle.std.proofs.Math.ListN.{length, get_or, drop}
 use borrow.Author.Tests.{lt-ltb, le-ltb, eq-eqb, ne_eqb, eqb-true}
-use Rattle.model.specs.Choice.{if◌then◌else◌, Mem, member}
+use Rattle.model.specs.Choice.{when◌then◌else◌, Mem, member}
 use Rattle.model.specs.File.{unknown, body_of, byte_at, after, whole?, Records, starts, records_of, starts_in, is_head, select, instructions, heads}
 use Rattle.model.specs.File.{procs, head_of, proc_at, greatest_main, greatest_ptr, file_most, head_kind}
 use Rattle.model.specs.Checker.{none, State, state, is_set, Known, state_at, innermost, own, firsts, Taking, bad, good, refused, passed, go_on, take_one, take_all, flow, map_from}
 use Rattle.laws_file.specs.Walk.{instructions-others, instructions-are, Walk, walk-above, records-walk, after-above, first_head, instruction-below, HeadsHold}
 use Rattle.laws_file.specs.Procedures.{end_of, head-zero, head-none, head_whole, end_low, between}
 use Rattle.laws.specs.Members.{member-in, in-member, select_in, in-select}
-use Rattle.theory_checker.specs.Flow.{own-in, keeps-shape, flow-keeps, flow-rest}
+use Rattle.theory_checker.proofs.Flow.{own-in, keeps-shape, flow-keeps, flow-rest}
 use Rattle.laws_file.specs.Rest.{rest_of, rest_end, rest-inv, whole-inside, records-first}
 use Rattle.check_scan.specs.Marks.{unreached, state_in}
 use Rattle.check_scan.specs.Heading.{Placed}
@@ -66,7 +66,7 @@ whole-known f p e z = true≢false (sym e ∙ rw (eq-eqb (body_of (byte_at f p))
 
 -- the end of the procedure behind c heads
 abbrev pub end_in : List ℕ → ℕ → ℕ → ℕ → ℕ
-end_in table k c n = if ltb c k then get_or table c 0 else n
+end_in table k c n = when ltb c k then get_or table c 0 else n
 
 -- at p, behind c heads, in the procedure between h and e
 pub record Flowing (f m table : List ℕ) (k p c h e : ℕ) : Type 0 where
@@ -152,7 +152,7 @@ module _ {f m₀ table : List ℕ} {k : ℕ} (B : Begun f m₀ table k) where
           low = flowing-inside;
         }
       where
-        ends : (n : ℕ) → k ≡ length (heads f) → Dec (n < k) → end_in table k n (length f) ≡ (if ltb n (length (heads f)) then get_or (heads f) n 0 else length f)
+        ends : (n : ℕ) → k ≡ length (heads f) → Dec (n < k) → end_in table k n (length f) ≡ (when ltb n (length (heads f)) then get_or (heads f) n 0 else length f)
         ends n q (yes l) =
             let g = B.placed.few in
             rw (lt-ltb n k l, lt-ltb n (length (heads f)) (omega arith)) (B.placed.heads n (omega arith))

@@ -7,7 +7,7 @@ use Rattle.std.proofs.Common.{ap, sym, arith, lt-ltb, le-ltb, eq-eqb, ne_eqb}
 use Rattle.std.proofs.Math.Decide.{dec_lt}
 use Rattle.std.proofs.Math.Dec.{eqb}
 use Rattle.std.proofs.Math.ListN.{length}
-use Rattle.model.specs.Choice.{if◌then◌else◌, Mem, member}
+use Rattle.model.specs.Choice.{when◌then◌else◌, Mem, member}
 use Rattle.model.specs.File.{instructions, procs, head_of, proc_at, records_of, starts}
 use Rattle.model.specs.Checker.{none, Known, own}
 use Rattle.laws.specs.Members.{member-in}
@@ -21,14 +21,14 @@ module _ (f ps : List ℕ) (e : records_of f ≡ starts ps)
   outside : (q : ℕ) → length f ≤ q → own_in m (head_of f n) (end_of f (n + 1)) q ≡ false
   outside q h = go (ltb (head_of f n) q)
     where
-      go : (t : Bool) → (if t then (if ltb q (end_of f (n + 1)) then not (eqb (get_or m (3 * q) 0) none) else false) else false) ≡ false
+      go : (t : Bool) → (when t then (when ltb q (end_of f (n + 1)) then not (eqb (get_or m (3 * q) 0) none) else false) else false) ≡ false
       go true = let a = end_low f ps e (n + 1) in rw (le-ltb q (end_of f (n + 1)) (omega arith))
       go false = refl
 
   no_start : (q : ℕ) → q < length f → member q (instructions f) ≡ false → own_in m (head_of f n) (end_of f (n + 1)) q ≡ false
   no_start q h w = rw (starts-here f k m S q h, w) (go (ltb (head_of f n) q) (ltb q (end_of f (n + 1))))
     where
-      go : (t u : Bool) → (if t then (if u then false else false) else false) ≡ false
+      go : (t u : Bool) → (when t then (when u then false else false) else false) ≡ false
       go true true = refl
       go true false = refl
       go false u = refl
@@ -42,7 +42,7 @@ module _ (f ps : List ℕ) (e : records_of f ≡ starts ps)
       far : (proc_at f q ≡ n → ⊥) → false ≡ eqb (proc_at f q) n
       far h = sym (ne_eqb (proc_at f q) n h)
 
-      go : Dec (head_of f n < q) → Dec (q < end_of f (n + 1)) → (if ltb (head_of f n) q then (if ltb q (end_of f (n + 1)) then true else false) else false) ≡ eqb (proc_at f q) n
+      go : Dec (head_of f n < q) → Dec (q < end_of f (n + 1)) → (when ltb (head_of f n) q then (when ltb q (end_of f (n + 1)) then true else false) else false) ≡ eqb (proc_at f q) n
       go (yes a) (yes b) = rw (lt-ltb (head_of f n) q a, lt-ltb q (end_of f (n + 1)) b) (sym (eq-eqb (proc_at f q) n (between f ps e n q n-low (omega arith) b)))
       go (yes a) (no b) = rw (lt-ltb (head_of f n) q a, le-ltb q (end_of f (n + 1)) (omega arith)) (far (λ z. let v = own-end f ps e q i in let u = ap (λ (j : ℕ). end_of f (j + 1)) z in omega arith))
       go (no a) d = rw (le-ltb (head_of f n) q (omega arith)) (far (λ z. let v = own-head f ps e q i in let u = ap (head_of f) z in omega arith))

@@ -3,7 +3,7 @@
 use Rattle.std.specs.Prelude.{ℕ, suc, ◌+◌, ◌-◌, ◌<◌, ◌≤◌, Bool, true, false, List, ◌≡◌, ltb}
 use Rattle.std.proofs.Common.{arith}
 use borrow.Author.Tests.{lt-ltb, le-ltb, le-leb}
-use Rattle.model.specs.Choice.{if◌then◌else◌}
+use Rattle.model.specs.Choice.{when◌then◌else◌}
 use Rattle.model.specs.File.{body_of, byte_at, after, ins_of, ins_at}
 use Rattle.model.specs.Checker.{State, effect, moved}
 use Rattle.laws_file.specs.Kinds.{OneOf, AtEach, at_each}
@@ -30,12 +30,12 @@ refusal n = record { fault = n; goes = false; next = 0; main = 0; ptr = 0 }
 -- 5, 6 and 7 in their order
 abbrev pub onward_by : Bool → Bool → Bool → Bool → Onward → Onward
 onward_by known set on depths r =
-    if known then (if set then (if on then (if depths then r else refusal 7) else refusal 6) else refusal 6) else refusal 5
+    when known then (when set then (when on then (when depths then r else refusal 7) else refusal 6) else refusal 6) else refusal 5
 
 -- from the state s, with o at the innermost open 160, to the place q
 unfoldable pub plainly : State → State → Limits → ℕ → Shape → Onward
 plainly s o l q sh =
-    onward_by sh.known (is_set_in s) (if goes_by sh.way then ltb q l.end else true) (stacks_ok sh s o l.x l.y)
+    onward_by sh.known (is_set_in s) (when goes_by sh.way then ltb q l.end else true) (stacks_ok sh s o l.x l.y)
     (record { fault = 0; goes = goes_by sh.way; next = q; main = (moved (effect_in sh) s).main; ptr = (moved (effect_in sh) s).ptr })
 
 -- what the tests rest on: the depths lie above the floor and, where a state is known, within the greatest
@@ -88,7 +88,7 @@ module _ (w : Way) (r : Row) (s o : State) (l : Limits) (q : ℕ) where
     unfolding plainly
     past g e = rw (lt-ltb s.main unreached a, g, le-ltb q l.end e)
 
-    module _ (on : (if goes_by w then ltb q l.end else true) ≡ true) (ok : Bool) (ok-is : ok ≡ stacks_ok (row_shape w r) s o l.x l.y) where
+    module _ (on : (when goes_by w then ltb q l.end else true) ≡ true) (ok : Bool) (ok-is : ok ≡ stacks_ok (row_shape w r) s o l.x l.y) where
       pub deep : ok ≡ false → refusal 7 ≡ plainly s o l q (row_shape w r)
       unfolding plainly
       deep z = rw (lt-ltb s.main unreached a, on, ← ok-is, z)

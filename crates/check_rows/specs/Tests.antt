@@ -4,7 +4,7 @@ use Rattle.std.proofs.Math.Path.{refl}
 use Rattle.std.proofs.Common.{sym, ◌∙◌, le-leb, leb-true, eqb-true, add-zero, add-one, arith}
 use Rattle.std.proofs.Math.Dec.{leb-zero}
 use Rattle.std.proofs.Math.Nat.{sub-zero}
-use Rattle.model.specs.Choice.{if◌then◌else◌, Test, at_most, yes?, holds, all, if-both}
+use Rattle.model.specs.Choice.{when◌then◌else◌, Test, at_most, yes?, holds, all, if-both}
 use Rattle.model.specs.File.{on_main, on_ptr, Basic, local, assign, field, set_field, make, literal, nil, root, set_root, retract, binary, same_ptr, unary}
 use Rattle.model.specs.File.{element, set_element, real_literal, real, real_less, hoop}
 use Rattle.model.specs.File.{Ins, basic, jump, branch, branch_keep, call, return, enter, exit, raise, after, proc_at, results_main, results_ptr}
@@ -55,11 +55,11 @@ abbrev pub leaves_by : Way → Bool
 leaves_by w = (does_by w).leaves
 
 abbrev pub and : Bool → Bool → Bool
-and a b = (if a then b else false)
+and a b = (when a then b else false)
 
 -- refusal 5, where `own` says that the target is an instruction of the procedure
 unfoldable pub target_ok : Way → Bool → Bool → ℕ → ℕ → Bool
-target_ok w known own q p = (if jumps_by w then and own (if opens_by w then leb (suc p) q else true) else known)
+target_ok w known own q p = (when jumps_by w then and own (when opens_by w then leb (suc p) q else true) else known)
 
 -- refusal 7 with the floor asked where nothing is popped too
 unfoldable firm_tests : List ℕ → ℕ → Ins → State → State → List Test
@@ -72,7 +72,7 @@ firm_tests f p i s o =
 floor-same : (n floor depth : ℕ) → floor ≤ depth → holds (floor_test n floor depth) ≡ leb (floor + n) depth
 floor-same n floor depth h = go (eqb n 0) refl
   where
-    go : (t : Bool) → eqb n 0 ≡ t → leb (if t then 0 else floor + n) depth ≡ leb (floor + n) depth
+    go : (t : Bool) → eqb n 0 ≡ t → leb (when t then 0 else floor + n) depth ≡ leb (floor + n) depth
     go true z = let w = eqb-true n 0 z in le-leb 0 depth (omega arith) ∙ sym (le-leb (floor + n) depth (omega arith))
     go false z = refl
 
@@ -88,7 +88,7 @@ stack_ok have floor pop push word x = and (leb (floor + pop) have) (and (leb wor
 
 -- a handler has the depth before its 160 and the raised word
 abbrev pub open_ok : Way → ℕ → ℕ → Bool
-open_ok w have x = (if opens_by w then leb (suc have) x else true)
+open_ok w have x = (when opens_by w then leb (suc have) x else true)
 
 unfoldable pub stacks_ok : Shape → State → State → ℕ → ℕ → Bool
 stacks_ok sh s o x y =
@@ -100,8 +100,8 @@ depth_ok sh s o x y = and (stacks_ok sh s o x y) (open_ok sh.way s.main x)
 -- refusal 8
 unfoldable pub leave_ok : Way → State → ℕ → ℕ → Bool
 leave_ok w s r q =
-    if closes_by w then not (eqb s.inner none)
-    else if leaves_by w then and (eqb s.main r) (and (eqb s.ptr q) (eqb s.inner none))
+    when closes_by w then not (eqb s.inner none)
+    else when leaves_by w then and (eqb s.main r) (and (eqb s.ptr q) (eqb s.inner none))
     else true
 
 abbrev pub effect_in : Shape → Effect
@@ -109,7 +109,7 @@ effect_in sh = effect sh.popm sh.popp sh.pushm sh.pushp
 
 -- the innermost open handler behind the instruction at p
 abbrev pub inner_by : Way → ℕ → ℕ → ℕ → ℕ
-inner_by w p h o = (if opens_by w then p else (if closes_by w then o else h))
+inner_by w p h o = (when opens_by w then p else (when closes_by w then o else h))
 
 -- the main depth at the target: before the instruction, after it, or with a raised word
 abbrev pub target_main : Way → ℕ → ℕ → ℕ → ℕ
@@ -221,11 +221,11 @@ module _ (f : List ℕ) (p : ℕ) where
   goes-on exit = refl
   goes-on raise = refl
 
-  next-by : (t : Bool) → all (if t then yes? (own f p (after f p)) ∷ [] else []) ≡ (if t then own f p (after f p) else true)
+  next-by : (t : Bool) → all (when t then yes? (own f p (after f p)) ∷ [] else []) ≡ (when t then own f p (after f p) else true)
   next-by true = and_right _
   next-by false = refl
 
-  pub next-tests : (i : Ins) → all (next_tests f p i) ≡ (if goes_by (at i).way then own f p (after f p) else true)
+  pub next-tests : (i : Ins) → all (next_tests f p i) ≡ (when goes_by (at i).way then own f p (after f p) else true)
   unfolding next_tests
   next-tests i = rw (goes-on i) (next-by (goes_by (at i).way))
 
@@ -275,8 +275,8 @@ module _ (f : List ℕ) (p : ℕ) where
 
   pub passes-are : (i : Ins) (s o : State) →
       passes f p i s o
-      ≡ (if goes_by (at i).way then (after f p, next_state (at i) p s o) ∷ [] else [])
-      ++ (if jumps_by (at i).way then ((at i).target, target_state (at i) s) ∷ [] else [])
+      ≡ (when goes_by (at i).way then (after f p, next_state (at i) p s o) ∷ [] else [])
+      ++ (when jumps_by (at i).way then ((at i).target, target_state (at i) s) ∷ [] else [])
   unfolding passes shape_of next_state target_state
   passes-are (basic b) s o = refl
   passes-are (jump q) s o = refl

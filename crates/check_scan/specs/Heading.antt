@@ -9,7 +9,7 @@ use Rattle.std.proofs.Math.Decide.{dec_lt}
 use native.Mathlib.Omega.{arith}
 use Rattle.std.proofs.Math.ListN.{length}
 use borrow.Author.Tests.{eq-eqb, ne_eqb, lt-ltb, le-ltb, le-leb, lt-leb}
-use Rattle.model.specs.Choice.{if◌then◌else◌, Test, same, at_most, yes?, all, All, all_true, member}
+use Rattle.model.specs.Choice.{when◌then◌else◌, Test, same, at_most, yes?, all, All, all_true, member}
 use Rattle.model.specs.File.{byte_at, starts, records_of, instructions, heads, procs, head_of, entry, head_tests, wrong, right, heads_from, heads_of}
 use Rattle.model.specs.File.{params_main, params_ptr, file_most, head_size}
 use Rattle.model.specs.Checker.{none, state, firsts}
@@ -25,7 +25,7 @@ use Rattle.check_scan.specs.declared.Heads.TheVariants.{Wrong, Right}
 
 -- the rules of head k on its numbers, as the model's head_tests has them
 abbrev number_list : Head → ℕ → List Test
-number_list h k = at_most (suc k) 64 ∷ same (if eqb k 0 then h.a else 0) 0 ∷ same (if eqb k 0 then h.b else 0) 0 ∷ []
+number_list h k = at_most (suc k) 64 ∷ same (when eqb k 0 then h.a else 0) 0 ∷ same (when eqb k 0 then h.b else 0) 0 ∷ []
 
 abbrev head_list : Head → ℕ → Bool → List Test
 head_list h k t =
@@ -56,7 +56,7 @@ unfoldable pub head_ok : Head → ℕ → Bool
 head_ok h k = all (head_list h k true)
 
 unfoldable pub starts_at : List ℕ → ℕ → ℕ → Bool
-starts_at m n q = if ltb q n then not (eqb (get_or m (3 * q) 0) none) else false
+starts_at m n q = when ltb q n then not (eqb (get_or m (3 * q) 0) none) else false
 
 -- the map and the table as the scan left them: n heads, the 65th at last
 pub record ScanMarked (f m table : List ℕ) (n last : ℕ) : Type 0 where
@@ -112,7 +112,7 @@ module _ {f m₀ table : List ℕ} {n last : ℕ} (M : ScanMarked f m₀ table n
       one_more : k < procs f
       one_more = let c = M.count in omega arith
 
-      come : heads_of f ≡ (if all (head_tests f k) then heads_from f (procs f - suc k) (suc k) else wrong (head_of f k))
+      come : heads_of f ≡ (when all (head_tests f k) then heads_from f (procs f - suc k) (suc k) else wrong (head_of f k))
       unfolding heads_from
       come =
           let a = one_more in
@@ -159,7 +159,7 @@ module _ {f m₀ table : List ℕ} {n last : ℕ} (M : ScanMarked f m₀ table n
             flip false = refl
 
             go : Dec (p + head_size < length f) →
-                (if ltb (p + head_size) (length f) then not (eqb (get_or m (3 * (p + head_size)) 0) none) else false) ≡ member (p + head_size) (instructions f)
+                (when ltb (p + head_size) (length f) then not (eqb (get_or m (3 * (p + head_size)) 0) none) else false) ≡ member (p + head_size) (instructions f)
             go (yes l) = rw (lt-ltb (p + head_size) (length f) l, starts-here f (firsts f k) m H.shows (p + head_size) l) (flip (member (p + head_size) (instructions f)))
             go (no l) = rw (le-ltb (p + head_size) (length f) (omega arith)) (far (member (p + head_size) (instructions f)) refl (omega arith))
 

@@ -11,7 +11,7 @@ use Rattle.std.proofs.Math.Dec.{eqb}
 use Rattle.std.proofs.Math.ListN.{length, get_or, set, length-set}
 use Rattle.std.proofs.lemmas.List.{length-replicate}
 use Rattle.std.proofs.Math.Seq.{get_or-set_same, get_or-set_other}
-use Rattle.model.specs.Choice.{if◌then◌else◌, Mem, member}
+use Rattle.model.specs.Choice.{when◌then◌else◌, Mem, member}
 use Rattle.model.specs.File.{starts, records_of, is_head, select, instructions}
 use Rattle.model.specs.Checker.{none, State, state, unset, is_set, Known, state_at}
 use Rattle.laws_file.specs.Walk.{instructions-are}
@@ -30,7 +30,7 @@ put_in m q s = set (set (set m (3 * q) s.main) (3 * q + 1) s.ptr) (3 * q + 2) s.
 
 -- what a place shows: `starts?` tells whether an instruction starts there
 abbrev pub shown_at : Bool → State → State
-shown_at starts? s = if is_set s then s else (if starts? then state unreached none none else unset)
+shown_at starts? s = when is_set s then s else (when starts? then state unreached none none else unset)
 
 -- the part shows the states k of the file's instructions, and no others are known
 pub record PartShows (f : List ℕ) (k : Known) (m : List ℕ) : Type 0 where
@@ -98,9 +98,9 @@ module _ (m : List ℕ) (q : ℕ) where
 -- the marks of all the records that are instructions
 unfoldable pub marked : List ℕ → List ℕ → List ℕ → List ℕ
 marked f m [] = m
-marked f m (p ∷ ps) = marked f (if is_head f p then m else set m (3 * p) unreached) ps
+marked f m (p ∷ ps) = marked f (when is_head f p then m else set m (3 * p) unreached) ps
 
-length-mark : (t : Bool) (m : List ℕ) (p v : ℕ) → length (if t then m else set m p v) ≡ length m
+length-mark : (t : Bool) (m : List ℕ) (p v : ℕ) → length (when t then m else set m p v) ≡ length m
 length-mark true m p v = refl
 length-mark false m p v = length-set m p v
 
@@ -108,13 +108,13 @@ pub length_marked : (f : List ℕ) (ps m : List ℕ) → length (marked f m ps) 
 unfolding marked
 length_marked f [] m = refl
 length_marked f (p ∷ ps) m =
-    length_marked f ps (if is_head f p then m else set m (3 * p) unreached) ∙ length-mark (is_head f p) m (3 * p) unreached
+    length_marked f ps (when is_head f p then m else set m (3 * p) unreached) ∙ length-mark (is_head f p) m (3 * p) unreached
 
 -- what the marks of a file's records show
 abbrev AtMarked : List ℕ → List ℕ → List ℕ → ℕ → Type 0
 AtMarked f ps m q =
     state_in (marked f m ps) q
-    ≡ (if member q (select (λ p. not (is_head f p)) ps) then state unreached (state_in m q).ptr (state_in m q).inner else state_in m q)
+    ≡ (when member q (select (λ p. not (is_head f p)) ps) then state unreached (state_in m q).ptr (state_in m q).inner else state_in m q)
 
 marks-at : (f : List ℕ) (ps m : List ℕ) (q : ℕ) → ((p : ℕ) → Mem p ps → 3 * p < length m) → AtMarked f ps m q
 unfolding marked
@@ -122,17 +122,17 @@ marks-at f [] m q h = refl
 marks-at f (p ∷ ps) m q h = go (is_head f p) refl (λ m' l. marks-at f ps m' q (λ r i. rw l (h r (inr i))))
   where
     here : Dec (q ≡ p) → (t : Bool) →
-        (if t
+        (when t
         then state unreached (state_in (set m (3 * p) unreached) q).ptr (state_in (set m (3 * p) unreached) q).inner
         else state_in (set m (3 * p) unreached) q)
-        ≡ (if (if eqb q p then true else t) then state unreached (state_in m q).ptr (state_in m q).inner else state_in m q)
+        ≡ (when (when eqb q p then true else t) then state unreached (state_in m q).ptr (state_in m q).inner else state_in m q)
     here (yes z) true = rw (eq-eqb q p z, z, mark-same m p unreached (h p (inl refl)))
     here (yes z) false = rw (eq-eqb q p z, z, mark-same m p unreached (h p (inl refl)))
     here (no z) t = rw (ne_eqb q p z, mark-other m p q unreached z)
 
     go : (t : Bool) → is_head f p ≡ t → ((m' : List ℕ) → length m' ≡ length m → AtMarked f ps m' q) →
-        state_in (marked f (if is_head f p then m else set m (3 * p) unreached) ps) q
-        ≡ (if member q (if not (is_head f p) then p ∷ select (λ r. not (is_head f r)) ps else select (λ r. not (is_head f r)) ps)
+        state_in (marked f (when is_head f p then m else set m (3 * p) unreached) ps) q
+        ≡ (when member q (when not (is_head f p) then p ∷ select (λ r. not (is_head f r)) ps else select (λ r. not (is_head f r)) ps)
         then state unreached (state_in m q).ptr (state_in m q).inner else state_in m q)
     go true e r = rw e (r m refl)
     go false e r =
@@ -170,7 +170,7 @@ module _ (f : List ℕ) (k : Known) (m : List ℕ) (S : PartShows f k m) where
   shown-main t s h = go (eqb s.main none) refl t h
     where
       go : (b : Bool) → eqb s.main none ≡ b → (u : Bool) → (not b ≡ true → u ≡ true) →
-          eqb (if not b then s else (if u then state unreached none none else unset)).main none ≡ not u
+          eqb (when not b then s else (when u then state unreached none none else unset)).main none ≡ not u
       go true e true w = refl
       go true e false w = refl
       go false e u w = rw (e, w refl)
@@ -195,10 +195,10 @@ module _ (f : List ℕ) (k : Known) (m : List ℕ) (S : PartShows f k m) where
       }
     where
       here : (r : ℕ) → r < length f → Dec (r ≡ q) →
-          state_in (put_in m q s) r ≡ shown_at (member r (instructions f)) (if eqb r q then s else state_at k r)
+          state_in (put_in m q s) r ≡ shown_at (member r (instructions f)) (when eqb r q then s else state_at k r)
       here r w (yes e) = let l = S.long in rw (e, eq-eqb q q refl, set?) (put_in-same m q s (omega arith))
       here r w (no e) = rw (ne_eqb r q e) (put_in-other m q s r e ∙ S.at r w)
 
-      there : (r : ℕ) → is_set (if eqb r q then s else state_at k r) ≡ true → Dec (r ≡ q) → member r (instructions f) ≡ true
+      there : (r : ℕ) → is_set (when eqb r q then s else state_at k r) ≡ true → Dec (r ≡ q) → member r (instructions f) ≡ true
       there r z (yes e) = rw e in?
       there r z (no e) = S.only r (rw (ne_eqb r q e) at z)

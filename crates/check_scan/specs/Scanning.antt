@@ -10,7 +10,7 @@ use Rattle.std.proofs.Math.Dec.{ltb, eqb}
 use Rattle.std.proofs.Math.ListN.{length, get_or, get_or-eq_default}
 use Rattle.std.proofs.lemmas.List.{length-replicate}
 use borrow.Author.Tests.{eq-eqb, ne_eqb, lt-ltb, le-ltb}
-use Rattle.model.specs.Choice.{if◌then◌else◌}
+use Rattle.model.specs.Choice.{when◌then◌else◌}
 use Rattle.model.specs.File.{byte_at, body_of, bodies, after, whole?, broken, starts, more, records_of, is_head, select, head_kind, procs_most}
 use Rattle.laws_file.specs.Rest.{rest_of, rest_end, rest_more, rest-broken, whole-yes, whole-unknown, whole-cut, records-first, records-other}
 use Rattle.check_scan.specs.Marks.{unreached, marked}
@@ -19,16 +19,16 @@ use Rattle.check_scan.specs.declared.RecordsFound.TheVariants.{Broken, Whole}
 
 -- head k at p: the table has room for 64, and the place of the one behind them is kept by itself
 unfoldable pub list_in : List ℕ → ℕ → ℕ → List ℕ
-list_in table k p = if ltb k 64 then set table k p else table
+list_in table k p = when ltb k 64 then set table k p else table
 
 unfoldable pub last_in : ℕ → ℕ → ℕ → ℕ
-last_in last k p = if eqb k 64 then p else last
+last_in last k p = when eqb k 64 then p else last
 
 list-long : (table : List ℕ) (k p : ℕ) → length (list_in table k p) ≡ length table
 unfolding list_in
 list-long table k p = go (ltb k 64)
   where
-    go : (t : Bool) → length (if t then set table k p else table) ≡ length table
+    go : (t : Bool) → length (when t then set table k p else table) ≡ length table
     go true = length-set table k p
     go false = refl
 
@@ -36,7 +36,7 @@ list-long table k p = go (ltb k 64)
 pub record Listed (table : List ℕ) (k last : ℕ) (hs to_come : List ℕ) : Type 0 where
   pub rest : drop k hs ≡ to_come
   pub counted : k ≤ length hs
-  pub placed : (n : ℕ) → n < 64 → get_or table n 0 ≡ (if ltb n k then get_or hs n 0 else 0)
+  pub placed : (n : ℕ) → n < 64 → get_or table n 0 ≡ (when ltb n k then get_or hs n 0 else 0)
   pub later : 64 < k → last ≡ get_or hs 64 0
 
 empty-at : (k n : ℕ) → ◌≡◌ {A = ℕ} (get_or (replicate k 0) n 0) 0
@@ -64,15 +64,15 @@ module _ (table hs to_come : List ℕ) (k last p : ℕ) (L : Listed table k last
       let z : k ≡ k + 0 = omega arith in
       ap (λ (n : ℕ). get_or hs n 0) z ∙ sym (get_or-drop k hs 0 0) ∙ ap (λ (l : List ℕ). get_or l 0 0) L.rest
 
-  placed-more : (n : ℕ) → n < 64 → get_or (list_in table k p) n 0 ≡ (if ltb n (suc k) then get_or hs n 0 else 0)
+  placed-more : (n : ℕ) → n < 64 → get_or (list_in table k p) n 0 ≡ (when ltb n (suc k) then get_or hs n 0 else 0)
   unfolding list_in
   placed-more n l = go (dec_lt k 64) (ℕ_discrete n k)
     where
-      near : (n ≡ k → ⊥) → Dec (n < k) → (if ltb n k then get_or hs n 0 else 0) ≡ (if ltb n (suc k) then get_or hs n 0 else 0)
+      near : (n ≡ k → ⊥) → Dec (n < k) → (when ltb n k then get_or hs n 0 else 0) ≡ (when ltb n (suc k) then get_or hs n 0 else 0)
       near z (yes b) = rw (lt-ltb n k b, lt-ltb n (suc k) (omega arith))
       near z (no b) = rw (le-ltb n k (omega arith), le-ltb n (suc k) (omega arith))
 
-      go : Dec (k < 64) → Dec (n ≡ k) → get_or (if ltb k 64 then set table k p else table) n 0 ≡ (if ltb n (suc k) then get_or hs n 0 else 0)
+      go : Dec (k < 64) → Dec (n ≡ k) → get_or (when ltb k 64 then set table k p else table) n 0 ≡ (when ltb n (suc k) then get_or hs n 0 else 0)
       go (yes b) (yes z) = rw (lt-ltb k 64 b, z, lt-ltb k (suc k) (omega arith), head-is) (get_or-set_same table k p 0 (omega arith))
       go (yes b) (no z) = rw (lt-ltb k 64 b) (get_or-set_other table k n p 0 z ∙ L.placed n l ∙ near z (dec_lt n k))
       go (no b) (yes z) = absurd (omega arith)
@@ -82,7 +82,7 @@ module _ (table hs to_come : List ℕ) (k last p : ℕ) (L : Listed table k last
   unfolding last_in
   last_more l = go (ℕ_discrete k 64)
     where
-      go : Dec (k ≡ 64) → (if eqb k 64 then p else last) ≡ get_or hs 64 0
+      go : Dec (k ≡ 64) → (when eqb k 64 then p else last) ≡ get_or hs 64 0
       go (yes z) = rw (eq-eqb k 64 z) (sym head-is ∙ ap (λ (n : ℕ). get_or hs n 0) z)
       go (no z) = rw (ne_eqb k 64 z) (L.later (omega arith))
 
@@ -108,7 +108,7 @@ module _ (table hs : List ℕ) (k last : ℕ) (L : Listed table k last hs []) wh
   pub listed-all : (n : ℕ) → n < 64 → get_or table n 0 ≡ get_or hs n 0
   listed-all n l = L.placed n l ∙ at (dec_lt n k)
     where
-      at : Dec (n < k) → (if ltb n k then get_or hs n 0 else 0) ≡ get_or hs n 0
+      at : Dec (n < k) → (when ltb n k then get_or hs n 0 else 0) ≡ get_or hs n 0
       at (yes b) = rw (lt-ltb n k b)
       at (no b) = let c = listed-count in rw (le-ltb n k (omega arith)) (sym (get_or-eq_default hs 0 (omega arith)))
 

@@ -1,7 +1,7 @@
 -- What the functions answer that read the map and pass a state on, and what they rest on.
 use Rattle.std.specs.Prelude.{ℕ, zero, suc, ◌+◌, ◌*◌, ◌<◌, ◌≤◌, Bool, true, false, List, [], ◌∷◌, ◌⊎◌, ◌≡◌, refl, eqb, length, get_or}
 use Rattle.std.proofs.Common.{ap, sym, ◌∙◌, arith, lt-ltb, le-ltb, eq-eqb, ne_eqb}
-use Rattle.model.specs.Choice.{if◌then◌else◌}
+use Rattle.model.specs.Choice.{when◌then◌else◌}
 use Rattle.model.specs.Checker.{none, State, state, innermost, Taking, bad, good, meet, and_take}
 use Rattle.check_rows.specs.declared.State.{State as Numbers}
 use Rattle.check_rows.specs.Tests.{as_state}
@@ -45,7 +45,7 @@ pub fitting : {m : List ℕ} {q : ℕ} {s : State} → (3 * q + 2 < length m) ×
 fitting w a b c = record { inside = w.0; low = w.1; main_small = a; ptr_small = b; inner_small = c }
 
 -- of two states that fit, either does
-pub fits-either : {m : List ℕ} {q : ℕ} {s t : State} (k : Bool) → Fitting m q s → Fitting m q t → Fitting m q (if k then s else t)
+pub fits-either : {m : List ℕ} {q : ℕ} {s t : State} (k : Bool) → Fitting m q s → Fitting m q t → Fitting m q (when k then s else t)
 fits-either true a b = a
 fits-either false a b = b
 

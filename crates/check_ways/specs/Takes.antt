@@ -1,6 +1,6 @@
 -- Taking an instruction on the part of the map that is the file's: the tests of refusals 5 to 8, then the states that it passes on (9).
 use Rattle.std.specs.Prelude.{ℕ, ◌*◌, Bool, false, not, ◌&&◌, List, [], ◌∷◌, ltb, eqb, get_or}
-use Rattle.model.specs.Choice.{if◌then◌else◌, all}
+use Rattle.model.specs.Choice.{when◌then◌else◌, all}
 use Rattle.model.specs.File.{Ins, ins_at}
 use Rattle.model.specs.Checker.{none, State, same_state, innermost, passes, target_tests, next_tests, depth_tests, leave_tests, Taking, good, need, meet, and_take}
 use Rattle.check_scan.specs.Marks.{state_in, put_in}
@@ -8,7 +8,7 @@ use Rattle.check_rows.specs.Rows.{is_set_in}
 
 -- an instruction starts at q, between a procedure's head h and its end e
 abbrev pub own_in : List ℕ → ℕ → ℕ → ℕ → Bool
-own_in m h e q = if ltb h q then (if ltb q e then not (eqb (get_or m (3 * q) 0) none) else false) else false
+own_in m h e q = when ltb h q then (when ltb q e then not (eqb (get_or m (3 * q) 0) none) else false) else false
 
 abbrev pub pass_one_in : List ℕ → ℕ → State → Taking (List ℕ)
 pass_one_in m q s = meet (is_set_in (state_in m q)) (same_state (state_in m q) s) m (put_in m q s)

@@ -5,7 +5,7 @@ use Rattle.std.proofs.Math.Bool.{true, false}
 use Rattle.std.proofs.Common.{true≢false, ◌∙◌, arith, ltb-true}
 use Rattle.std.proofs.Math.Path.{refl, ap, sym}
 use Rattle.std.proofs.Math.Nat.{add-zero, sub-zero}
-use Rattle.model.specs.Choice.{if◌then◌else◌}
+use Rattle.model.specs.Choice.{when◌then◌else◌}
 use Rattle.model.specs.File.{Ins, basic, jump, branch, branch_keep, call, return, enter, exit, raise, body_of, byte_at, ins_of, ins_at, after, head_of}
 use Rattle.model.specs.File.{proc_at, results_main, results_ptr, greatest_main, greatest_ptr, file_most}
 use Rattle.model.specs.Checker.{none, State, state, effect, moved, innermost, own, Taking, bad, good, need}
@@ -53,7 +53,7 @@ abbrev pub leads_to : Way → ℕ → ℕ → Shape
 leads_to w n t = shape w (effect n 0 0 0) 0 0 t true
 
 abbrev pub branch_way : Bool → Way
-branch_way k = if k then Keep else Branch
+branch_way k = when k then Keep else Branch
 
 -- the instruction at p has n bytes and this shape
 pub record Led (f m : List ℕ) (h p n : ℕ) (l : Limits) (sh : Shape) : Type 0 where
@@ -105,7 +105,7 @@ pub record Onwards (f m : List ℕ) (p : ℕ) (l : Limits) (r : Onward) : Type 0
       × (r.next < l.end) × (r.main ≤ l.x) × (r.ptr ≤ l.y)
 
 branch-needs : (a u n d : Bool) (k : Taking (List ℕ)) →
-    need (if a then true else false) 5 (need (u && n) 6 (need (if d then true else false) 7 k)) ≡ need a 5 (need u 6 (need n 6 (need d 7 k)))
+    need (when a then true else false) 5 (need (u && n) 6 (need (when d then true else false) 7 k)) ≡ need a 5 (need u 6 (need n 6 (need d 7 k)))
 branch-needs true true true true k = refl
 branch-needs true true true false k = refl
 branch-needs true true false d k = refl
@@ -145,13 +145,13 @@ module _ (f m : List ℕ) (h p : ℕ) (l : Limits) (H : Here f m h l.end p) (B :
   -- what a shape passes on
   abbrev shape_passes : Shape → List (ℕ × State)
   shape_passes sh =
-      (if goes_by sh.way then (after f p, next_state sh p s o) ∷ [] else [])
-      ++ (if jumps_by sh.way then (sh.target, target_state sh s) ∷ [] else [])
+      (when goes_by sh.way then (after f p, next_state sh p s o) ∷ [] else [])
+      ++ (when jumps_by sh.way then (sh.target, target_state sh s) ∷ [] else [])
 
   by_shape : (sh : Shape) → shape_of f p (ins_at f p) ≡ sh →
       take_in f p m
       ≡ need (target_ok sh.way sh.known (own_in m h l.end sh.target) sh.target p) 5
-      (need (is_set_in s && (if goes_by sh.way then ltb (after f p) l.end else true)) 6
+      (need (is_set_in s && (when goes_by sh.way then ltb (after f p) l.end else true)) 6
       (need (depth_ok sh s o l.x l.y) 7
       (need (leave_ok sh.way s (byte_at f (h + 3)) (byte_at f (h + 4))) 8 (pass_all_in (shape_passes sh) m))))
   unfolding take_in take_in_with
@@ -190,7 +190,7 @@ module _ (f m : List ℕ) (h p : ℕ) (l : Limits) (H : Here f m h l.end p) (B :
       }
     where
       go : (a u d : Bool) (k : Taking (List ℕ)) → (u ≡ true → d ≡ true) →
-          need (if a then true else false) 5 (need (u && true) 6 (need (if d then true else false) 7 k)) ≡ need a 5 (need u 6 k)
+          need (when a then true else false) 5 (need (u && true) 6 (need (when d then true else false) 7 k)) ≡ need a 5 (need u 6 k)
       go true true d k z = rw (z refl)
       go true false d k z = refl
       go false u d k z = refl
@@ -206,7 +206,7 @@ module _ (f m : List ℕ) (h p : ℕ) (l : Limits) (H : Here f m h l.end p) (B :
       ∷ (ltb (after f p) l.end, 6)
       ∷ (stacks_ok (row_shape Next (row 1 0 0 0 0 0)) s o l.x l.y, 7)
       ∷ [])
-      (pass_all_in ((after f p, popped) ∷ (t, (if keep then s else popped)) ∷ []) m)
+      (pass_all_in ((after f p, popped) ∷ (t, (when keep then s else popped)) ∷ []) m)
   unfolding target_ok leave_ok next_state target_state stacks_ok judged
   takes-branch true t e =
       record {
@@ -246,7 +246,7 @@ module _ (f m : List ℕ) (h p : ℕ) (l : Limits) (H : Here f m h l.end p) (B :
       }
     where
       go : (a b u n d x : Bool) (k : Taking (List ℕ)) → (u ≡ true → d ≡ true) →
-          need (if a then b else false) 5 (need (u && n) 6 (need (if d then x else false) 7 k))
+          need (when a then b else false) 5 (need (u && n) 6 (need (when d then x else false) 7 k))
           ≡ need a 5 (need b 5 (need u 6 (need n 6 (need x 7 k))))
       go true true true n d x k z = rw (z refl)
       go true true false n d x k z = refl
@@ -273,7 +273,7 @@ module _ (f m : List ℕ) (h p : ℕ) (l : Limits) (H : Here f m h l.end p) (B :
       }
     where
       go : (u n d : Bool) (k : Taking (List ℕ)) → (u ≡ true → d ≡ true) →
-          need (u && n) 6 (need (if d then true else false) 7 k) ≡ need u 6 (need n 6 k)
+          need (u && n) 6 (need (when d then true else false) 7 k) ≡ need u 6 (need n 6 k)
       go true n d k z = rw (z refl)
       go false n d k z = refl
 
@@ -294,7 +294,7 @@ module _ (f m : List ℕ) (h p : ℕ) (l : Limits) (H : Here f m h l.end p) (B :
       }
     where
       go : (u d a b c : Bool) (k : Taking (List ℕ)) → (u ≡ true → d ≡ true) →
-          need (u && true) 6 (need (if d then true else false) 7 (need (if a then (if b then c else false) else false) 8 k))
+          need (u && true) 6 (need (when d then true else false) 7 (need (when a then (when b then c else false) else false) 8 k))
           ≡ need u 6 (need a 8 (need b 8 (need c 8 k)))
       go true d true true c k z = rw (z refl)
       go true d true false c k z = rw (z refl)
@@ -309,7 +309,7 @@ module _ (f m : List ℕ) (h p : ℕ) (l : Limits) (H : Here f m h l.end p) (B :
     where
       -- by the four tests
       out : (known set on d g : Bool) (r : Onward) (k : Taking (List ℕ)) →
-          take_in f p m ≡ need known 5 (need (set && on) 6 (need (if d then true else false) 7 k)) → r.fault ≡ 0 → r.next ≡ after f p → r.goes ≡ g →
+          take_in f p m ≡ need known 5 (need (set && on) 6 (need (when d then true else false) 7 k)) → r.fault ≡ 0 → r.next ≡ after f p → r.goes ≡ g →
           (d ≡ true → on ≡ true → g ≡ true →
           (k ≡ pass_one_in m (after f p) (state r.main r.ptr s.inner)) × (after f p < l.end) × (r.main ≤ l.x) × (r.ptr ≤ l.y)) →
           (g ≡ false → k ≡ good m) → Onwards f m p l (onward_by known set on d r)
@@ -427,7 +427,7 @@ module _ {f m : List ℕ} {h p : ℕ} {l : Limits} {s : Numbers} where
       ∷ [])
       (pass_all_in
       ((p + 3, state (s.main - 1) s.ptr s.inner)
-      ∷ (t, (if keep then as_state s else state (s.main - 1) s.ptr s.inner))
+      ∷ (t, (when keep then as_state s else state (s.main - 1) s.ptr s.inner))
       ∷ [])
       m)
   on_branch keep t L S = rw (← S.is, L.size) at (takes-branch f m h p l L.here L.bounds keep t L.shape_is)

@@ -2,7 +2,7 @@
 #![tactic(auto)]
 
 ghost use Rattle.std.specs.Prelude.{◌≡◌, ◌+◌, ◌*◌, ◌<◌, ◌≤◌, ◌∷◌, [], length};
-ghost use Rattle.model.specs.Choice.{if◌then◌else◌};
+ghost use Rattle.model.specs.Choice.{when◌then◌else◌};
 ghost use Rattle.model.specs.File.{file_most};
 ghost use Rattle.laws_file.specs.Kinds.{NoneOf};
 ghost use Rattle.check_rows.specs.Shape.{Jump, Open, Close, Return};
@@ -111,7 +111,7 @@ fn jump(file: &[u8], m: &mut [u16], head: usize, limits: Limits, p: usize, targe
 
 // The state at the target of a branch: 5 and 6 keep the word there.
 fn at_target(keep: bool, before: State, popped: State) -> State
-    ensures { as_state result ≡ (if keep then as_state before else as_state popped) }
+    ensures { as_state result ≡ (when keep then as_state before else as_state popped) }
 {
     if keep {
         return before;

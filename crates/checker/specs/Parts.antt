@@ -8,7 +8,7 @@ use Rattle.std.proofs.Math.Path.{refl, ap}
 use Rattle.std.proofs.Math.Dec.{eqb}
 use Rattle.std.proofs.Math.ListN.{length, get_or, replicate}
 use borrow.Author.Tests.{eq-eqb, eqb-true, le-leb, lt-leb}
-use Rattle.model.specs.Choice.{if◌then◌else◌}
+use Rattle.model.specs.Choice.{when◌then◌else◌}
 use Rattle.model.specs.File.{byte_at, Records, records_of, starts_in, is_head, select, heads, wrong, right, heads_of, head_of, entry, procs, params_main}
 use Rattle.model.specs.File.{params_ptr, head_tests, file_most, procs_most}
 use Rattle.model.specs.Checker.{none, Known, state_at, is_set, firsts, first, map_from}
@@ -95,9 +95,9 @@ module _ (f m table : List ℕ) (n last : ℕ) (M : ScanMarked f m table n last)
   firsts-small zero q h = absurd (true≢false (sym h))
   firsts-small (suc n) q h = go (eqb q (entry f n)) h (firsts-small n q)
     where
-      go : (t : Bool) → is_set (if t then (first f n).1 else state_at (firsts f n) q) ≡ true → (is_set (state_at (firsts f n) q) ≡ true → Small (firsts f n) q) →
-          ((if t then (first f n).1 else state_at (firsts f n) q).main < 256) × ((if t then (first f n).1 else state_at (firsts f n) q).ptr < 256)
-          × ((if t then (first f n).1 else state_at (firsts f n) q).inner ≡ none)
+      go : (t : Bool) → is_set (when t then (first f n).1 else state_at (firsts f n) q) ≡ true → (is_set (state_at (firsts f n) q) ≡ true → Small (firsts f n) q) →
+          ((when t then (first f n).1 else state_at (firsts f n) q).main < 256) × ((when t then (first f n).1 else state_at (firsts f n) q).ptr < 256)
+          × ((when t then (first f n).1 else state_at (firsts f n) q).inner ≡ none)
       go true z r = (M.bytes (head_of f n + 1), M.bytes (head_of f n + 2), refl)
       go false z r = r z
 
@@ -113,9 +113,9 @@ module _ (f m table : List ℕ) (n last : ℕ) (M : ScanMarked f m table n last)
   firsts-within hs zero q l h = absurd (true≢false (sym h))
   firsts-within hs (suc n) q l h = go (eqb q (entry f n)) refl h (firsts-within hs n q (omega arith))
     where
-      go : (t : Bool) → eqb q (entry f n) ≡ t → is_set (if t then (first f n).1 else state_at (firsts f n) q) ≡ true →
+      go : (t : Bool) → eqb q (entry f n) ≡ t → is_set (when t then (first f n).1 else state_at (firsts f n) q) ≡ true →
           (is_set (state_at (firsts f n) q) ≡ true → DepthsWithin f q (state_at (firsts f n) q)) →
-          DepthsWithin f q (if t then (first f n).1 else state_at (firsts f n) q)
+          DepthsWithin f q (when t then (first f n).1 else state_at (firsts f n) q)
       go true e z r =
           let w = hs n (omega arith) in
           rw (eqb-true q (entry f n) e, entry-proc f M.places M.whole n (omega arith) w) (w.0, w.1.1.0)

@@ -2,7 +2,7 @@
 -- computes over the whole table (`right-all`), and one law that carries a passed test to each entry (`at`).
 use Rattle.std.specs.Prelude.{◌≡◌, Bool, true, false, List, [], ◌∷◌, ℕ, zero, suc, ◌+◌, ◌<◌, T, eqb, length, get_or}
 use Rattle.std.proofs.Common.{◌∙◌, subst, sym, add-zero, zero-add, add-suc, suc-add, le_of_suc-le-suc, not-suc-le-zero, eqb→eq}
-use Rattle.model.specs.Choice.{if◌then◌else◌}
+use Rattle.model.specs.Choice.{when◌then◌else◌}
 use Rattle.model.specs.File.{codes, bodies, body_of}
 use Rattle.laws_file.specs.Kinds.{and_both}
 
@@ -30,7 +30,7 @@ lengths =
 -- the test f passes at each entry of the list and its place, counted from i
 abbrev pub every_entry : (ℕ → ℕ → Bool) → ℕ → List ℕ → Bool
 every_entry f i [] = true
-every_entry f i (x ∷ xs) = if f i x then every_entry f (suc i) xs else false
+every_entry f i (x ∷ xs) = when f i x then every_entry f (suc i) xs else false
 
 from : (f : ℕ → ℕ → Bool) (xs : List ℕ) (i : ℕ) → T (every_entry f i xs) → (k : ℕ) → k < length xs → T (f (i + k) (get_or xs k 0))
 from f [] i t k h = absurd (not-suc-le-zero h)

@@ -6,7 +6,7 @@ use Rattle.std.proofs.Common.{sym, true≢false, arith}
 use Rattle.std.proofs.Math.Bool.{Bool, true, false}
 use Rattle.std.proofs.Math.Decide.{dec_lt}
 use borrow.Author.Tests.{ne_eqb, lt-ltb, le-ltb, le-leb, lt-leb, not-true, not-false}
-use Rattle.model.specs.Choice.{if◌then◌else◌}
+use Rattle.model.specs.Choice.{when◌then◌else◌}
 use Rattle.model.specs.Heap.{Kind, kind_at, ptrs_at, view_kind, word_vector_kind, ptr_vector_kind, view, word_vector, ptr_vector, no_kind, kinds, kind_of}
 use Rattle.model.specs.Heap.{in_plain, may_set_plain}
 
@@ -35,7 +35,7 @@ module _ (h : List ℕ) (q : ℕ) where
   unfolding kind_of kinds
   ptrs-else {k} n e a b = rw (← e, ne_eqb k view_kind a, ne_eqb k word_vector_kind b) (go (eqb k ptr_vector_kind))
     where
-      go : (t : Bool) → t ≡ (if t then ptr_vector else no_kind).ptrs n
+      go : (t : Bool) → t ≡ (when t then ptr_vector else no_kind).ptrs n
       go true = refl
       go false = refl
 
@@ -44,7 +44,7 @@ module _ (h : List ℕ) (q : ℕ) where
   row-sets n e = go (eqb (kind_at h q) view_kind) (eqb (kind_at h q) word_vector_kind) (eqb (kind_at h q) ptr_vector_kind) e
     where
       row : Bool → Bool → Bool → Kind
-      row s t u = if s then view else if t then word_vector else if u then ptr_vector else no_kind
+      row s t u = when s then view else when t then word_vector else when u then ptr_vector else no_kind
 
       go : (s t u : Bool) → (row s t u).ptrs n ≡ true → (row s t u).set_ptrs ≡ true
       go true t u e = refl
@@ -70,6 +70,6 @@ module _ (h : List ℕ) (q s : ℕ) (r : Bool) (e : r ≡ in_plain h q s) where
   unfolding may_set_plain kind_of kinds
   set-none n {k} d a b = rw (← e, not-false r n, ← d, ne_eqb k view_kind a, ne_eqb k word_vector_kind b) (go (eqb k ptr_vector_kind))
     where
-      go : (t : Bool) → false ≡ (if t then ptr_vector else no_kind).set_plain (s - (2 + ptrs_at h q))
+      go : (t : Bool) → false ≡ (when t then ptr_vector else no_kind).set_plain (s - (2 + ptrs_at h q))
       go true = refl
       go false = refl

@@ -3,7 +3,7 @@
 use Rattle.std.specs.Prelude.{ℕ, ◌+◌, ◌-◌, ◌<◌, ◌≡◌, refl, Bool, true, false, List, ◌≢◌, ltb, eqb, ℤ, pos, negsuc, ◌-ℤ◌, length}
 use Rattle.std.proofs.Common.{arith}
 use borrow.Author.Tests.{eqb-true, eqb-false, ltb-true, le-leb, lt-ltb}
-use Rattle.model.specs.Choice.{if◌then◌else◌, Mem}
+use Rattle.model.specs.Choice.{when◌then◌else◌, Mem}
 use Rattle.model.specs.Words.{signed, word_at}
 use Rattle.model.specs.File.{Side, on_main, on_ptr}
 use Rattle.model.specs.Heap.{ptrs_at, size_at, kind_at, in_ptrs, in_plain, may_set_plain, may_set_ptr, Pointer, Heap}
@@ -24,13 +24,13 @@ unfolding element_of
 is_found d h o w i e = go (eqb o 0) refl (eqb (kind_at h o) (vector_kind d)) refl (signed w -ℤ signed (bound_at h o)) e
   where
     inside : (n : ℕ) (t : Bool) → eqb o 0 ≡ false → eqb (kind_at h o) (vector_kind d) ≡ true → ltb n (elements_at d h o) ≡ t →
-        (if t then found (o + first_element d + n) else nowhere) ≡ found i → Found d h o i
+        (when t then found (o + first_element d + n) else nowhere) ≡ found i → Found d h o i
     inside n true z k l e =
         record { some = eqb-false o 0 z; kind = eqb-true _ _ k; n = n; below = ltb-true n (elements_at d h o) l; is = cc }
     inside n false z k l e = let u : ◌≡◌ {A = ℕ} 0 1 = cc in absurd (omega arith)
 
     go : (t : Bool) → eqb o 0 ≡ t → (u : Bool) → eqb (kind_at h o) (vector_kind d) ≡ u → (z : ℤ) →
-        (if t then of_nil else if u then element_in (o + first_element d) (elements_at d h o) z else nowhere) ≡ found i → Found d h o i
+        (when t then of_nil else when u then element_in (o + first_element d) (elements_at d h o) z else nowhere) ≡ found i → Found d h o i
     go true p u k z e = let v : ◌≡◌ {A = ℕ} 0 1 = cc in absurd (omega arith)
     go false p false k z e = let v : ◌≡◌ {A = ℕ} 0 1 = cc in absurd (omega arith)
     go false p true k (pos n) e = inside n (ltb n (elements_at d h o)) p k refl e

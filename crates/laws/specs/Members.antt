@@ -1,7 +1,7 @@
 -- Members of a list: as a test and as a statement, by their index, of two lists joined, of a selection; lists that rise. Each law is an induction on the list.
 use Rattle.std.specs.Prelude.{ℕ, zero, suc, ◌<◌, ◌-◌, Bool, true, false, List, [], ◌∷◌, ◌++◌, ◌⊎◌, ◌≡◌, refl, eqb, length, get_or}
 use Rattle.std.proofs.Common.{true≢false, inl, inr, sym, arith, eqb-true, eq-eqb}
-use Rattle.model.specs.Choice.{member, Mem, if◌then◌else◌}
+use Rattle.model.specs.Choice.{member, Mem, when◌then◌else◌}
 use Rattle.model.specs.File.{select}
 
 -- members of a list
@@ -9,7 +9,7 @@ pub member-in : (q : ℕ) (l : List ℕ) → member q l ≡ true → Mem q l
 member-in q [] e = absurd (true≢false (sym e))
 member-in q (p ∷ l) e = go (eqb q p) refl (λ h. member-in q l h) e
   where
-    go : (t : Bool) → eqb q p ≡ t → (member q l ≡ true → Mem q l) → (if t then true else member q l) ≡ true → Mem q (p ∷ l)
+    go : (t : Bool) → eqb q p ≡ t → (member q l ≡ true → Mem q l) → (when t then true else member q l) ≡ true → Mem q (p ∷ l)
     go true h r e = inl (eqb-true q p h)
     go false h r e = inr (r e)
 
@@ -17,7 +17,7 @@ pub in-member : (q : ℕ) (l : List ℕ) → Mem q l → member q l ≡ true
 in-member q (p ∷ l) (inl e) = rw (eq-eqb q p e)
 in-member q (p ∷ l) (inr h) = go (eqb q p) (in-member q l h)
   where
-    go : (t : Bool) → member q l ≡ true → (if t then true else member q l) ≡ true
+    go : (t : Bool) → member q l ≡ true → (when t then true else member q l) ≡ true
     go true e = refl
     go false e = e
 in-member q [] x' = elim x' [ ]
@@ -71,7 +71,7 @@ module _ (t : ℕ → Bool) where
   select_in (p ∷ l) q h = go (t p) refl (select_in l q) h
     where
       go : (b : Bool) → t p ≡ b → (Mem q (select t l) → Mem q l × (t q ≡ true)) →
-          Mem q (if b then p ∷ select t l else select t l) → Mem q (p ∷ l) × (t q ≡ true)
+          Mem q (when b then p ∷ select t l else select t l) → Mem q (p ∷ l) × (t q ≡ true)
       go true e r (inl h) = (inl h, rw h e)
       go true e r (inr h) = let w = r h in (inr w.0, w.1)
       go false e r h = let w = r h in (inr w.0, w.1)
@@ -80,7 +80,7 @@ module _ (t : ℕ → Bool) where
   in-select (p ∷ l) q (inl h) e = let w : t p ≡ true = rw h at e in rw w (inl h)
   in-select (p ∷ l) q (inr h) e = go (t p) (in-select l q h e)
     where
-      go : (b : Bool) → Mem q (select t l) → Mem q (if b then p ∷ select t l else select t l)
+      go : (b : Bool) → Mem q (select t l) → Mem q (when b then p ∷ select t l else select t l)
       go true r = inr r
       go false r = r
   in-select [] q x'' e = elim x'' [ ]
@@ -89,7 +89,7 @@ module _ (t : ℕ → Bool) where
   select-rising [] r = tt
   select-rising (p ∷ l) r = go (t p) (select-rising l r.1)
     where
-      go : (b : Bool) → Rising (select t l) → Rising (if b then p ∷ select t l else select t l)
+      go : (b : Bool) → Rising (select t l) → Rising (when b then p ∷ select t l else select t l)
       go true w = (λ q h. r.0 q (select_in l q h).0, w)
       go false w = w
 

@@ -3,7 +3,7 @@
 use Rattle.std.specs.Prelude.{ℕ, zero, suc, ◌<◌, Bool, true, false, List, [], ◌∷◌, ◌++◌, ◌≡◌, refl, get_or}
 use Rattle.std.proofs.Common.{sym, ne_eqb}
 use Rattle.std.proofs.lemmas.Bool.{lt-leb}
-use Rattle.model.specs.Choice.{Test, same, at_most, yes?, holds, all, All, true-all, if◌then◌else◌}
+use Rattle.model.specs.Choice.{Test, same, at_most, yes?, holds, all, All, true-all, when◌then◌else◌}
 
 -- a test fails
 abbrev pub Fails : Test → Type 0
@@ -24,7 +24,7 @@ fails-at k [] h = sym h
 fails-at zero (t ∷ ts) h = rw h
 fails-at (suc k) (t ∷ ts) h = go (holds t) (fails-at k ts h)
   where
-    go : (b : Bool) → false ≡ all ts → false ≡ (if b then all ts else false)
+    go : (b : Bool) → false ≡ all ts → false ≡ (when b then all ts else false)
     go true e = e
     go false e = refl
 
@@ -36,11 +36,11 @@ pub decided : (k : ℕ) (ts : List Test) (r : Bool) → r ≡ holds (test k ts) 
 decided k ts true e h = sym (true-all ts (h refl))
 decided k ts false e h = fails-at k ts (sym e)
 
-pub all_both : (ts us : List Test) → all (ts ++ us) ≡ (if all ts then all us else false)
+pub all_both : (ts us : List Test) → all (ts ++ us) ≡ (when all ts then all us else false)
 all_both [] us = refl
 all_both (t ∷ ts) us = go (holds t) (all_both ts us)
   where
-    go : (b : Bool) → all (ts ++ us) ≡ (if all ts then all us else false) →
-        (if b then all (ts ++ us) else false) ≡ (if (if b then all ts else false) then all us else false)
+    go : (b : Bool) → all (ts ++ us) ≡ (when all ts then all us else false) →
+        (when b then all (ts ++ us) else false) ≡ (when (when b then all ts else false) then all us else false)
     go true e = e
     go false e = refl

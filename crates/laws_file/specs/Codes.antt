@@ -8,15 +8,15 @@ use Rattle.std.proofs.Math.Dec.{eqb}
 use borrow.Author.Tests.{eqb-true, ne_eqb}
 use Rattle.model.specs.File.{Basic, local, assign, field, set_field, make, literal, nil, root, set_root, retract, binary, same_ptr, unary, element, set_element}
 use Rattle.model.specs.File.{real_literal, real, real_less, hoop, Ins, basic, jump, branch, branch_keep, call, return, enter, exit, raise, byte_at, codes, body_of, bodies, after, operand, ins_of, ins_at}
-use Rattle.model.specs.Choice.{if◌then◌else◌}
+use Rattle.model.specs.Choice.{when◌then◌else◌}
 use Rattle.laws_file.specs.Kinds.{OneOf, one_of?}
 
 -- a property of an instruction that is chosen by a test
-pub ins-if : (is? : Ins → Bool) (t : Bool) (i j : Ins) → is? (if t then i else j) ≡ (if t then is? i else is? j)
+pub ins-if : (is? : Ins → Bool) (t : Bool) (i j : Ins) → is? (when t then i else j) ≡ (when t then is? i else is? j)
 ins-if is? true i j = refl
 ins-if is? false i j = refl
 
-pub if-same : (t b : Bool) → (if t then b else b) ≡ b
+pub if-same : (t b : Bool) → (when t then b else b) ≡ b
 if-same true b = refl
 if-same false b = refl
 

@@ -3,7 +3,7 @@
 use Rattle.std.specs.Prelude.{ℕ, Bool, true, false, List, [], ◌∷◌, ◌⊎◌, ◌≡◌, refl, T, eqb}
 use Rattle.std.proofs.Common.{true≢false, inl, inr, ⊎_elim, sym, ◌∙◌, eqb→eq, ne_eqb}
 use Rattle.std.proofs.Math.Decide.{ℕ_discrete}
-use Rattle.model.specs.Choice.{member, if◌then◌else◌}
+use Rattle.model.specs.Choice.{member, when◌then◌else◌}
 use Rattle.model.specs.File as model
 use Rattle.model.specs.File.{listed}
 
@@ -34,16 +34,16 @@ at_each P (n ∷ m ∷ ns) k h (inl e) = rw e h.0
 at_each P (n ∷ m ∷ ns) k h (inr o) = at_each P (m ∷ ns) k h.1 o
 at_each P [] k h e = elim e [ ]
 
-pub and_both : (t u : Bool) → T (if t then u else false) → T t × T u
+pub and_both : (t u : Bool) → T (when t then u else false) → T t × T u
 and_both true u h = (tt, h)
 and_both false u h = absurd h
 
 -- n is in one of the lists
 abbrev pub among : List (List ℕ) → ℕ → Bool
 among [] n = false
-among (ns ∷ nss) n = if member n ns then true else among nss n
+among (ns ∷ nss) n = when member n ns then true else among nss n
 
-or-either : (t u : Bool) → T (if t then true else u) → T t ⊎ T u
+or-either : (t u : Bool) → T (when t then true else u) → T t ⊎ T u
 or-either true u h = inl tt
 or-either false u h = inr h
 
@@ -64,7 +64,7 @@ none-of (ns ∷ nss) k h n t e =
 -- the codes of a table are among the numbers
 abbrev keys_among : List (List ℕ) → List (ℕ × ℕ) → Bool
 keys_among nss [] = true
-keys_among nss (r ∷ rs) = if among nss r.0 then keys_among nss rs else false
+keys_among nss (r ∷ rs) = when among nss r.0 then keys_among nss rs else false
 
 -- whether k is one of the numbers
 pub one_of? : (ns : List ℕ) (k : ℕ) → Dec (OneOf ns k)

@@ -9,7 +9,7 @@ use Rattle.std.proofs.Common.{arith}
 use Rattle.std.proofs.Math.Dec.{ltb}
 use Rattle.std.proofs.Math.ListN.{length, get_or, get_or-eq_default}
 use borrow.Author.Tests.{lt-ltb, le-ltb, eq-eqb}
-use Rattle.model.specs.Choice.{if◌then◌else◌, Mem}
+use Rattle.model.specs.Choice.{when◌then◌else◌, Mem}
 use Rattle.model.specs.File.{byte_at, head_kind, is_head, select, instructions, heads, procs, head_of, proc_at, up_to, records_of, starts, greatest_main, greatest_ptr}
 use Rattle.model.specs.Checker.{State}
 use Rattle.laws.specs.Members.{get_or-in}
@@ -18,7 +18,7 @@ use Rattle.laws_file.specs.Walk.{up_to-least, up_to-less, procs-some, proc-below
 
 -- where the procedure behind n heads ends: at the next head, or with the file
 unfoldable pub end_of : List ℕ → ℕ → ℕ
-end_of f n = if ltb n (procs f) then head_of f n else length f
+end_of f n = when ltb n (procs f) then head_of f n else length f
 
 -- depths within the greatest of the procedure that p lies in
 abbrev pub DepthsWithin : List ℕ → ℕ → State → Type 0
@@ -61,7 +61,7 @@ module _ (f ps : List ℕ) (e : records_of f ≡ starts ps) where
   unfolding end_of
   end_low n = go (dec_lt n (procs f))
     where
-      go : Dec (n < procs f) → (if ltb n (procs f) then head_of f n else length f) ≤ length f
+      go : Dec (n < procs f) → (when ltb n (procs f) then head_of f n else length f) ≤ length f
       go (yes h) = let a = head_whole n in rw (lt-ltb n (procs f) h) (omega arith)
       go (no h) = rw (le-ltb n (procs f) (omega arith)) (omega arith)
 
@@ -88,7 +88,7 @@ module _ (f ps : List ℕ) (e : records_of f ≡ starts ps) where
   own-end p m = go (dec_lt (up_to p (heads f) - 1 + 1) (length (heads f))) (dec_lt p (get_or (heads f) (up_to p (heads f) - 1 + 1) 0))
     where
       go : Dec (up_to p (heads f) - 1 + 1 < length (heads f)) → Dec (p < get_or (heads f) (up_to p (heads f) - 1 + 1) 0) →
-          p < (if ltb (up_to p (heads f) - 1 + 1) (length (heads f)) then get_or (heads f) (up_to p (heads f) - 1 + 1) 0 else length f)
+          p < (when ltb (up_to p (heads f) - 1 + 1) (length (heads f)) then get_or (heads f) (up_to p (heads f) - 1 + 1) 0 else length f)
       go (yes h) (yes l) = rw (lt-ltb (up_to p (heads f) - 1 + 1) (length (heads f)) h) l
       go (yes h) (no l) =
           let w = up_to-least p (heads f) (up_to p (heads f) - 1 + 1) (heads-rise f ps e) h (omega arith) in

@@ -6,7 +6,7 @@ use Rattle.std.proofs.Math.Path.{refl}
 use Rattle.std.proofs.lemmas.Bool.{lt-leb}
 use Rattle.model.specs.File.{byte_at, body_of, unknown, after, whole?, Records, broken, starts, more, records_from, records_of, head_kind}
 use Rattle.laws_file.specs.Walk.{after-above}
-use Rattle.model.specs.Choice.{if◌then◌else◌}
+use Rattle.model.specs.Choice.{when◌then◌else◌}
 
 -- the records from p on
 unfoldable pub rest_of : List ℕ → ℕ → Records
@@ -26,7 +26,7 @@ pub rest_end : (f : List ℕ) (p : ℕ) → length f ≤ p → rest_of f p ≡ s
 unfolding rest_of
 rest_end f p h = fuel f (length f) 0 p (omega arith) (omega arith) ∙ unfold records_from in refl
 
-rest-step : (f : List ℕ) (p : ℕ) → p < length f → rest_of f p ≡ (if whole? f p then more p (rest_of f (after f p)) else broken p)
+rest-step : (f : List ℕ) (p : ℕ) → p < length f → rest_of f p ≡ (when whole? f p then more p (rest_of f (after f p)) else broken p)
 unfolding rest_of records_from
 rest-step f p h =
     let a = after-above f p in

@@ -7,7 +7,7 @@ use Rattle.std.proofs.Common.{true≢false, inl, inr, ap, sym, ◌∙◌, subst}
 use Rattle.std.proofs.Math.Decide.{ℕ_discrete}
 use native.Mathlib.Omega.{arith}
 use borrow.Author.Tests.{ltb-true, ltb-false, leb-true, eqb-true, eqb-false, not-true, le-leb, lt-leb, eq-eqb}
-use Rattle.model.specs.Choice.{all, All, all_true, true-all, Mem, if◌then◌else◌}
+use Rattle.model.specs.Choice.{all, All, all_true, true-all, Mem, when◌then◌else◌}
 use Rattle.model.specs.File.{byte_at, head_kind, head_size, codes, bodies, body_in, body_of, unknown, after, whole?, Records, broken, starts, more}
 use Rattle.model.specs.File.{records_from, records_of, starts_in, is_head, listed, is_instruction, select, heads, instructions, procs, head_of, entry, up_to}
 use Rattle.model.specs.File.{proc_at, head_tests, wrong, right, heads_from, heads_of}
@@ -19,7 +19,7 @@ abbrev pub Walk : List ℕ → ℕ → List ℕ → Type 0
 Walk f p [] = length f ≤ p
 Walk f p (q ∷ qs) = (q ≡ p) × (p < length f) × (after f p ≤ length f) × Walk f (after f p) qs
 
-records-inv : (a b : Bool) (p : ℕ) (r : Records) (ps : List ℕ) → (if a then (if b then more p r else broken p) else starts []) ≡ starts ps →
+records-inv : (a b : Bool) (p : ℕ) (r : Records) (ps : List ℕ) → (when a then (when b then more p r else broken p) else starts []) ≡ starts ps →
     ((a ≡ false) × (ps ≡ [])) ⊎ ((a ≡ true) × (b ≡ true) × ((qs : List ℕ) × (r ≡ starts qs) × (ps ≡ p ∷ qs)))
 records-inv false b p r ps e = inl (refl, cc)
 records-inv true false p r ps e = inr (refl, cc, ([], cc, cc))
@@ -95,7 +95,7 @@ pub up_to-most : (p : ℕ) (hs : List ℕ) → up_to p hs ≤ length hs
 up_to-most p [] = omega arith
 up_to-most p (h ∷ hs) = go (leb h p) (up_to-most p hs)
   where
-    go : (t : Bool) → up_to p hs ≤ length hs → (if t then suc (up_to p hs) else up_to p hs) ≤ suc (length hs)
+    go : (t : Bool) → up_to p hs ≤ length hs → (when t then suc (up_to p hs) else up_to p hs) ≤ suc (length hs)
     go true l = omega arith
     go false l = omega arith
 
@@ -117,7 +117,7 @@ up_to-less q [] j r l b = absurd (omega arith)
 up_to-less q (h ∷ hs) zero r l b = rw (lt-leb h q b, up_to-none q hs (λ g i. let a = r.0 g i in omega arith)) (omega arith)
 up_to-less q (h ∷ hs) (suc j) r l b = go (leb h q) (up_to-less q hs j r.1 (omega arith) b)
   where
-    go : (t : Bool) → up_to q hs ≤ j → (if t then suc (up_to q hs) else up_to q hs) ≤ suc j
+    go : (t : Bool) → up_to q hs ≤ j → (when t then suc (up_to q hs) else up_to q hs) ≤ suc j
     go true w = omega arith
     go false w = omega arith
 
@@ -135,8 +135,8 @@ pub found-listed : (rs : List (ℕ × ℕ)) (k : ℕ) → (body_in rs k ≡ unkn
 found-listed [] k h = absurd (h refl)
 found-listed (r ∷ rs) k h = go (eqb k r.0) h (found-listed rs k)
   where
-    go : (t : Bool) → ((if t then r.1 else body_in rs k) ≡ unknown → ⊥) → ((body_in rs k ≡ unknown → ⊥) → listed rs k ≡ true) →
-        (if t then true else listed rs k) ≡ true
+    go : (t : Bool) → ((when t then r.1 else body_in rs k) ≡ unknown → ⊥) → ((body_in rs k ≡ unknown → ⊥) → listed rs k ≡ true) →
+        (when t then true else listed rs k) ≡ true
     go true h i = refl
     go false h i = i h
 
@@ -144,7 +144,7 @@ known-listed : (k : ℕ) → (body_of k ≡ unknown → ⊥) → listed codes k 
 unfolding body_of bodies
 known-listed k h = go (eqb k head_kind) refl h
   where
-    go : (t : Bool) → eqb k head_kind ≡ t → ((if t then head_size - 1 else body_in codes k) ≡ unknown → ⊥) → listed codes k ≡ not t
+    go : (t : Bool) → eqb k head_kind ≡ t → ((when t then head_size - 1 else body_in codes k) ≡ unknown → ⊥) → listed codes k ≡ not t
     go true e h = rw (eqb-true k head_kind e) (unfold codes in refl)
     go false e h = found-listed codes k h
 
@@ -166,25 +166,25 @@ rest-others f zero p = refl
 rest-others f (suc n) p = go (ltb p (length f)) (whole? f p) refl (records_from f n (after f p)) (rest-others f n (after f p))
   where
     go : (a b : Bool) → whole? f p ≡ b → (r : Records) → select (is_instruction f) (starts_in r) ≡ select (other f) (starts_in r) →
-        select (is_instruction f) (starts_in (if a then (if b then more p r else broken p) else starts [])) ≡
-        select (other f) (starts_in (if a then (if b then more p r else broken p) else starts []))
+        select (is_instruction f) (starts_in (when a then (when b then more p r else broken p) else starts [])) ≡
+        select (other f) (starts_in (when a then (when b then more p r else broken p) else starts []))
     go false b w r e = refl
     go true false w r e = refl
     go true true w (broken q) e = refl
-    go true true w (starts ps) e = rw (whole-listed f p w) (ap (λ (l : List ℕ). if not (is_head f p) then p ∷ l else l) e)
+    go true true w (starts ps) e = rw (whole-listed f p w) (ap (λ (l : List ℕ). when not (is_head f p) then p ∷ l else l) e)
 
 pub instructions-others : (f : List ℕ) → instructions f ≡ select (λ p. not (is_head f p)) (starts_in (records_of f))
 unfolding instructions records_of
 instructions-others f = go (eqb (byte_at f 0) head_kind)
   where
-    go : (t : Bool) → select (is_instruction f) (starts_in (if t then records_from f (length f) 0 else broken 0)) ≡
-        select (other f) (starts_in (if t then records_from f (length f) 0 else broken 0))
+    go : (t : Bool) → select (is_instruction f) (starts_in (when t then records_from f (length f) 0 else broken 0)) ≡
+        select (other f) (starts_in (when t then records_from f (length f) 0 else broken 0))
     go true = rest-others f (length f) 0
     go false = refl
 
 -- a file with no fault in its records
 module _ (f ps : List ℕ) (e : records_of f ≡ starts ps) where
-  first-inv : (t : Bool) (r : Records) → (if t then r else broken 0) ≡ starts ps → (t ≡ true) × (r ≡ starts ps)
+  first-inv : (t : Bool) (r : Records) → (when t then r else broken 0) ≡ starts ps → (t ≡ true) × (r ≡ starts ps)
   first-inv true r h = (refl, h)
   first-inv false r h = (cc, cc)
 
@@ -271,7 +271,7 @@ heads_hold f zero n e m a b = absurd (omega arith)
 heads_hold f (suc k) n e m a b = go (all (head_tests f n)) refl (heads_hold f k (suc n)) e (ℕ_discrete n m)
   where
     go : (t : Bool) → all (head_tests f n) ≡ t → (heads_from f k (suc n) ≡ right → (j : ℕ) → suc n ≤ j → j < suc n + k → All (head_tests f j)) →
-        (if t then heads_from f k (suc n) else wrong (head_of f n)) ≡ right → Dec (n ≡ m) → All (head_tests f m)
+        (when t then heads_from f k (suc n) else wrong (head_of f n)) ≡ right → Dec (n ≡ m) → All (head_tests f m)
     go true h r e (yes z) = rw (← z) (all_true (head_tests f n) h)
     go true h r e (no z) = r e m (omega arith) (omega arith)
     go false h r e d = let z : true ≡ false = cc in absurd (true≢false z)

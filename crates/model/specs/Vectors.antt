@@ -1,6 +1,6 @@
 -- Manual 2.7, 4.29, 4.30: the elements of vectors, and which one an index names.
 use Rattle.std.specs.Prelude.{ℕ, ◌+◌, ◌-◌, List, ltb, eqb, ℤ, pos, negsuc, ◌-ℤ◌}
-use Rattle.model.specs.Choice.{if◌then◌else◌}
+use Rattle.model.specs.Choice.{when◌then◌else◌}
 use Rattle.model.specs.Words.{signed, word_at}
 use Rattle.model.specs.File.{Side, on_main, on_ptr}
 use Rattle.model.specs.Heap.{ptrs_at, size_at, kind_at, word_vector_kind, ptr_vector_kind}
@@ -33,13 +33,13 @@ pub data Element : Type 0 where
 -- Manual 4.29: the element with n others before it has the index bound + n. An index less the bound, as whole numbers, is negative if the index
 -- is below the bound, and at least the number of elements if it is past the last one
 abbrev pub element_in : ℕ → ℕ → ℤ → Element
-element_in first count (pos n) = if ltb n count then found (first + n) else nowhere
+element_in first count (pos n) = when ltb n count then found (first + n) else nowhere
 element_in first count (negsuc n) = nowhere
 
 -- Manual 4.29, 4.30: the element with index i of the vector at q; an object of another kind has none
 unfoldable pub element_of : Side → List ℕ → ℕ → ℕ → Element
 element_of d h q i =
-    if eqb q 0 then of_nil
-    else if eqb (kind_at h q) (vector_kind d)
+    when eqb q 0 then of_nil
+    else when eqb (kind_at h q) (vector_kind d)
     then element_in (q + first_element d) (elements_at d h q) (signed i -ℤ signed (bound_at h q))
     else nowhere

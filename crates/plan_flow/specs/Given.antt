@@ -2,7 +2,7 @@
 use Rattle.std.specs.Prelude.{ℕ, ◌+◌, ◌-◌, ◌<◌, ◌≤◌, true, false, List, [], ◌∷◌, ◌≡◌, length, get_or}
 use Rattle.std.proofs.Common.{◌∙◌, ap, eq-eqb, ne_eqb, le-leb}
 use Rattle.std.proofs.lemmas.Bool.{lt-leb}
-use Rattle.model.specs.Choice.{if◌then◌else◌, at_most, all}
+use Rattle.model.specs.Choice.{when◌then◌else◌, at_most, all}
 use Rattle.model.specs.Words.{truth}
 use Rattle.model.specs.File.{call, operand, head_of, entry, params_main, params_ptr, greatest_main, greatest_ptr}
 use Rattle.model.specs.Control.{Machine, record_words}
@@ -57,7 +57,7 @@ numbers {f} {table} {r} s {v} C e H =
 -- a call in the head's numbers: where it finds no room, and where it does
 module _ {f : List ℕ} {n h : ℕ} {v : Head} (N : Numbers f n h v) (m : Machine) (q : ℕ) where
   call-is : plan_of f m q (call n)
-      ≡ (if all (at_most (mtop m - v.a + v.x) (length m.main) ∷ at_most (ptop m - v.b + v.y) (length m.ptr)
+      ≡ (when all (at_most (mtop m - v.a + v.x) (length m.main) ∷ at_most (ptop m - v.b + v.y) (length m.ptr)
       ∷ at_most (m.regs.ctop + record_words) (length m.ctl) ∷ [])
       then write Frame (h + 7) (mtop m) (ptop m) (mtop m - v.a) (ptop m - v.b)
       else NoRoom)

@@ -10,7 +10,7 @@ use Rattle.std.proofs.Math.IntN.{pos, negsuc}
 use Rattle.std.proofs.Math.ListN.{length, replicate, length-replicate}
 use Rattle.std.proofs.Math.Seq.{length-slice}
 use Rattle.std.proofs.lemmas.Bool.{eqb-false}
-use Rattle.model.specs.Choice.{if◌then◌else◌, all, all_true}
+use Rattle.model.specs.Choice.{when◌then◌else◌, all, all_true}
 use Rattle.laws.specs.Choices.{both_true}
 use Rattle.laws.specs.Cuts.{cut-same}
 use Rattle.model.specs.Words.{signed, truth, operate, operate1, cut}
@@ -82,18 +82,18 @@ module _ (f : List ℕ) (m : Machine) (q : ℕ) where
   unfolding settle
   on-object o t u p m' d k = go (eqb o 0) refl
     where
-      found : o ≢ 0 → (v : Bool) → t ≡ v → Comes (if v then p else NoSuchWord) (and_go q (if v then done m' else fails no_such_word))
+      found : o ≢ 0 → (v : Bool) → t ≡ v → Comes (when v then p else NoSuchWord) (and_go q (when v then done m' else fails no_such_word))
       found n true e = k n e
       found n false e = comes refl tt
 
       go : (v : Bool) → eqb o 0 ≡ v →
-          Comes (if v then NilObject else if t then p else NoSuchWord)
-          (and_go q (if v then fails nil_object else if u then done m' else fails no_such_word))
+          Comes (when v then NilObject else when t then p else NoSuchWord)
+          (and_go q (when v then fails nil_object else when u then done m' else fails no_such_word))
       go true e = comes refl tt
       go false e = let n = eqb-false o 0 e in rw (d n) (found n t refl)
 
   on_test : (t : Bool) (p other : Plan) (m' : Machine) (code : ℕ) → Comes other (throws code) → (t ≡ true → Comes p (done m')) →
-      Comes (if t then p else other) (if t then done m' else throws code)
+      Comes (when t then p else other) (when t then done m' else throws code)
   on_test true p other m' code e k = k refl
   on_test false p other m' code e k = e
 
@@ -147,8 +147,8 @@ module _ (f : List ℕ) (m : Machine) (q : ℕ) where
       r = push_new kind ps ws (pop_main (maker_pops k).0 (pop_ptr (maker_pops k).1 m))
 
       go : (t : Bool) → leb (mark_of m.heap + n) (length m.heap) ≡ t →
-          Comes (if t then plan.write i q (mtop m - (maker_pops k).0) (ptop m - (maker_pops k).1 + 1) (ptop m - (maker_pops k).1) (mark_of m.heap) else HeapFull)
-          (and_go q (if t then done r else fails heap_full))
+          Comes (when t then plan.write i q (mtop m - (maker_pops k).0) (ptop m - (maker_pops k).1 + 1) (ptop m - (maker_pops k).1) (mark_of m.heap) else HeapFull)
+          (and_go q (when t then done r else fails heap_full))
       go true u =
           comes (ap next d ∙ same refl refl refl (set-over m.ptr _ _ _ _ refl (omega arith))) (s (leb-true (mark_of m.heap + n) (length m.heap) u))
       go false u = comes refl tt
@@ -172,7 +172,7 @@ module _ (f : List ℕ) (m : Machine) (q : ℕ) where
   unfolding signed settle
   length-comes k n p new c = go (ltb n 2147483648)
     where
-      go : (t : Bool) → Comes (if t then p else VectorFault) (and_go q (on_new m k (of_length (if t then pos n else negsuc (4294967295 - n)) new)))
+      go : (t : Bool) → Comes (when t then p else VectorFault) (and_go q (on_new m k (of_length (when t then pos n else negsuc (4294967295 - n)) new)))
       go true = c
       go false = comes refl tt
 
@@ -334,14 +334,14 @@ module _ (f : List ℕ) (m : Machine) (q : ℕ) where
   agrees (branch false t) d e A = popped _ A _ A.pop-main
   agrees (branch true t) d e A = popped _ A _ A.pop-main
   agrees (branch_keep false t) d e A =
-      both (λ u. if u then plan.write Pop q (mtop m - 1) (ptop m) 0 0 else plan.write Nothing t (mtop m) (ptop m) 0 0)
-      (λ u. if u then go_to q (pop_main 1 m) else go_to t m)
+      both (λ u. when u then plan.write Pop q (mtop m - 1) (ptop m) 0 0 else plan.write Nothing t (mtop m) (ptop m) 0 0)
+      (λ u. when u then go_to q (pop_main 1 m) else go_to t m)
       (popped _ A q A.pop-main)
       (stayed _ A t)
       (truth (main_word m 1))
   agrees (branch_keep true t) d e A =
-      both (λ u. if u then plan.write Nothing t (mtop m) (ptop m) 0 0 else plan.write Pop q (mtop m - 1) (ptop m) 0 0)
-      (λ u. if u then go_to t m else go_to q (pop_main 1 m))
+      both (λ u. when u then plan.write Nothing t (mtop m) (ptop m) 0 0 else plan.write Pop q (mtop m - 1) (ptop m) 0 0)
+      (λ u. when u then go_to t m else go_to q (pop_main 1 m))
       (stayed _ A t)
       (popped _ A q A.pop-main)
       (truth (main_word m 1))
@@ -357,8 +357,8 @@ module _ (f : List ℕ) (m : Machine) (q : ℕ) where
       comes (rw c (left (eqb m.regs.frame 1))) tt
     where
       left : (t : Bool) →
-          next (if t then finished m else returned (plan.return_put m) m)
-          ≡ next (if t then finished m else go_to (running m).returns (in_frame (running m).caller (pop_rec m)))
+          next (when t then finished m else returned (plan.return_put m) m)
+          ≡ next (when t then finished m else go_to (running m).returns (in_frame (running m).caller (pop_rec m)))
       left t = refl
   agrees (enter s) d e A =
       on_test (leb (m.regs.ctop + record_words) (length m.ctl)) _ _ _ (code_of no_room) (comes refl tt)

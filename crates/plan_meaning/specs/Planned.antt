@@ -1,6 +1,6 @@
 -- What the code plans for each instruction: its writes or the exception that it raises.
 use Rattle.std.specs.Prelude.{ℕ, ◌+◌, ◌-◌, Bool, true, false, List, ltb, leb, eqb, length}
-use Rattle.model.specs.Choice.{if◌then◌else◌, all}
+use Rattle.model.specs.Choice.{when◌then◌else◌, all}
 use Rattle.model.specs.Words.{word_at, truth, bit, operate, operate1}
 use Rattle.model.specs.File.{on_main, on_ptr, keep_main, keep_ptr, keep_none, Basic, local, assign, field, set_field, make, form, vector, literal, nil, root}
 use Rattle.model.specs.File.{set_root, retract, binary, same_ptr, unary, element, set_element, real_literal, real, real_less, hoop}
@@ -25,7 +25,7 @@ write i q m p at w = Write (record { into = i; place = q; mtop = m; ptop = p; at
 
 -- exception 2 for a nil object, then 3 where the word is not in the part asked for, or no store's, else the plan
 abbrev pub plan_object : ℕ → Bool → Plan → Plan
-plan_object o allowed plan = if eqb o 0 then NilObject else if allowed then plan else NoSuchWord
+plan_object o allowed plan = when eqb o 0 then NilObject else when allowed then plan else NoSuchWord
 
 -- exception 1, or the plan for the word
 abbrev pub plan_value : Value → (ℕ → Plan) → Plan
@@ -41,13 +41,13 @@ plan_element nowhere plan = VectorFault
 -- exception 4, or a new object of n words in all in the place of a main words and b pointers
 abbrev pub plan_new : Machine → ℕ → Into → ℕ → ℕ → ℕ → Plan
 plan_new m q i n a b =
-    if leb (mark_of m.heap + n) (length m.heap)
+    when leb (mark_of m.heap + n) (length m.heap)
     then write i q (mtop m - a) (ptop m - b + 1) (ptop m - b) (mark_of m.heap)
     else HeapFull
 
 -- exception 6 for a negative length, before that
 abbrev pub plan_length : ℕ → Plan → Plan
-plan_length n plan = if ltb n 2147483648 then plan else VectorFault
+plan_length n plan = when ltb n 2147483648 then plan else VectorFault
 
 -- an instruction that works on words, with q the next place: 20, 21; 22, 23; 30, 31; 32, 33; 36; 80, 81; 54, 56, 57; 58, 59; 60, 62, 64; 130,
 -- 140 to 143, 145, 195 to 204; 131; 144, 146; 82, 83; 84, 85 (Manual 4.7 to 4.14, 4.17 to 4.20, 4.28 to 4.30)
@@ -102,19 +102,19 @@ basic_plan m q hoop = Real (m.regs.place + 1)
 unfoldable pub plan_of : List ℕ → Machine → ℕ → Ins → Plan
 plan_of f m q (basic b) = basic_plan m q b
 plan_of f m q (jump t) = write Nothing t (mtop m) (ptop m) 0 0
-plan_of f m q (branch false t) = write Pop (if truth (main_word m 1) then q else t) (mtop m - 1) (ptop m) 0 0
-plan_of f m q (branch true t) = write Pop (if truth (main_word m 1) then t else q) (mtop m - 1) (ptop m) 0 0
+plan_of f m q (branch false t) = write Pop (when truth (main_word m 1) then q else t) (mtop m - 1) (ptop m) 0 0
+plan_of f m q (branch true t) = write Pop (when truth (main_word m 1) then t else q) (mtop m - 1) (ptop m) 0 0
 plan_of f m q (branch_keep false t) =
-    if truth (main_word m 1) then write Pop q (mtop m - 1) (ptop m) 0 0 else write Nothing t (mtop m) (ptop m) 0 0
+    when truth (main_word m 1) then write Pop q (mtop m - 1) (ptop m) 0 0 else write Nothing t (mtop m) (ptop m) 0 0
 plan_of f m q (branch_keep true t) =
-    if truth (main_word m 1) then write Nothing t (mtop m) (ptop m) 0 0 else write Pop q (mtop m - 1) (ptop m) 0 0
+    when truth (main_word m 1) then write Nothing t (mtop m) (ptop m) 0 0 else write Pop q (mtop m - 1) (ptop m) 0 0
 plan_of f m q (call n) =
-    if all (callee_tests f m n)
+    when all (callee_tests f m n)
     then write Frame (entry f n) (mtop m) (ptop m) (mtop m - params_main f n) (ptop m - params_ptr f n)
     else NoRoom
 plan_of f m q return = write Return (running m).returns (mtop m) (ptop m) 0 0
 plan_of f m q (enter s) =
-    if leb (m.regs.ctop + record_words) (length m.ctl) then write Handler q (mtop m) (ptop m) 0 0 else NoRoom
+    when leb (m.regs.ctop + record_words) (length m.ctl) then write Handler q (mtop m) (ptop m) 0 0 else NoRoom
 plan_of f m q exit = write Close q (mtop m) (ptop m) 0 0
 plan_of f m q raise = Thrown
 

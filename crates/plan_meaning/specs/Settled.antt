@@ -1,7 +1,7 @@
 -- What a plan comes to: its writes applied, or its exception raised.
 use Rattle.std.specs.Prelude.{ℕ, ◌-◌, List, [], ◌∷◌, eqb, set, replicate}
 use Rattle.std.proofs.Math.Seq.{slice}
-use Rattle.model.specs.Choice.{if◌then◌else◌}
+use Rattle.model.specs.Choice.{when◌then◌else◌}
 use Rattle.model.specs.Words.{cut}
 use Rattle.model.specs.File.{operand, after, ins_at}
 use Rattle.model.specs.Heap.{view_kind, word_vector_kind, ptr_vector_kind, made}
@@ -99,7 +99,7 @@ apply_into f DropMain p m = main_set p m
 apply_into f DropPointer p m = ptr_set p m
 apply_into f View p m = new_set (formed_from p m) p m
 apply_into f Frame p m = called_by f p m
-apply_into f Return p m = if eqb m.regs.frame 1 then finished m else returned p m
+apply_into f Return p m = when eqb m.regs.frame 1 then finished m else returned p m
 apply_into f Handler p m = opened p m
 apply_into f Close p m = closed p m
 apply_into f ReadPointer p m = ptr_set p m

@@ -7,7 +7,7 @@ use Rattle.std.proofs.Math.Path.{refl}
 use native.Mathlib.Omega.{arith}
 use Rattle.std.proofs.Math.Dec.{eqb}
 use borrow.Author.Tests.{eqb-true, eqb-false}
-use Rattle.model.specs.Choice.{if◌then◌else◌}
+use Rattle.model.specs.Choice.{when◌then◌else◌}
 use Rattle.model.specs.File.{after, ins_at}
 use Rattle.model.specs.Control.{Machine, handler_of}
 use Rattle.model.specs.Instructions.{Result, done, throws, rule}
@@ -22,7 +22,7 @@ module _ (f : List ℕ) where
   unfolding step instruct raised
   uncaught-stays m x c e = go (rule f m (after f m.regs.place) (ins_at f m.regs.place)) e
     where
-      raise : (t : Bool) (code : ℕ) (y : Machine) → (if t then uncaught code m else next y) ≡ uncaught c x → x ≡ m
+      raise : (t : Bool) (code : ℕ) (y : Machine) → (when t then uncaught code m else next y) ≡ uncaught c x → x ≡ m
       raise true code y e = cc
       raise false code y e = cc
 
@@ -49,14 +49,14 @@ module _ (f : List ℕ) where
   unfolding run_on
   went zero k m = go (eqb m.regs.state 1) refl
     where
-      go : (t : Bool) → eqb m.regs.state 1 ≡ t → Leaves f zero k m (if t then ran (Finished k) m else ran (Spent k) m)
+      go : (t : Bool) → eqb m.regs.state 1 ≡ t → Leaves f zero k m (when t then ran (Finished k) m else ran (Spent k) m)
       go true u = stops zero k m (Finished k) (omega arith, eqb-true m.regs.state 1 u)
       go false u = stops zero k m (Spent k) (omega arith, refl, eqb-false m.regs.state 1 u)
   went (suc n) k m = go (eqb m.regs.state 1) refl (step f m) refl (went n (suc k))
     where
       go : (t : Bool) → eqb m.regs.state 1 ≡ t → (o : Stepped) → step f m ≡ o →
           ((x : Machine) → Leaves f n (suc k) x (run_on f n (suc k) x)) →
-          Leaves f (suc n) k m (if t then ran (Finished k) m else and_run (run_on f n (suc k)) k o)
+          Leaves f (suc n) k m (when t then ran (Finished k) m else and_run (run_on f n (suc k)) k o)
       go true u o d r = stops (suc n) k m (Finished k) (omega arith, eqb-true m.regs.state 1 u)
       go false u (next x) d r =
           let W = r x in

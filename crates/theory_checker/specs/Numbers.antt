@@ -1,7 +1,7 @@
 -- Tests 1 to 9 refuse with a number of at most 9 (`verdict-number`): each test carries its own.
 use Rattle.std.specs.Prelude.{ℕ, ◌≤◌, Bool, true, false, ◌&&◌, List, [], ◌∷◌, ◌≡◌, leb, length}
 use Rattle.std.proofs.Common.{subst, arith}
-use Rattle.model.specs.Choice.{if◌then◌else◌, all}
+use Rattle.model.specs.Choice.{when◌then◌else◌, all}
 use Rattle.model.specs.File.{Ins, file_most, Records, broken, starts, records_of, Heads, wrong, right, heads_of, ins_at, instructions, procs}
 use Rattle.model.specs.Checker.{State, Known, is_set, state_at, same_state, firsts, innermost, Taking, bad, good, Flow, refused, passed, need, meet, and_take}
 use Rattle.model.specs.Checker.{go_on, pass_all, passes, target_tests, next_tests, depth_tests, leave_tests, take_with, take_one, take_all, flow}
@@ -65,7 +65,7 @@ verdict-few f map = long (leb 1 (length f) && leb (length f) file_most) (leb (ma
     records (broken p) = omega arith
     records (starts ps) = heads (heads_of f)
 
-    long : (s t : Bool) → VerdictFew (if s then (if t then scanned f map (records_of f) else refuse 2 0 map) else refuse 1 0 map)
+    long : (s t : Bool) → VerdictFew (when s then (when t then scanned f map (records_of f) else refuse 2 0 map) else refuse 1 0 map)
     long true true = records (records_of f)
     long true false = omega arith
     long false t = omega arith

@@ -4,7 +4,7 @@
 use Rattle.std.specs.Prelude.{ℕ, ◌<◌, Bool, true, false, ◌&&◌, List, [], ◌∷◌, ◌⊎◌, ◌≡◌, refl, eqb}
 use Rattle.std.proofs.Common.{true≢false, inl, inr, ap, sym, ◌∙◌, subst, arith, eqb-true, eq-eqb, ne_eqb}
 use Rattle.std.proofs.Math.Decide.{ℕ_discrete}
-use Rattle.model.specs.Choice.{if◌then◌else◌, Mem}
+use Rattle.model.specs.Choice.{when◌then◌else◌, Mem}
 use Rattle.model.specs.Checker.{none, State, state, unset, is_set, same_state, Known, state_at, innermost, Taking, bad, good, Flow, passed, meet, and_take, go_on, pass_one, pass_all}
 use Rattle.laws.specs.Members.{Rising}
 use Rattle.laws.specs.Choices.{both_true}
@@ -163,7 +163,7 @@ pub unset-at : (k : Known) (q : ℕ) → ((s : State) → Sent q s k → ⊥) �
 unset-at [] q w = refl
 unset-at (r ∷ k) q w = go (eqb q r.0) refl (unset-at k q (λ s h. w s (inr h)))
   where
-    go : (t : Bool) → eqb q r.0 ≡ t → state_at k q ≡ unset → (if t then r.1 else state_at k q) ≡ unset
+    go : (t : Bool) → eqb q r.0 ≡ t → state_at k q ≡ unset → (when t then r.1 else state_at k q) ≡ unset
     go true e u = absurd (w r.1 (inl (pair (eqb-true q r.0 e) refl)))
     go false e u = u
 
@@ -193,7 +193,7 @@ innermost-held : (k : Known) (s : State) → Linked k → Held k s.inner → Hel
 innermost-held k s L (inl e) = inl (rw (innermost-none (state_at k) s e))
 innermost-held k s L (inr h) = pick (eqb s.inner none)
   where
-    pick : (t : Bool) → Held k (if t then state 0 0 none else state_at k s.inner).inner
+    pick : (t : Bool) → Held k (when t then state 0 0 none else state_at k s.inner).inner
     pick true = inl refl
     pick false = L s.inner h
 

@@ -18,7 +18,7 @@ use Rattle.model.specs.declared.Sums.{Sums}
 use Rattle.model.specs.declared.Answer.TheVariants as answer
 use Rattle.file_sums.proofs.Fitting.{sums-fit}
 use Rattle.registers.specs.Registers.{registers-length}
-use Rattle.theory_checker.specs.Exact.{passed-as, passed-again}
+use Rattle.theory_checker.proofs.Exact.{passed-as, passed-again}
 use Rattle.theory_checker.specs.Leaves.{uncaught-stays}
 use Rattle.heap.specs.Pointers.{true-pointer}
 use Rattle.laws.specs.Cuts.{length_cut}

@@ -7,7 +7,7 @@ use Rattle.std.proofs.Common.{sym, ◌∙◌, inl, inr}
 use native.Mathlib.Omega.{arith}
 use Rattle.std.proofs.Math.ListN.{length, length-set}
 use borrow.Author.Tests.{eq-eqb, ne_eqb, eqb-true}
-use Rattle.model.specs.Choice.{if◌then◌else◌, All}
+use Rattle.model.specs.Choice.{when◌then◌else◌, All}
 use Rattle.model.specs.Words.{cut}
 use Rattle.model.specs.File.{Ins, call, return, enter, exit, operand, after, head_of, byte_at, ins_at, proc_at, params_main, params_ptr, results_main}
 use Rattle.model.specs.File.{results_ptr, greatest_main, greatest_ptr}
@@ -133,7 +133,7 @@ module _ (f map : List ℕ) where
 
     -- 73: the topmost record goes, a frame's, since a return has no handler open
     pub keep-return : (n i j : ℕ) → Running f map Ptr m n i j → ins_at f m.regs.place ≡ return →
-        Sound f map Ptr (if eqb m.regs.frame 1 then finished m else go_to (running m).returns (close_frame m))
+        Sound f map Ptr (when eqb m.regs.frame 1 then finished m else go_to (running m).returns (close_frame m))
     unfolding is_code effect_of
     keep-return zero i j R e = absurd (omega (arith, stack_some f map (length m.main) (length m.ptr) R.stack))
     keep-return (suc n) i j R e = go R.stack
@@ -143,7 +143,7 @@ module _ (f map : List ℕ) where
         E = at_return f map L m.regs.place (running-here Ptr m (suc n) i j R) e
 
         go : Stack f map (length m.main) (length m.ptr) (down m.ctl (suc n)) (looking map m i j) →
-            Sound f map Ptr (if eqb m.regs.frame 1 then finished m else go_to (running m).returns (close_frame m))
+            Sound f map Ptr (when eqb m.regs.frame 1 then finished m else go_to (running m).returns (close_frame m))
         go (first z u F T) =
             let proc = sym F.1.1.1.1.0 ∙ T.0 in
             let e1 = R.main_top ∙ ap (λ (d : ℕ). i + d) (E.main ∙ ap (results_main f) proc) in

@@ -18,8 +18,9 @@ use Rattle.model.specs.Sound.{main_at, ptr_at, inner_at, is_ins}
 use Rattle.laws_file.specs.Codes.{byte-enter}
 use Rattle.laws.specs.Members.{member-in, in-member}
 use Rattle.laws_file.specs.Walk.{instruction-below, procs-some, entry-proc}
-use Rattle.theory_checker.specs.Flow.{OpenHandler, StateShape, moves}
-use Rattle.theory_checker.specs.Exact.{passed-as, passed-keeps, passed-shape}
+use Rattle.theory_checker.specs.Flow.{OpenHandler, StateShape}
+use Rattle.theory_checker.proofs.Flow.{moves}
+use Rattle.theory_checker.proofs.Exact.{passed-as, passed-keeps, passed-shape}
 
 -- an instruction stands at q, of procedure n, and the map has this state there
 pub record Is (f map : List ℕ) (q n : ℕ) (s : State) : Type 0 where

@@ -5,7 +5,7 @@ use Rattle.std.specs.Prelude.{ℕ, Bool, List, [], ◌∷◌, ◌≡◌, length}
 use Rattle.std.proofs.Math.Bool.{true, false}
 use Rattle.std.proofs.Common.{true≢false, ap, ◌∙◌, arith}
 use Rattle.std.proofs.Math.Path.{refl, sym}
-use Rattle.model.specs.Choice.{if◌then◌else◌, Test, all, All, all_true}
+use Rattle.model.specs.Choice.{when◌then◌else◌, Test, all, All, all_true}
 use Rattle.model.specs.Sums.{sums_of}
 use Rattle.model.specs.Control.{sums_from, reg_bytes}
 use Rattle.model.specs.Calls.{Verdict, pass, refuse, verdict_of, answered, check_of, Lent, with_map, register_tests, belong_tests, sound_tests}
@@ -15,7 +15,7 @@ use Rattle.model.specs.declared.Regs.{Regs}
 use Rattle.model.specs.declared.Sums.{Sums}
 use Rattle.model.specs.declared.Answer.TheVariants.{Passed, Ready, Refused}
 use Rattle.file_sums.proofs.Fitting.{sums-fit}
-use Rattle.theory_checker.specs.Exact.{passed-as}
+use Rattle.theory_checker.proofs.Exact.{passed-as}
 use Rattle.theory_checker.specs.Numbers.{verdict-number}
 use Rattle.registers.specs.Registers.{registers-length}
 use Rattle.theory_state.specs.Registers.{sums-back}
@@ -95,7 +95,7 @@ run-sums n l B =
     })
   where
     go : (map : List ℕ) → verdict_of l.file l.map ≡ pass map → RunRegisters l → (t : Bool) →
-        let a = if t then ran_from n (with_map map l) else answers (Refused 12 0) (with_map map l) in
+        let a = when t then ran_from n (with_map map l) else answers (Refused 12 0) (with_map map l) in
         (length a.lists.bytes ≡ length l.bytes) × (sums_from a.lists.bytes ≡ sums_from l.bytes)
     go map v I true = (registers-length _ _ ∙ sym I.0, sums-left l.file l.map map B v (sums_from l.bytes) I.1 _)
     go map v I false = (refl, refl)

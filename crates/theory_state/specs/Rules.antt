@@ -10,7 +10,7 @@ use Rattle.std.proofs.Math.Logic.{inl}
 use Rattle.std.proofs.Math.ListN.{length, replicate}
 use Rattle.std.proofs.Math.Dec.{eqb}
 use Rattle.std.proofs.lemmas.Bool.{eqb-false}
-use Rattle.model.specs.Choice.{if◌then◌else◌, all, All, all_true, Mem}
+use Rattle.model.specs.Choice.{when◌then◌else◌, all, All, all_true, Mem}
 use Rattle.model.specs.Reals.{words_of, all_finite, operate_reals, reals_of, scaled, shifted}
 use Rattle.model.specs.Words.{signed, word_at, truth, operate, operate1}
 use Rattle.model.specs.File.{Side, on_main, on_ptr, keep_main, keep_ptr, keep_none, Basic, local, assign, field, set_field, Maker, form, vector, maker_pops, make}
@@ -200,7 +200,7 @@ module _ (f map : List ℕ) (m : Machine) (os : List ℕ) (i j : ℕ) where
   on-object q o t m' k = go (eqb o 0) refl t refl
     where
       go : (u : Bool) → eqb o 0 ≡ u → (v : Bool) → t ≡ v →
-          Fine (and_go q (if u then fails nil_object else if v then done m' else fails no_such_word))
+          Fine (and_go q (when u then fails nil_object else when v then done m' else fails no_such_word))
       go true e v d = tt
       go false e true d = k (eqb-false o 0 e) d
       go false e false d = tt
@@ -222,7 +222,7 @@ module _ (f map : List ℕ) (m : Machine) (os : List ℕ) (i j : ℕ) where
   on-reals : (q : ℕ) (xs : List Float) (r : List ℕ → Result) → Fine (and_go q (r (words_of xs))) → Fine (and_go q (on_reals xs r))
   on-reals q xs r k = go (all_finite xs)
     where
-      go : (t : Bool) → Fine (and_go q (if t then r (words_of xs) else fails out_of_range))
+      go : (t : Bool) → Fine (and_go q (when t then r (words_of xs) else fails out_of_range))
       go true = k
       go false = tt
 
@@ -332,7 +332,7 @@ module _ (f map : List ℕ) (m : Machine) (os : List ℕ) (i j : ℕ) where
         m' = pop_main (maker_pops k).0 (pop_ptr (maker_pops k).1 m)
 
         go : (t : Bool) → leb (mark_of m.heap + (2 + (length ps + length ws))) (length m.heap) ≡ t →
-            Fine (and_go ahead (if t then done (push_new kind ps ws m') else fails heap_full))
+            Fine (and_go ahead (when t then done (push_new kind ps ws m') else fails heap_full))
         go true u =
             let F = H.forms kind m.heap os ps ws a b K (leb-true _ _ u) small each in
             on (make k) (push_new kind ps ws m') e (push-new kind ps ws (pop-main (pop-ptr start _) _) F) (omega arith) (omega arith)
@@ -459,7 +459,7 @@ module _ (f map : List ℕ) (m : Machine) (os : List ℕ) (i j : ℕ) where
         back : Machine
         back = go_to (running m).returns (close_frame m)
 
-        go : (t : Bool) → Sound f map (Pointer os) (if t then finished m else back) → KeptSound f map m (if t then finished m else back)
+        go : (t : Bool) → Sound f map (Pointer os) (when t then finished m else back) → KeptSound f map m (when t then finished m else back)
         go true S = same _ refl S refl refl (length_cut 0 m.ctl)
         go false S = same _ refl S refl refl (length_cut (record_words * (records m - 1)) m.ctl)
 
@@ -469,19 +469,19 @@ module _ (f map : List ℕ) (m : Machine) (os : List ℕ) (i j : ℕ) where
     rule-fine (jump t) e = kept-as (jump t) t e (inl refl)
     rule-fine (branch false t) e =
         let k = (pops f map L m.regs.place (branch false t) here e).0 in
-        both (λ u. go_to (if u then ahead else t) (pop_main 1 m))
+        both (λ u. go_to (when u then ahead else t) (pop_main 1 m))
         (popped (branch false t) _ e k (inl refl)) (popped (branch false t) _ e k (inr (inl refl))) (truth (main_word m 1))
     rule-fine (branch true t) e =
         let k = (pops f map L m.regs.place (branch true t) here e).0 in
-        both (λ u. go_to (if u then t else ahead) (pop_main 1 m))
+        both (λ u. go_to (when u then t else ahead) (pop_main 1 m))
         (popped (branch true t) _ e k (inr (inl refl))) (popped (branch true t) _ e k (inl refl)) (truth (main_word m 1))
     rule-fine (branch_keep false t) e =
         let k = (pops f map L m.regs.place (branch_keep false t) here e).0 in
-        both (λ u. if u then go_to ahead (pop_main 1 m) else go_to t m)
+        both (λ u. when u then go_to ahead (pop_main 1 m) else go_to t m)
         (popped (branch_keep false t) _ e k (inl refl)) (kept-as (branch_keep false t) t e (inr (inl refl))) (truth (main_word m 1))
     rule-fine (branch_keep true t) e =
         let k = (pops f map L m.regs.place (branch_keep true t) here e).0 in
-        both (λ u. if u then go_to t m else go_to ahead (pop_main 1 m))
+        both (λ u. when u then go_to t m else go_to ahead (pop_main 1 m))
         (kept-as (branch_keep true t) t e (inr (inl refl))) (popped (branch_keep true t) _ e k (inl refl)) (truth (main_word m 1))
     rule-fine (call k) e =
         on-room (all (callee_tests f m k)) _
@@ -504,7 +504,7 @@ module _ (f map : List ℕ) (m : Machine) (os : List ℕ) (i j : ℕ) where
     kept-raise code m' e = go (eqb m.regs.handler 0) refl e
       where
         go : (t : Bool) → eqb m.regs.handler 0 ≡ t →
-            (if t then uncaught code m else next (caught f m (m.regs.handler - 1) (handler_of m.ctl m.regs.handler) code)) ≡ next m' →
+            (when t then uncaught code m else next (caught f m (m.regs.handler - 1) (handler_of m.ctl m.regs.handler) code)) ≡ next m' →
             KeptSound f map m m'
         go true u v = absurd (true≢false (cc))
         go false u v =

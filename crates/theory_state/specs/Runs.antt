@@ -7,7 +7,7 @@ use Rattle.std.proofs.Math.Bool.{true, false}
 use Rattle.std.proofs.Common.{true≢false, arith}
 use Rattle.std.proofs.Math.Dec.{eqb}
 use Rattle.std.proofs.lemmas.Bool.{eqb-false}
-use Rattle.model.specs.Choice.{if◌then◌else◌}
+use Rattle.model.specs.Choice.{when◌then◌else◌}
 use Rattle.model.specs.Control.{Machine}
 use Rattle.model.specs.Step.{Stepped, next, uncaught, step, Ran, ran, and_run, run_on}
 use Rattle.model.specs.Calls.{told_of}
@@ -36,7 +36,7 @@ module _ (f : List ℕ) (I : Machine → Type 0)
     where
       go : (t : Bool) → eqb m.regs.state 1 ≡ t → (o : Stepped) → step f m ≡ o →
           ((x : Machine) → I x → after_steps f k x ≡ there m' → I m') →
-          (if t then nowhere else and_reach o (after_steps f k)) ≡ there m' → I m'
+          (when t then nowhere else and_reach o (after_steps f k)) ≡ there m' → I m'
       go true u o d r v = absurd (true≢false (cc))
       go false u (next x) d r v = r x (keeps m x h (eqb-false m.regs.state 1 u) d) v
       go false u (uncaught c x) d r v = absurd (true≢false (cc))
@@ -48,14 +48,14 @@ module _ (f : List ℕ) (I : Machine → Type 0)
   unfolding run_on
   run-keeps zero k m h = go (eqb m.regs.state 1)
     where
-      go : (t : Bool) → Fine (if t then ran (answer.Finished k) m else ran (answer.Spent k) m)
+      go : (t : Bool) → Fine (when t then ran (answer.Finished k) m else ran (answer.Spent k) m)
       go true = (h, finished-told k)
       go false = (h, spent-told k)
   run-keeps (suc n) k m h = go (eqb m.regs.state 1) refl (step f m) refl (λ x. run-keeps n (suc k) x)
     where
       go : (t : Bool) → eqb m.regs.state 1 ≡ t → (o : Stepped) → step f m ≡ o →
           ((x : Machine) → I x → Fine (run_on f n (suc k) x)) →
-          Fine (if t then ran (answer.Finished k) m else and_run (run_on f n (suc k)) k o)
+          Fine (when t then ran (answer.Finished k) m else and_run (run_on f n (suc k)) k o)
       go true u o d r = (h, finished-told k)
       go false u (next x) d r = r x (keeps m x h (eqb-false m.regs.state 1 u) d)
       go false u (uncaught c x) d r = (stays m x c h d, uncaught-told c x.regs.place k)

@@ -2,7 +2,7 @@
 -- follows them refuses with 12 at most.
 use Rattle.std.specs.Prelude.{ℕ, Bool, true, false, List, ◌≡◌, refl}
 use Rattle.std.proofs.Common.{true≢false, ap, sym, ◌∙◌, subst, arith}
-use Rattle.model.specs.Choice.{if◌then◌else◌, Test, all, All, all_true, true-all}
+use Rattle.model.specs.Choice.{when◌then◌else◌, Test, all, All, all_true, true-all}
 use Rattle.model.specs.Heap.{Audit, fault, clean, heap_of}
 use Rattle.model.specs.Sums.{sums_of}
 use Rattle.model.specs.Step.{run_on}
@@ -39,12 +39,12 @@ module _ {P : After → Type 0} {ts : List Test} {l : Lent} {rest : Lent → Aft
     heap T L (clean os) e = C.by-none map os v T L e
 
     lengths : All ts → (t : Bool) → all (length_tests now) ≡ t →
-        P (if t then audited (heap_of l.heap) now (rest now) else answers (Refused 10 0) now)
+        P (when t then audited (heap_of l.heap) now (rest now) else answers (Refused 10 0) now)
     lengths T true e = heap T (all_true (length_tests now) e) (heap_of l.heap) refl
     lengths T false e = C.by_lengths map v T
 
     registers : (t : Bool) → all ts ≡ t →
-        P (if t then demand (length_tests now) 10 now (audited (heap_of l.heap) now (rest now)) else answers (Refused 13 0) now)
+        P (when t then demand (length_tests now) 10 now (audited (heap_of l.heap) now (rest now)) else answers (Refused 13 0) now)
     registers true e = lengths (all_true ts e) (all (length_tests now)) refl
     registers false e = C.by_registers map v (failed ts e)
 
@@ -103,6 +103,6 @@ ran-never k n l p e =
 pub run-never : (k n : ℕ) → (k ≡ 12 → ⊥) → Never k (λ l. demand (sound_tests l) 12 l (ran_from n l))
 run-never k n h l p e = go (all (sound_tests l)) e
   where
-    go : (t : Bool) → (if t then ran_from n l else answers (Refused 12 0) l).answer ≡ Refused k p → ⊥
+    go : (t : Bool) → (when t then ran_from n l else answers (Refused 12 0) l).answer ≡ Refused k p → ⊥
     go true e = ran-never k n l p e
     go false e = h (sym (refused-number 12 k 0 p e))

@@ -11,7 +11,7 @@ use Rattle.model.specs.Sound.{sound?}
 use Rattle.model.specs.Calls.{main_most, ptr_most, ctl_most, heap_most, pass, verdict_of, Lent, machine_of, length_tests}
 use Rattle.model.specs.Claim.{Bytes}
 use Rattle.model.specs.declared.Regs.{Regs}
-use Rattle.theory_checker.specs.Exact.{passed-as, passed-again}
+use Rattle.theory_checker.proofs.Exact.{passed-as, passed-again}
 use Rattle.check_scan.specs.Heading.{Placed}
 use Rattle.heap.specs.Pointers.{pointer-true}
 use Rattle.theory_state.specs.Laws.{CodeLaws, code_laws}

@@ -2,7 +2,8 @@
 use borrow.Enum.Refused.{opened}
 use Rattle.plan_meaning.specs.Settled.{settle}
 use Rattle.apply.specs.Applied.{to-late}
-use Rattle.apply.specs.Ended.{ended_of, ends-raised}
+use Rattle.apply.specs.Ended.{ended_of}
+use Rattle.apply.proofs.Raising.{ends-raised}
 use Rattle.apply.proofs.Tags.{no_write}
 use Rattle.apply.proofs.step_with.Goals as goal
 

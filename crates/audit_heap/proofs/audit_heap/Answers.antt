@@ -2,7 +2,8 @@
 use mathlib.Core.Logic.{inl, inr}
 use native.Mathlib.Omega.{arith}
 use Rattle.audit_heap.specs.Found.{Range}
-use Rattle.audit_heap.specs.Answers.{audited-mark, audited-walk, audited-root, audited-pointer, audited-free, walked-right}
+use Rattle.audit_heap.specs.Answers.{audited-mark, audited-walk, walked-right}
+use Rattle.audit_heap.proofs.Tested.{audited-root, audited-pointer, audited-free}
 use Rattle.audit_heap.proofs.audit_heap.Goals as goal
 use Rattle.audit_heap.proofs.audit_heap.Goals.{Else-heap-mark}
 

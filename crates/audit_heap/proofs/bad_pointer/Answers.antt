@@ -1,6 +1,5 @@
 -- Where every word is a pointer there is no fault. Else, the invariant: the first fault of the whole range is that from `i` on, no word
 -- before `i` being at fault.
-use Prim.Native.Nat.{◌-◌}
 use mathlib.Core.Path.{subst}
 use native.Mathlib.Omega.{arith}
 use Rattle.audit_words.specs.Every.{Every}
@@ -27,11 +26,10 @@ pub loop-i-smaller : goal.loop-i-smaller
 loop-i-smaller c = omega arith
 
 pub loop-i-preserved : goal.loop-i-preserved
-loop-i-preserved c =
-    (
-      omega arith,
-      scan-more _ _ _ _ c.loop-i.invariant.1 c.loop-i-test.true (pointer-good _ _ _ _ c.is_pointer.ensures c.if-not-is_pointer.false-raw),
-    )
+loop-i-preserved c = (
+  omega arith,
+  scan-more _ _ _ _ c.loop-i.invariant.1 c.loop-i-test.true (pointer-good _ _ _ _ c.is_pointer.ensures c.if-not-is_pointer.false-raw),
+)
 
 pub returns : goal.returns
 returns c = scan-end _ _ _ _ c.loop-i.invariant.1 c.loop-i-test.false

@@ -1,6 +1,5 @@
 -- Where every free word is 0 there is no fault. Else, the invariant: the first fault of the free words is that from `i` on, no word before
 -- `i` being at fault.
-use Prim.Native.Nat.{◌-◌}
 use mathlib.Core.Path.{subst}
 use native.Mathlib.Omega.{arith}
 use lib.ListN.{length}

@@ -1,12 +1,12 @@
 -- The invariant: the objects before `q` are marked and their pointer words counted, and the walk from word 2 is theirs and then the walk
 -- from `q`. A turn takes one step of the walk; an object has at least two words, so the rest falls.
-use Prim.Native.Nat.{◌-◌}
 use mathlib.Core.Path.{refl, ◌∙◌}
 use mathlib.Core.Bool.{true}
 use native.Mathlib.Omega.{arith}
 use lib.ListN.{length-set}
 use Rattle.model.specs.Heap.{Object}
-use Rattle.audit_heap.specs.Turns.{marking-none, marking-fault, marking-object, marking-more, marking-end}
+use Rattle.audit_heap.specs.Turns.{marking-none}
+use Rattle.audit_heap.proofs.Marking.{marking-fault, marking-object, marking-more, marking-end}
 use Rattle.audit_heap.proofs.mark_objects.Goals as goal
 use Rattle.audit_heap.proofs.mark_objects.Goals.{In_default}
 

@@ -1,6 +1,5 @@
 -- No pointer words, no fault. Else, the invariant: the first fault of all pointer words is that of the objects from `q` on. A turn takes
 -- off one object, whose words `bad_pointer` tested.
-use Prim.Native.Nat.{◌-◌}
 use native.Mathlib.Omega.{arith}
 use Rattle.model.specs.Heap.{mark_of, Object}
 use Rattle.audit_heap.specs.Turns.{pointing-nothing, pointing-none, pointing-bad, pointing-object, pointing-more, pointing-end}

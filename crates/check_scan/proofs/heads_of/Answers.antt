@@ -53,13 +53,12 @@ pub loop-k-smaller : goal.loop-k-smaller
 loop-k-smaller c = omega arith
 
 pub loop-k-preserved : goal.loop-k-preserved
-loop-k-preserved c =
-    (
-      refl,
-      heading-right c.requires c.loop-k.invariant.1 (omega arith) refl (omega arith) c.follows-there.ensures
-          c.if-there.true c.head_at-head.ensures c.head_right-right.ensures
-          c.if-right.true c.place_head.ensures,
-    )
+loop-k-preserved c = (
+  refl,
+  heading-right c.requires c.loop-k.invariant.1 (omega arith) refl (omega arith) c.follows-there.ensures
+      c.if-there.true c.head_at-head.ensures c.head_right-right.ensures
+      c.if-right.true c.place_head.ensures,
+)
 
 pub shape_of-m-else-right : goal.shape_of-m-else-right
 shape_of-m-else-right c = long-at (goal.at.shape_of-m-else-right c).At-loop-k

@@ -4,7 +4,7 @@ use mathlib.Core.Path.{sym, ◌∙◌}
 use native.Mathlib.Omega.{arith}
 use borrow.Author.Tests.{lt-ltb, le-ltb}
 use mathlib.Core.List.{[], ◌∷◌}
-use Rattle.model.specs.Choice.{if◌then◌else◌}
+use Rattle.model.specs.Choice.{when◌then◌else◌}
 use Rattle.model.specs.Checker.{state}
 use Rattle.check_rows.specs.Tests.{as_state, stacks-fit}
 use Rattle.check_ways.specs.Takes.{pass_all_in, take_in}
@@ -49,7 +49,7 @@ left_at : (c : After-depths_ok) →
     let s = c.state_in-s.result in
     let popped = state (s.main - 1) s.ptr s.inner in
     Judged (take_in a.file.now a.p a.m.now) ((c.depths_ok.result, 7) ∷ [])
-    (pass_all_in ((a.p + 3, popped) ∷ (a.target, (if a.keep then as_state s else popped)) ∷ []) a.m.now)
+    (pass_all_in ((a.p + 3, popped) ∷ (a.target, (when a.keep then as_state s else popped)) ∷ []) a.m.now)
 left_at c =
     let J = test-passes (on_branch c.args.keep _ c.requires c.state_in-s.ensures) (sym c.own.ensures ∙ c.if-own.true) in
     let K = test-passes (test-passes J (lt-ltb _ _ c.if-s-ge-UNREACHED_DEPTH.false)) (lt-ltb _ _ c.if-limits-next.false) in

@@ -61,7 +61,7 @@ pub loop-pause-init : goal.loop-pause-init
 loop-pause-init c =
     let P = c.go_on-pause.ensures in
     elim c.if-at_real.branch [
-      then-at_real w ↦ rests-at w.main-is w.ptr-is w.ctl-is w.heap-is w.pause-is (rests-from P.going w.go_on-pause-then-at_real.ensures)
+      | then-at_real w ↦ rests-at w.main-is w.ptr-is w.ctl-is w.heap-is w.pause-is (rests-from P.going w.go_on-pause-then-at_real.ensures)
       | else-at_real w ↦ rests-at w.main-is w.ptr-is w.ctl-is w.heap-is w.pause-is (rests-other P (sym w.if-at_real.false ∙ c.at_real.ensures))
     ]
 

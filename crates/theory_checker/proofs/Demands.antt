@@ -9,8 +9,8 @@ use Rattle.model.specs.Rules.{Assignment, Keeps}
 use Rattle.model.specs.Calls.{map_size, Verdict, pass, refuse, flowed, verdict_of, answered, check_of}
 use Rattle.model.specs.Claim.{Bytes, assigned, InOrder, MapKeeps, MapAlone, RefusedExactly, RightCode, PassedExactly}
 use Rattle.model.specs.declared.Answer.TheVariants.{Passed, Refused}
-use Rattle.theory_checker.specs.Flow.{flow-keeps, keeps-flow}
-use Rattle.theory_checker.specs.Exact.{passed-as, flow-verdict, passed-keeps, keeps-unique}
+use Rattle.theory_checker.proofs.Flow.{flow-keeps, keeps-flow}
+use Rattle.theory_checker.proofs.Exact.{passed-as, flow-verdict, passed-keeps, keeps-unique}
 
 never : (n p : ℕ) → Refused n p ≡ Passed → ⊥
 never n p e = let c : ◌≡◌ {A = ℕ} 0 1 = cc in omega arith
