@@ -26,7 +26,8 @@ measured-at : (c : After-lengths_right) →
     let A = c.args in
     let C = c.check_with-v in
     (ts : List Test) (bytes : List ℕ) → Asks ts c.args.file.now c.args.its →
-    Measured ts (record { file = A.file.now; map = A.map.now; main = A.main.now; ptr = A.ptr.now; ctl = A.ctl.now; heap = A.heap.now; bytes = bytes }) C.new.map C.new.table c.in-Pass.k c.lengths_right.result
+    Measured ts (record { file = A.file.now; map = A.map.now; main = A.main.now; ptr = A.ptr.now; ctl = A.ctl.now; heap = A.heap.now; bytes = bytes })
+    C.new.map C.new.table c.in-Pass.k c.lengths_right.result
 measured-at c ts bytes asks =
     measured c.check_with-v.ensures c.in-Pass.is asks (not-false _ c.if-not-its.false-raw) c.head_at-head.ensures
     c.lengths_right.ensures

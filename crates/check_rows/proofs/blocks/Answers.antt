@@ -38,8 +38,9 @@ returns-in-62 c = rw (c.step-in-62.ensures, c.in-62.is, c.operand-k.ensures.is, 
 pub returns-in_default : goal.returns-in_default
 unfolding shape_of ins_of basic_effect
 returns-in_default c =
+    let n = c.in_default.in_default-own.rest in
     let e : c.args.kind ≡ 64 =
-    ⊎_elim (λ e. absurd (c.in_default.in_default-own.rest.0.0.1 e)) (⊎_elim (λ e. absurd (c.in_default.in_default-own.rest.0.1 e)) (⊎_elim (λ e. absurd (c.in_default.in_default-own.rest.1 e)) (λ e. e)))
+    ⊎_elim (λ e. absurd (n.0.0.1 e)) (⊎_elim (λ e. absurd (n.0.1 e)) (⊎_elim (λ e. absurd (n.1 e)) (λ e. e)))
     c.requires.2
     in
     rw (c.step-in_default.ensures, e, c.operand-k.ensures.is, c.operand2-n.ensures.is)

@@ -15,7 +15,8 @@ use Rattle.laws_file.specs.Kinds as kinds
 use Rattle.plan_elements.specs.Sought.{heap_from, length-heap-from, word-heap-from, bound-behind, nil-sought, other-kind, under-sought, past-sought, found-sought}
 use borrow.Author.Rules.{rules}
 use Rattle.plan_elements.proofs.ptr_elements.Goals as goal
-use Rattle.plan_elements.proofs.ptr_elements.Goals.{After-size_at-size, After-under, Else-elements-far, Else-kind_at-ne-PTR_VECTOR_KIND, Else-object-eq0, Then-elements-far, Then-kind_at-ne-PTR_VECTOR_KIND, Then-object-eq0, Then-under}
+use Rattle.plan_elements.proofs.ptr_elements.Goals.{After-size_at-size, After-under, Else-elements-far, Else-kind_at-ne-PTR_VECTOR_KIND}
+use Rattle.plan_elements.proofs.ptr_elements.Goals.{Else-object-eq0, Then-elements-far, Then-kind_at-ne-PTR_VECTOR_KIND, Then-object-eq0, Then-under}
 
 -- the object is no nil, and so lies in the heap
 object : (c : Else-object-eq0) → Lies c.args.heap.now c.word-object.result
@@ -56,15 +57,19 @@ under : (c : Then-under) →
     let S = c.args in
     element_of on_ptr S.heap.now (word_at S.ptr.now (S.regs.ptop - 1)) (word_at S.main.now (S.regs.mtop - 1)) ≡ nowhere
 under c =
+    let L = lies c.requires.5 c.word-object.ensures.is c.if-object-eq0.false in
+    let s = L.of_pointers (sym c.kind_at.ensures ∙ c.if-kind_at-ne-PTR_VECTOR_KIND.false) in
     under-sought on_ptr _ _ _ c.word-object.ensures.is c.if-object-eq0.false c.kind_at.ensures c.if-kind_at-ne-PTR_VECTOR_KIND.false
-    (counted _ _ c.size_at-size.ensures.is ((lies c.requires.5 c.word-object.ensures.is c.if-object-eq0.false).of_pointers (sym c.kind_at.ensures ∙ c.if-kind_at-ne-PTR_VECTOR_KIND.false))) (bound-behind _ _ (c.size_at-size.ensures.is ∙ (lies c.requires.5 c.word-object.ensures.is c.if-object-eq0.false).of_pointers (sym c.kind_at.ensures ∙ c.if-kind_at-ne-PTR_VECTOR_KIND.false))) (sym c.under.ensures ∙ c.if-under.true)
+    (counted _ _ c.size_at-size.ensures.is s) (bound-behind _ _ (c.size_at-size.ensures.is ∙ s)) (sym c.under.ensures ∙ c.if-under.true)
 
 past : (c : Then-elements-far) →
     let S = c.args in
     element_of on_ptr S.heap.now (word_at S.ptr.now (S.regs.ptop - 1)) (word_at S.main.now (S.regs.mtop - 1)) ≡ nowhere
 past c =
+    let L = lies c.requires.5 c.word-object.ensures.is c.if-object-eq0.false in
+    let s = L.of_pointers (sym c.kind_at.ensures ∙ c.if-kind_at-ne-PTR_VECTOR_KIND.false) in
     past-sought on_ptr _ _ _ c.word-object.ensures.is c.if-object-eq0.false c.kind_at.ensures c.if-kind_at-ne-PTR_VECTOR_KIND.false
-    (counted _ _ c.size_at-size.ensures.is ((lies c.requires.5 c.word-object.ensures.is c.if-object-eq0.false).of_pointers (sym c.kind_at.ensures ∙ c.if-kind_at-ne-PTR_VECTOR_KIND.false))) (bound-behind _ _ (c.size_at-size.ensures.is ∙ (lies c.requires.5 c.word-object.ensures.is c.if-object-eq0.false).of_pointers (sym c.kind_at.ensures ∙ c.if-kind_at-ne-PTR_VECTOR_KIND.false))) c.distance-far.ensures c.if-elements-far.true
+    (counted _ _ c.size_at-size.ensures.is s) (bound-behind _ _ (c.size_at-size.ensures.is ∙ s)) c.distance-far.ensures c.if-elements-far.true
 
 by_two : (o far : ℕ) → o + 2 + far ≡ o + (2 + far)
 by_two o far = omega arith
@@ -75,8 +80,10 @@ at : (c : Else-elements-far) →
     element_of on_ptr S.heap.now (word_at S.ptr.now (S.regs.ptop - 1)) (word_at S.main.now (S.regs.mtop - 1))
     ≡ found (o + (2 + c.distance-far.result))
 at c =
+    let L = lies c.requires.5 c.word-object.ensures.is c.if-object-eq0.false in
+    let s = L.of_pointers (sym c.kind_at.ensures ∙ c.if-kind_at-ne-PTR_VECTOR_KIND.false) in
     let e = found-sought on_ptr _ _ _ c.word-object.ensures.is c.if-object-eq0.false c.kind_at.ensures c.if-kind_at-ne-PTR_VECTOR_KIND.false
-    (counted _ _ c.size_at-size.ensures.is ((lies c.requires.5 c.word-object.ensures.is c.if-object-eq0.false).of_pointers (sym c.kind_at.ensures ∙ c.if-kind_at-ne-PTR_VECTOR_KIND.false))) (bound-behind _ _ (c.size_at-size.ensures.is ∙ (lies c.requires.5 c.word-object.ensures.is c.if-object-eq0.false).of_pointers (sym c.kind_at.ensures ∙ c.if-kind_at-ne-PTR_VECTOR_KIND.false))) c.distance-far.ensures c.if-elements-far.false in
+    (counted _ _ c.size_at-size.ensures.is s) (bound-behind _ _ (c.size_at-size.ensures.is ∙ s)) c.distance-far.ensures c.if-elements-far.false in
     e ∙ ap found (by_two c.word-object.result c.distance-far.result)
 
 pub returns-then-object-eq0 : goal.returns-then-object-eq0

@@ -13,7 +13,8 @@ use Rattle.plan_meaning.specs.Planned.{basic_plan, plan_of, planned}
 use Rattle.laws_file.specs.Kinds as kinds
 use Rattle.plan_elements.specs.Sought.{nil-sought, other-kind, under-sought, past-sought, found-sought}
 use Rattle.plan_elements.proofs.word_elements.Goals as goal
-use Rattle.plan_elements.proofs.word_elements.Goals.{After-under, Else-elements-far, Else-kind_at-ne-WORD_VECTOR_KIND, Else-object-eq0, Then-elements-far, Then-kind_at-ne-WORD_VECTOR_KIND, Then-object-eq0, Then-under}
+use Rattle.plan_elements.proofs.word_elements.Goals.{After-under, Else-elements-far, Else-kind_at-ne-WORD_VECTOR_KIND, Else-object-eq0}
+use Rattle.plan_elements.proofs.word_elements.Goals.{Then-elements-far, Then-kind_at-ne-WORD_VECTOR_KIND, Then-object-eq0, Then-under}
 
 -- the object is no nil, and so lies in the heap
 object : (c : Else-object-eq0) → Lies c.args.heap.now c.word-object.result
@@ -47,16 +48,20 @@ under : (c : Then-under) →
     element_of on_main S.heap.now (word_at S.ptr.now (S.regs.ptop - 1)) (word_at S.main.now (S.regs.mtop - 1)) ≡ nowhere
 unfolding elements_at
 under c =
+    let L = lies c.requires.5 c.word-object.ensures.is c.if-object-eq0.false in
+    let s = L.of_words (sym c.kind_at.ensures ∙ c.if-kind_at-ne-WORD_VECTOR_KIND.false) in
     under-sought on_main _ _ _ c.word-object.ensures.is c.if-object-eq0.false c.kind_at.ensures c.if-kind_at-ne-WORD_VECTOR_KIND.false
-    (ap (λ (n : ℕ). n - 3) c.size_at-elements.ensures.is) (bound_at-first _ _ ((lies c.requires.5 c.word-object.ensures.is c.if-object-eq0.false).of_words (sym c.kind_at.ensures ∙ c.if-kind_at-ne-WORD_VECTOR_KIND.false)).0) (sym c.under.ensures ∙ c.if-under.true)
+    (ap (λ (n : ℕ). n - 3) c.size_at-elements.ensures.is) (bound_at-first _ _ s.0) (sym c.under.ensures ∙ c.if-under.true)
 
 past : (c : Then-elements-far) →
     let S = c.args in
     element_of on_main S.heap.now (word_at S.ptr.now (S.regs.ptop - 1)) (word_at S.main.now (S.regs.mtop - 1)) ≡ nowhere
 unfolding elements_at
 past c =
+    let L = lies c.requires.5 c.word-object.ensures.is c.if-object-eq0.false in
+    let s = L.of_words (sym c.kind_at.ensures ∙ c.if-kind_at-ne-WORD_VECTOR_KIND.false) in
     past-sought on_main _ _ _ c.word-object.ensures.is c.if-object-eq0.false c.kind_at.ensures c.if-kind_at-ne-WORD_VECTOR_KIND.false
-    (ap (λ (n : ℕ). n - 3) c.size_at-elements.ensures.is) (bound_at-first _ _ ((lies c.requires.5 c.word-object.ensures.is c.if-object-eq0.false).of_words (sym c.kind_at.ensures ∙ c.if-kind_at-ne-WORD_VECTOR_KIND.false)).0) c.distance-far.ensures c.if-elements-far.true
+    (ap (λ (n : ℕ). n - 3) c.size_at-elements.ensures.is) (bound_at-first _ _ s.0) c.distance-far.ensures c.if-elements-far.true
 
 at : (c : Else-elements-far) →
     let S = c.args in
@@ -65,8 +70,10 @@ at : (c : Else-elements-far) →
     ≡ found (o + 3 + c.distance-far.result)
 unfolding elements_at
 at c =
+    let L = lies c.requires.5 c.word-object.ensures.is c.if-object-eq0.false in
+    let s = L.of_words (sym c.kind_at.ensures ∙ c.if-kind_at-ne-WORD_VECTOR_KIND.false) in
     found-sought on_main _ _ _ c.word-object.ensures.is c.if-object-eq0.false c.kind_at.ensures c.if-kind_at-ne-WORD_VECTOR_KIND.false
-    (ap (λ (n : ℕ). n - 3) c.size_at-elements.ensures.is) (bound_at-first _ _ ((lies c.requires.5 c.word-object.ensures.is c.if-object-eq0.false).of_words (sym c.kind_at.ensures ∙ c.if-kind_at-ne-WORD_VECTOR_KIND.false)).0) c.distance-far.ensures c.if-elements-far.false
+    (ap (λ (n : ℕ). n - 3) c.size_at-elements.ensures.is) (bound_at-first _ _ s.0) c.distance-far.ensures c.if-elements-far.false
 
 pub returns-then-object-eq0 : goal.returns-then-object-eq0
 unfolding planned plan_of basic_plan ins_of

@@ -61,7 +61,9 @@ may_set_plain-requires c = omega (arith, object (goal.at.may_set_plain-requires 
 
 pub returns-then-not-may_set_plain : goal.returns-then-not-may_set_plain
 unfolding planned plan_of basic_plan ins_of
-returns-then-not-may_set_plain c = λ m. let A = set_same (goal.at.returns-then-not-may_set_plain c).After-may_set_plain in rw (is_set (goal.at.returns-then-not-may_set_plain c).In_default) (rw (A.some, A.part ∙ not-true _ c.if-not-may_set_plain.true-raw))
+returns-then-not-may_set_plain c =
+    let A = set_same (goal.at.returns-then-not-may_set_plain c).After-may_set_plain in
+    λ m. rw (is_set (goal.at.returns-then-not-may_set_plain c).In_default) (rw (A.some, A.part ∙ not-true _ c.if-not-may_set_plain.true-raw))
 
 pub overflow_sub-value : goal.overflow_sub-value
 overflow_sub-value c = omega (arith, c.requires.5 (is_set (goal.at.overflow_sub-value c).In_default))
