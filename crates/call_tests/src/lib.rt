@@ -33,8 +33,8 @@ fn admit_with(
     heap: &[u32],
 ) -> Verdict
     requires { Tables table.old marks.old heap.now }
-    ensures { (ts : List Test) (bytes : List ℕ) → Asks ts file.entry.now its → AdmittedMarks ts (record {
-      file = file.entry.now;
+    ensures { (ts : List Test) (bytes : List ℕ) → Asks ts file.now its → AdmittedMarks ts (record {
+      file = file.now;
       map = map.old;
       main = main.now;
       ptr = ptr.now;
@@ -76,7 +76,7 @@ pub fn admit(
 ) -> Verdict
     requires { table.old ≡ replicate procs_most 0 }
     ensures { Started (record {
-      file = file.entry.now;
+      file = file.now;
       map = map.old;
       main = main.now;
       ptr = ptr.now;
@@ -116,7 +116,7 @@ fn test_with(
 ) -> Tested
     requires { Tables table.old marks.old heap.now × Asks (belong_list file.now bytes.now) file.now its }
     ensures { TestedAs (record {
-      file = file.entry.now;
+      file = file.now;
       map = map.old;
       main = main.now;
       ptr = ptr.now;
@@ -151,7 +151,7 @@ pub fn test_for_run(
 ) -> Tested
     requires { table.old ≡ replicate procs_most 0 }
     ensures { TestedAs (record {
-      file = file.entry.now;
+      file = file.now;
       map = map.old;
       main = main.now;
       ptr = ptr.now;

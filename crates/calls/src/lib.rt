@@ -44,7 +44,7 @@ pub fn start(
     bytes: &mut [u8],
 ) -> Answer
     ensures { answers result (record {
-      file = file.entry.now;
+      file = file.now;
       map = map.new;
       main = main.new;
       ptr = ptr.new;
@@ -53,7 +53,7 @@ pub fn start(
       bytes = bytes.new;
     })
         ≡ start_of (record {
-          file = file.entry.now;
+          file = file.now;
           map = map.old;
           main = main.old;
           ptr = ptr.old;
@@ -90,7 +90,7 @@ pub fn run(
     budget: u32,
 ) -> Answer
     ensures { answers result (record {
-      file = file.entry.now;
+      file = file.now;
       map = map.new;
       main = main.new;
       ptr = ptr.new;
@@ -99,7 +99,7 @@ pub fn run(
       bytes = bytes.new;
     })
         ≡ run_of budget (record {
-          file = file.entry.now;
+          file = file.now;
           map = map.old;
           main = main.old;
           ptr = ptr.old;
