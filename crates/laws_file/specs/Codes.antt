@@ -7,7 +7,8 @@ use Rattle.std.proofs.Math.Bool.{true, false}
 use Rattle.std.proofs.Math.Dec.{eqb}
 use borrow.Author.Tests.{eqb-true, ne_eqb}
 use Rattle.model.specs.File.{Basic, local, assign, field, set_field, make, literal, nil, root, set_root, retract, binary, same_ptr, unary, element, set_element}
-use Rattle.model.specs.File.{real_literal, real, real_less, hoop, Ins, basic, jump, branch, branch_keep, call, return, enter, exit, raise, byte_at, codes, body_of, bodies, after, operand, ins_of, ins_at}
+use Rattle.model.specs.File.{real_literal, real, real_less, hoop, Ins, basic, jump, branch, branch_keep, call, return, enter, exit, raise}
+use Rattle.model.specs.File.{byte_at, codes, body_of, bodies, after, operand, ins_of, ins_at}
 use Rattle.model.specs.Choice.{when◌then◌else◌}
 use Rattle.laws_file.specs.Kinds.{OneOf, one_of?}
 

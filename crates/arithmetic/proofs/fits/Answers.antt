@@ -1,4 +1,4 @@
--- `arithmetic::fits` meets its contract: its two tests are those of `inRange`.
+-- `arithmetic::fits` meets its contract: its two tests are those of `in_range`.
 use mathlib.Core.Path.{◌∙◌, ap}
 use mir.Syntax.{w64}
 use mir.ValLaws.{to_z-of_z}
