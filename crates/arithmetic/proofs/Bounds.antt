@@ -16,7 +16,7 @@ use native.Mathlib.Nat.{div-le_self, div-lt_iff_lt-mul, mul-le-mul, le_trans, lt
 use native.Mathlib.Omega.{arith}
 use Rattle.model.specs.Choice.{when◌then◌else◌}
 use Rattle.model.specs.Words.{signed, to_word, bit, in_range, value_of}
-use Rattle.model.specs.declared.Value.TheVariants.{Word}
+use Rattle.std.specs.Prelude.{Some}
 use Rattle.arithmetic.specs.Distance.{negative?}
 
 pub split : (a b : ℕ) → (a < b) ⊎ (b ≤ a)
@@ -85,7 +85,7 @@ module _ (w : Width) {A : Type 0} (op : ℤ → ℤ → A) {x y s t : ℤ} (f : 
 
 -- the bit of a comparison, with u the answer to the machine's test
 pub compared : (op : ℤ → ℤ → Bool) {x y s t : ℤ} {u : Bool} → mag x < 2147483648 → mag y < 2147483648 → x ≡ s → y ≡ t →
-    op (to_z w32 (of_z w32 x)) (to_z w32 (of_z w32 y)) ≡ u → Word (bit u) ≡ Word (bit (op s t))
+    op (to_z w32 (of_z w32 x)) (to_z w32 (of_z w32 y)) ≡ u → Some (bit u) ≡ Some (bit (op s t))
 compared op f g d e h = rw (sym h ∙ read-both w32 op f g d e)
 
 module _ (w : Width) (op : ℤ → ℤ → ℤ) {x y s t : ℤ} (f : mag x < 2 ^ hbits w) (g : mag y < 2 ^ hbits w) (d : x ≡ s) (e : y ≡ t) (k : SFits w (op s t)) where
@@ -213,9 +213,9 @@ range-fits (pos n) e = record { sfits = omega (arith, leb-true n 2147483647 e) }
 range-fits (negsuc n) e = record { sfits = omega (arith, leb-true n 2147483647 (left _ e)) }
 
 -- the value of a result that fits is its word
-pub made : {r : ℕ} {z : ℤ} → SFits w32 z → r ≡ to_word z → Word r ≡ value_of z
+pub made : {r : ℕ} {z : ℤ} → SFits w32 z → r ≡ to_word z → Some r ≡ value_of z
 unfolding value_of
-made {r} {z} f e = rw (← (in-range z f)) (ap Word e)
+made {r} {z} f e = rw (← (in-range z f)) (ap Some e)
 
 -- ---- distances: the machine's test of the sign, and the cast of what is not negative
 

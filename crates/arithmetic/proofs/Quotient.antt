@@ -16,8 +16,7 @@ use native.Mathlib.Nat.{div-add-mod, mod-lt, mul-zero}
 use native.Mathlib.Omega.{arith}
 use Rattle.model.specs.Choice.{when◌then◌else◌}
 use Rattle.model.specs.Words.{signed, to_word, in_range, value_of, Op, operate}
-use Rattle.model.specs.declared.Value.{Value}
-use Rattle.model.specs.declared.Value.TheVariants.{Word, Outside}
+use Rattle.std.specs.Prelude.{Option, Some, None}
 use Rattle.arithmetic.proofs.Bounds.{split, signed_is}
 
 pos-times-neg : (b q : ℕ) → pos b *ℤ neg_ℤ (pos q) ≡ neg_ℤ (pos (b * q))
@@ -67,22 +66,22 @@ unfolding to_word
 word-bits (pos n) = refl
 word-bits (negsuc n) = omega arith
 
-first : (t : Bool) (w : ℕ) {q : ℕ} → (when t then Word w else Outside) ≡ Word q → (t ≡ true) × (w ≡ q)
+first : (t : Bool) (w : ℕ) {q : ℕ} → (when t then Some w else None) ≡ Some q → (t ≡ true) × (w ≡ q)
 first true w e = (refl, cc)
 first false w e = let z : ◌≡◌ {A = ℕ} 0 1 = cc in absurd (omega arith)
 
-second : (t : Bool) (v : Value) {q : ℕ} → (when t then Outside else v) ≡ Word q → v ≡ Word q
+second : (t : Bool) (v : Option ℕ) {q : ℕ} → (when t then None else v) ≡ Some q → v ≡ Some q
 second true v e = let z : ◌≡◌ {A = ℕ} 0 1 = cc in absurd (omega arith)
 second false v e = e
 
 -- a result's word has the result as its whole number
-pub result-word : (z : ℤ) {q : ℕ} → value_of z ≡ Word q → signed q ≡ z
+pub result-word : (z : ℤ) {q : ℕ} → value_of z ≡ Some q → signed q ≡ z
 unfolding value_of
 result-word z e =
     let p = first (in_range z) (to_word z) e in
     ap signed (sym p.1 ∙ word-bits z) ∙ signed_is (of_z w32 z) ∙ to_z-of_z w32 z (in-fits z p.0)
 
-pub words-divided : (a b q r : ℕ) → operate Op.div a b ≡ Word q → operate Op.rem a b ≡ Word r → signed a ≡ (signed b *ℤ signed q) +ℤ signed r
+pub words-divided : (a b q r : ℕ) → operate Op.div a b ≡ Some q → operate Op.rem a b ≡ Some r → signed a ≡ (signed b *ℤ signed q) +ℤ signed r
 unfolding operate
 words-divided a b q r d e =
     let m = result-word (quot_z (signed a) (signed b)) (second (eqb b 0) _ d) in

@@ -6,8 +6,6 @@ ghost use Rattle.std.specs.Prelude.{true, false, ◌≡◌, pos, neg_ℤ, ◌+�
 ghost use Rattle.arithmetic.specs.Distance.{negative?};
 ghost use Rattle.model.specs.Words.{signed, to_word, in_range, Op, operate, Op1, operate1};
 
-use model::Value;
-
 const LEAST: u32 = 2147483648; // the word of -2^31
 
 const MINUS_ONE: u32 = 4294967295; // the word of -1
@@ -41,7 +39,7 @@ fn word(z: i32) -> u32
     }
 }
 
-// whether a result is a word's: the caller branches on it, where a Value would be asked twice
+// whether a result is a word's: the caller branches on it, where an Option would be asked twice
 pub fn fits(z: i64) -> bool
     ensures { result ≡ in_range z }
 {
@@ -96,29 +94,29 @@ pub fn times(a: u32, b: u32) -> i64
 }
 
 // rounded towards zero; -2^31 by -1 is the one quotient outside the range
-pub fn div(a: u32, b: u32) -> Value
+pub fn div(a: u32, b: u32) -> Option<u32>
     ensures { result ≡ operate Op.div a b }
 {
     if b == 0 {
-        return Value::Outside;
+        return None;
     }
     if a == LEAST && b == MINUS_ONE {
-        return Value::Outside;
+        return None;
     }
-    Value::Word(word(whole(a) / whole(b)))
+    Some(word(whole(a) / whole(b)))
 }
 
 // the remainder has the dividend's sign; by -1 it is 0, of -2^31 too
-pub fn rem(a: u32, b: u32) -> Value
+pub fn rem(a: u32, b: u32) -> Option<u32>
     ensures { result ≡ operate Op.rem a b }
 {
     if b == 0 {
-        return Value::Outside;
+        return None;
     }
     if b == MINUS_ONE {
-        return Value::Word(0);
+        return Some(0);
     }
-    Value::Word(word(whole(a) % whole(b)))
+    Some(word(whole(a) % whole(b)))
 }
 
 // whether a word's negative is in the range: all but that of -2^31, which is tested first
@@ -140,19 +138,19 @@ pub fn neg(a: u32) -> u32
 }
 
 pub fn not(a: u32) -> u32
-    ensures { Value.Word result ≡ operate1 Op1.not? a }
+    ensures { Some result ≡ operate1 Op1.not? a }
 {
     if a == 0 { 1 } else { 0 }
 }
 
 pub fn eq_w(a: u32, b: u32) -> u32
-    ensures { Value.Word result ≡ operate Op.eq_w a b }
+    ensures { Some result ≡ operate Op.eq_w a b }
 {
     if a == b { 1 } else { 0 }
 }
 
 pub fn lt(a: u32, b: u32) -> u32
-    ensures { Value.Word result ≡ operate Op.lt a b }
+    ensures { Some result ≡ operate Op.lt a b }
 {
     let x = whole(a);
     let y = whole(b);
@@ -160,7 +158,7 @@ pub fn lt(a: u32, b: u32) -> u32
 }
 
 pub fn le(a: u32, b: u32) -> u32
-    ensures { Value.Word result ≡ operate Op.le a b }
+    ensures { Some result ≡ operate Op.le a b }
 {
     let x = whole(a);
     let y = whole(b);
@@ -168,13 +166,13 @@ pub fn le(a: u32, b: u32) -> u32
 }
 
 pub fn gt(a: u32, b: u32) -> u32
-    ensures { Value.Word result ≡ operate Op.gt a b }
+    ensures { Some result ≡ operate Op.gt a b }
 {
     lt(b, a)
 }
 
 pub fn ge(a: u32, b: u32) -> u32
-    ensures { Value.Word result ≡ operate Op.ge a b }
+    ensures { Some result ≡ operate Op.ge a b }
 {
     le(b, a)
 }

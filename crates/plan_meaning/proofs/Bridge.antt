@@ -25,8 +25,7 @@ use Rattle.model.specs.Moves.{mtop, ptop, main_word, ptr_word, main_words, ptr_w
 use Rattle.model.specs.Instructions.{code_of, nil_object, no_such_word, heap_full, no_room, Result, done, throws, fails, and_go, on_value, on_object, on_element}
 use Rattle.model.specs.Instructions.{New, object, of_length, new_of, on_new, makes, callee_tests, basic_rule, rule}
 use Rattle.model.specs.Step.{next, outcome, instruct, step}
-use Rattle.model.specs.declared.Value.{Value}
-use Rattle.model.specs.declared.Value.TheVariants.{Word, Outside}
+use Rattle.std.specs.Prelude.{Option, Some, None}
 use Rattle.laws_file.specs.Codes.{on_reals?, is_real?, call-byte, callee-is, call-after}
 use Rattle.plan_meaning.specs.declared.Into.TheVariants.{Nothing, Pop, View, WordVector, PtrVector}
 use Rattle.plan_meaning.specs.declared.Into.{Into}
@@ -71,11 +70,11 @@ module _ (f : List ℕ) (m : Machine) (q : ℕ) where
   comes : {p : Plan} {r : Result} → settle f m p ≡ outcome f m r → Suited f m p → Comes p r
   comes e s = record { to = e; suits = s }
 
-  on-value : (v : Value) (p : ℕ → Plan) (r : ℕ → Result) → ((w : ℕ) → Comes (p w) (and_go q (r w))) →
+  on-value : (v : Option ℕ) (p : ℕ → Plan) (r : ℕ → Result) → ((w : ℕ) → Comes (p w) (and_go q (r w))) →
       Comes (plan.plan_value v p) (and_go q (on_value v r))
   unfolding settle
-  on-value (Word w) p r k = k w
-  on-value Outside p r k = comes refl tt
+  on-value (Some w) p r k = k w
+  on-value None p r k = comes refl tt
 
   on-object : (o : ℕ) (t u : Bool) (p : Plan) (m' : Machine) → (o ≢ 0 → u ≡ t) → (o ≢ 0 → t ≡ true → Comes p (and_go q (done m'))) →
       Comes (plan.plan_object o t p) (and_go q (on_object o u m'))

@@ -1,5 +1,5 @@
 -- What the code plans for each instruction: its writes or the exception that it raises.
-use Rattle.std.specs.Prelude.{ℕ, ◌+◌, ◌-◌, Bool, true, false, List, ltb, leb, eqb, length}
+use Rattle.std.specs.Prelude.{ℕ, ◌+◌, ◌-◌, Bool, true, false, Option, Some, None, List, ltb, leb, eqb, length}
 use Rattle.model.specs.Choice.{when◌then◌else◌, all}
 use Rattle.model.specs.Words.{word_at, truth, bit, operate, operate1}
 use Rattle.model.specs.File.{on_main, on_ptr, keep_main, keep_ptr, keep_none, Basic, local, assign, field, set_field, make, form, vector, literal, nil, root}
@@ -10,8 +10,6 @@ use Rattle.model.specs.Vectors.{Element, found, of_nil, nowhere, element_of}
 use Rattle.model.specs.Control.{Machine, running, record_words}
 use Rattle.model.specs.Moves.{mtop, ptop, main_word, ptr_word}
 use Rattle.model.specs.Instructions.{callee_tests}
-use Rattle.model.specs.declared.Value.{Value}
-use Rattle.model.specs.declared.Value.TheVariants.{Word, Outside}
 use Rattle.plan_meaning.specs.declared.Into.{Into}
 use Rattle.plan_meaning.specs.declared.Into.TheVariants.{Nothing, Pop, Push, Main, Pointer, Heap, Read, Drop, DropMain, DropPointer, View, Frame, Return, Handler, Close}
 use Rattle.plan_meaning.specs.declared.Into.TheVariants.{ReadPointer, Store, WordVector, PtrVector, StoreWord, StorePointer}
@@ -28,9 +26,9 @@ abbrev pub plan_object : ℕ → Bool → Plan → Plan
 plan_object o allowed plan = when eqb o 0 then NilObject else when allowed then plan else NoSuchWord
 
 -- exception 1, or the plan for the word
-abbrev pub plan_value : Value → (ℕ → Plan) → Plan
-plan_value (Word w) plan = plan w
-plan_value Outside plan = OutOfRange
+abbrev pub plan_value : Option ℕ → (ℕ → Plan) → Plan
+plan_value (Some w) plan = plan w
+plan_value None plan = OutOfRange
 
 -- exception 2 or 6, or the plan for the heap index of the element's word
 abbrev pub plan_element : Element → (ℕ → Plan) → Plan

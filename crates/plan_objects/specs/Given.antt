@@ -1,11 +1,10 @@
 -- The definition in the values that the code computes.
-use Rattle.std.specs.Prelude.{ℕ, ◌≡◌, Bool, true, false, eqb}
+use Rattle.std.specs.Prelude.{ℕ, ◌≡◌, Bool, true, false, Some, eqb}
 use Rattle.std.proofs.Common.{◌∙◌, sym, eq-eqb, ne_eqb}
 use Rattle.model.specs.Words.{bit, eq_w, operate}
-use Rattle.model.specs.declared.Value.TheVariants.{Word}
 
 -- the word of a comparison
-pub same_word : (a b : ℕ) {w : ℕ} → Word w ≡ operate eq_w a b → w ≡ bit (eqb a b)
+pub same_word : (a b : ℕ) {w : ℕ} → Some w ≡ operate eq_w a b → w ≡ bit (eqb a b)
 unfolding operate
 same_word a b e = cc e
 

@@ -13,7 +13,7 @@ ghost use Rattle.plan_words.specs.Given.{Binary};
 ghost use Rattle.model.specs.File.{file_most};
 ghost use Rattle.model.specs.Calls.{main_most};
 
-use model::{Regs, Value};
+use model::Regs;
 use plan_meaning::{Into, Plan, writes};
 
 // 20 and 22: word s of the frame.
@@ -102,18 +102,18 @@ fn number(z: i64, place: usize, mtop: usize, ptop: usize, at: usize) -> Plan
 }
 
 // The same for a division, where 0 divides nothing.
-fn result(value: Value, place: usize, mtop: usize, ptop: usize, at: usize) -> Plan
+fn result(value: Option<u32>, place: usize, mtop: usize, ptop: usize, at: usize) -> Plan
     ensures { result ≡ plan_value value (λ w. write Into.Main place mtop ptop at w) }
 {
     match value {
-        Value::Word(w) => writes(Into::Main, place, mtop, ptop, at, w),
-        Value::Outside => Plan::OutOfRange,
+        Some(w) => writes(Into::Main, place, mtop, ptop, at, w),
+        None => Plan::OutOfRange,
     }
 }
 
 fn compare(kind: u8, a: u32, b: u32) -> u32
     requires { (kind ≡ 130) ⊎ ((kind ≡ 195) ⊎ ((kind ≡ 198) ⊎ ((kind ≡ 201) ⊎ (kind ≡ 204)))) }
-    ensures { Binary kind a b (Value.Word result) }
+    ensures { Binary kind a b (Some result) }
 {
     match kind {
         130 => arithmetic::eq_w(a, b),

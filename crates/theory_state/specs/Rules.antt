@@ -1,7 +1,7 @@
 -- What an instruction's rule leaves at a sound state is sound, its heap too, and the lists are as long as they were: the rule leads where
 -- the checker passes the state on, with the tops that the map has there. Each change that a rule is made of keeps the lists in order;
 -- then one case for each instruction.
-use Rattle.std.specs.Prelude.{ℕ, ◌+◌, ◌-◌, ◌*◌, ◌<◌, ◌≤◌, ◌≡◌, Bool, ◌≢◌, Float, ℤ, pos, negsuc, set, leb}
+use Rattle.std.specs.Prelude.{ℕ, ◌+◌, ◌-◌, ◌*◌, ◌<◌, ◌≤◌, ◌≡◌, Bool, ◌≢◌, Option, Some, None, Float, ℤ, pos, negsuc, set, leb}
 use Rattle.std.proofs.Math.Path.{refl, subst}
 use Rattle.std.proofs.Common.{ap, ◌∙◌, true≢false, inr, arith, length-set, eq-eqb, leb-true, le-leb, ltb-true}
 use Rattle.std.proofs.Math.Bool.{true, false}
@@ -26,8 +26,6 @@ use Rattle.model.specs.Instructions.{out_of_range, nil_object, no_such_word, hea
 use Rattle.model.specs.Instructions.{of_length, new_of, on_new, makes, callee_tests, basic_rule, rule}
 use Rattle.model.specs.Step.{next, uncaught, outcome, raised, caught, instruct, step}
 use Rattle.model.specs.Sound.{main_at, inner_at, is_ins}
-use Rattle.model.specs.declared.Value.{Value}
-use Rattle.model.specs.declared.Value.TheVariants.{Word, Outside}
 use Rattle.model.specs.Claim.{assigned}
 use Rattle.laws.specs.Choices.{both_true}
 use Rattle.laws.specs.Cuts.{Zero, Each, length_cut, cut-zero, cut-each, set-zero, set-each, slice-each, replicate-each}
@@ -214,9 +212,9 @@ module _ (f map : List ℕ) (m : Machine) (os : List ℕ) (i j : ℕ) where
   on-length q b (pos n) new k = k n
   on-length q b (negsuc n) new k = tt
 
-  on-value : (q : ℕ) (v : Value) (r : ℕ → Result) → ((w : ℕ) → Fine (and_go q (r w))) → Fine (and_go q (on_value v r))
-  on-value q (Word w) r k = k w
-  on-value q Outside r k = tt
+  on-value : (q : ℕ) (v : Option ℕ) (r : ℕ → Result) → ((w : ℕ) → Fine (and_go q (r w))) → Fine (and_go q (on_value v r))
+  on-value q (Some w) r k = k w
+  on-value q None r k = tt
 
   -- of reals only the words that they come to matter
   on-reals : (q : ℕ) (xs : List Float) (r : List ℕ → Result) → Fine (and_go q (r (words_of xs))) → Fine (and_go q (on_reals xs r))

@@ -1,5 +1,5 @@
 -- `plan_words::result`: by the value.
 use Rattle.plan_words.proofs.result.Goals as goal
 
-pub returns-in-Word : goal.returns-in-Word
-returns-in-Word c = rw (c.writes.ensures, c.in-Word.is)
+pub returns-in-Some : goal.returns-in-Some
+returns-in-Some c = rw (c.writes.ensures, c.in-Some.is)
