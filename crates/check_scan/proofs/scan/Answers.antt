@@ -1,7 +1,6 @@
 -- `check_scan::scan` meets its contract: what is still to be scanned decides what all the records come to; a record that the file's end cuts
 -- short is the last, and decides by itself.
 use mathlib.Core.Path.{refl}
-use Prim.Native.Nat.{◌-◌}
 use native.Mathlib.Omega.{arith}
 use Rattle.check_scan.specs.Scanning.{RecordAt, behind-first, scanned-end, head-body, scan-unknown, scan-short, scan-mark, scan-head, scanned-other}
 use Rattle.check_scan.proofs.scan.Goals as goal
@@ -104,8 +103,8 @@ shape_of-m-then-n-p c = c.loop-p.invariant.1.long
 pub returns-then-n-p : goal.returns-then-n-p
 returns-then-n-p c = c.loop-p.invariant.1.cut (omega arith)
 
-pub shape_of-m-else-n-p : goal.shape_of-m-else-n-p
-shape_of-m-else-n-p c = c.loop-p.invariant.1.long
+pub shape_of-m : goal.shape_of-m
+shape_of-m c = c.loop-p.invariant.1.long
 
-pub returns-else-n-p : goal.returns-else-n-p
-returns-else-n-p c = scanned-end (c.loop-p.invariant.1.here (omega arith)) (omega arith)
+pub returns : goal.returns
+returns c = scanned-end (c.loop-p.invariant.1.here (omega arith)) (omega arith)
