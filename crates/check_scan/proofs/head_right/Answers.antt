@@ -8,17 +8,17 @@ use Rattle.check_scan.proofs.head_right.Goals.{then-within, else-within}
 pub returns-then-within-2 : goal.returns-then-within-2
 returns-then-within-2 c =
     elim c.if-within.branch [
-      then-within w ↦
-        c.number_right.ensures
-        ∙ sym (by-stack c.args.head c.args.k ∙ rw (sym c.within.ensures ∙ w.if-within.true, sym w.within-then-within.ensures ∙ sym w.value-is ∙ c.if-within-2.true))
+      | then-within w ↦
+          c.number_right.ensures
+          ∙ sym (by-stack c.args.head c.args.k ∙ rw (sym c.within.ensures ∙ w.if-within.true, sym w.within-then-within.ensures ∙ sym w.value-is ∙ c.if-within-2.true))
       | else-within w ↦ absurd (true≢false (sym c.if-within-2.true ∙ w.value-is ∙ w.if-within.false))
     ]
 
 pub returns-else-within-2 : goal.returns-else-within-2
 returns-else-within-2 c =
     elim c.if-within.branch [
-      then-within w ↦
-        c.if-within-2.false
-        ∙ sym (by-stack c.args.head c.args.k ∙ rw (sym c.within.ensures ∙ w.if-within.true, sym w.within-then-within.ensures ∙ sym w.value-is ∙ c.if-within-2.false))
+      | then-within w ↦
+          c.if-within-2.false
+          ∙ sym (by-stack c.args.head c.args.k ∙ rw (sym c.within.ensures ∙ w.if-within.true, sym w.within-then-within.ensures ∙ sym w.value-is ∙ c.if-within-2.false))
       | else-within w ↦ c.if-within-2.false ∙ sym (by-stack c.args.head c.args.k ∙ rw (sym c.within.ensures ∙ w.if-within.false))
     ]
