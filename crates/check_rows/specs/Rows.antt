@@ -1,6 +1,6 @@
 -- What an instruction comes to that leads to the next one alone, or nowhere, by its shape: a refusal, or the place behind it and the depths
 -- there (`plainly`). A row of the code is such a shape.
-use Rattle.std.specs.Prelude.{ℕ, suc, ◌+◌, ◌-◌, ◌<◌, ◌≤◌, Bool, true, false, List, ◌≡◌, ltb}
+use Rattle.std.specs.Prelude.{ℕ, suc, ◌+◌, ◌-◌, ◌<◌, ◌≤◌, Bool, true, false, Some, None, Result, Ok, Err, List, ◌≡◌, ltb}
 use Rattle.std.proofs.Common.{arith}
 use borrow.Author.Tests.{lt-ltb, le-ltb, le-leb}
 use Rattle.model.specs.Choice.{when◌then◌else◌}
@@ -9,8 +9,10 @@ use Rattle.model.specs.Checker.{State, effect, moved}
 use Rattle.laws_file.specs.Kinds.{OneOf, AtEach, at_each}
 use Rattle.check_scan.specs.Marks.{unreached}
 use Rattle.check_rows.specs.declared.Row.{Row}
-use Rattle.check_rows.specs.declared.Limits.{Limits}
+use Rattle.check_rows.specs.declared.Procedure.{Procedure}
 use Rattle.check_rows.specs.declared.Onward.{Onward}
+use Rattle.model.specs.declared.Refusal.{Refusal}
+use Rattle.model.specs.declared.Refusal.TheVariants as refusal
 use Rattle.check_rows.specs.Shape.{Way, Shape, shape, shape_of}
 use Rattle.check_rows.specs.Tests.{goes_by, stack_ok, stacks_ok, effect_in}
 
@@ -24,22 +26,27 @@ row a b c d wm wp = record { popm = a; popp = b; pushm = c; pushp = d; wordm = w
 abbrev pub row_shape : Way → Row → Shape
 row_shape w r = shape w (effect r.popm r.popp r.pushm r.pushp) r.wordm r.wordp 0 true
 
-abbrev pub refusal : ℕ → Onward
-refusal n = record { fault = n; goes = false; next = 0; main = 0; ptr = 0 }
-
 -- 5, 6 and 7 in their order
-abbrev pub onward_by : Bool → Bool → Bool → Bool → Onward → Onward
+abbrev pub onward_by : Bool → Bool → Bool → Bool → Onward → Result Onward Refusal
 onward_by known set on depths r =
-    when known then (when set then (when on then (when depths then r else refusal 7) else refusal 6) else refusal 6) else refusal 5
+    when known then (when set then (when on then (when depths then Ok r else Err refusal.Depths) else Err refusal.Reach) else Err refusal.Reach)
+    else Err refusal.Target
+
+-- the place q behind an instruction, and the depths that its shape passes on there from the state s
+abbrev pub onward_to : State → ℕ → Shape → Onward
+onward_to s q sh =
+    record {
+      next = q;
+      depths = (when goes_by sh.way then Some (record { main = (moved (effect_in sh) s).main; ptr = (moved (effect_in sh) s).ptr }) else None);
+    }
 
 -- from the state s, with o at the innermost open 160, to the place q
-unfoldable pub plainly : State → State → Limits → ℕ → Shape → Onward
+unfoldable pub plainly : State → State → Procedure → ℕ → Shape → Result Onward Refusal
 plainly s o l q sh =
-    onward_by sh.known (is_set_in s) (when goes_by sh.way then ltb q l.end else true) (stacks_ok sh s o l.x l.y)
-    (record { fault = 0; goes = goes_by sh.way; next = q; main = (moved (effect_in sh) s).main; ptr = (moved (effect_in sh) s).ptr })
+    onward_by sh.known (is_set_in s) (when goes_by sh.way then ltb q l.end else true) (stacks_ok sh s o l.x l.y) (onward_to s q sh)
 
 -- what the tests rest on: the depths lie above the floor and, where a state is known, within the greatest
-pub record Bounded (s o : State) (l : Limits) : Type 0 where
+pub record Bounded (s o : State) (l : Procedure) : Type 0 where
   pub main_floor : o.main ≤ s.main
   pub ptr_floor : o.ptr ≤ s.ptr
   pub main_within : s.main < unreached → s.main ≤ l.x
@@ -51,7 +58,7 @@ abbrev pub PushesFew : Row → Type 0
 PushesFew r = (r.pushm < 256) × (r.pushp < 256)
 
 -- depths that stay as they are pass the tests
-pub still : (w : Way) (t : ℕ) (s o : State) (l : Limits) → Bounded s o l → s.main < unreached →
+pub still : (w : Way) (t : ℕ) (s o : State) (l : Procedure) → Bounded s o l → s.main < unreached →
     stacks_ok (shape w (effect 0 0 0 0) 0 0 t true) s o l.x l.y ≡ true
 unfolding stacks_ok stack_ok
 still w t s o l B a =
@@ -67,7 +74,7 @@ still w t s o l B a =
     )
 
 -- the instruction of kind k at p, whose record has n bytes; and one of the kinds ks
-module _ (f : List ℕ) (p : ℕ) (s o : State) (l : Limits) {r : Onward} where
+module _ (f : List ℕ) (p : ℕ) (s o : State) (l : Procedure) {r : Result Onward Refusal} where
   pub at_row : {k n : ℕ} {sh : Shape} → byte_at f p ≡ k → suc (body_of k) ≡ n → shape_of f p (ins_of f p k) ≡ sh →
       r ≡ plainly s o l (p + n) sh → r ≡ plainly s o l (after f p) (shape_of f p (ins_at f p))
   unfolding after ins_at
@@ -78,23 +85,21 @@ module _ (f : List ℕ) (p : ℕ) (s o : State) (l : Limits) {r : Onward} where
   at_rows n sh ks h {k} e i w = let g = at_each _ ks k h i in at_row e g.0 g.1 w
 
 -- the ways out of a row
-module _ (w : Way) (r : Row) (s o : State) (l : Limits) (q : ℕ) where
-  pub unreached-refused : unreached ≤ s.main → refusal 6 ≡ plainly s o l q (row_shape w r)
+module _ (w : Way) (r : Row) (s o : State) (l : Procedure) (q : ℕ) where
+  pub unreached-refused : unreached ≤ s.main → Err refusal.Reach ≡ plainly s o l q (row_shape w r)
   unfolding plainly
   unreached-refused a = rw (le-ltb s.main unreached a)
 
   module _ (a : s.main < unreached) where
-    pub past : goes_by w ≡ true → l.end ≤ q → refusal 6 ≡ plainly s o l q (row_shape w r)
+    pub past : goes_by w ≡ true → l.end ≤ q → Err refusal.Reach ≡ plainly s o l q (row_shape w r)
     unfolding plainly
     past g e = rw (lt-ltb s.main unreached a, g, le-ltb q l.end e)
 
     module _ (on : (when goes_by w then ltb q l.end else true) ≡ true) (ok : Bool) (ok-is : ok ≡ stacks_ok (row_shape w r) s o l.x l.y) where
-      pub deep : ok ≡ false → refusal 7 ≡ plainly s o l q (row_shape w r)
+      pub deep : ok ≡ false → Err refusal.Depths ≡ plainly s o l q (row_shape w r)
       unfolding plainly
       deep z = rw (lt-ltb s.main unreached a, on, ← ok-is, z)
 
-      pub onward : ok ≡ true →
-          record { fault = 0; goes = goes_by w; next = q; main = (moved (effect_in (row_shape w r)) s).main; ptr = (moved (effect_in (row_shape w r)) s).ptr }
-          ≡ plainly s o l q (row_shape w r)
+      pub onward : ok ≡ true → Ok (onward_to s q (row_shape w r)) ≡ plainly s o l q (row_shape w r)
       unfolding plainly
       onward z = rw (lt-ltb s.main unreached a, on, ← ok-is, z)

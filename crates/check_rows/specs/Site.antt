@@ -2,7 +2,6 @@
 use Rattle.std.specs.Prelude.{ℕ, ◌+◌, ◌<◌, ◌≤◌, List, ◌≡◌, length, get_or}
 use Rattle.std.proofs.Common.{arith}
 use Rattle.model.specs.File.{unknown, body_of, byte_at, after, head_of, procs, file_most}
-use Rattle.model.specs.Checker.{none}
 
 -- the table has the heads of the procedures, 0 past their number, and each head is whole
 pub record Table (f : List ℕ) (table : List ℕ) (k : ℕ) : Type 0 where

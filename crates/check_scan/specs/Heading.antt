@@ -1,7 +1,7 @@
 -- The heads of a file in file order, as the scan listed them: what is still to come decides what all of them come to (`Heading`); at the
 -- end the map shows the first instruction of each procedure.
 use Prim.Native.Nat.{ℕ, suc, ◌+◌, ◌-◌, ◌*◌, ◌<◌, ◌≤◌}
-use Rattle.std.specs.Prelude.{Bool, not, List, [], ◌∷◌, ◌≡◌, ltb, eqb, get_or}
+use Rattle.std.specs.Prelude.{Bool, not, List, [], ◌∷◌, Result, Ok, Err, ◌≡◌, leb, ltb, eqb, get_or}
 use Rattle.std.proofs.Math.Bool.{true, false, true≢false}
 use Rattle.std.proofs.Math.Path.{refl, ap, sym}
 use Rattle.std.proofs.Common.{◌∙◌}
@@ -10,7 +10,7 @@ use native.Mathlib.Omega.{arith}
 use Rattle.std.proofs.Math.ListN.{length}
 use borrow.Author.Tests.{eq-eqb, ne_eqb, lt-ltb, le-ltb, le-leb, lt-leb}
 use Rattle.model.specs.Choice.{when◌then◌else◌, Test, same, at_most, yes?, all, All, all_true, member}
-use Rattle.model.specs.File.{byte_at, starts, records_of, instructions, heads, procs, head_of, entry, head_tests, wrong, right, heads_from, heads_of}
+use Rattle.model.specs.File.{byte_at, starts, records_of, instructions, procs, head_of, entry, head_tests, wrong, right, heads_from, heads_of}
 use Rattle.model.specs.File.{params_main, params_ptr, file_most, head_size}
 use Rattle.model.specs.Checker.{none, state, firsts}
 use Rattle.laws_file.specs.Walk.{instruction-below}
@@ -20,8 +20,8 @@ use Rattle.laws.specs.Members.{member-in}
 use Rattle.code_file.specs.Heads.{proc_head, HeadIs, head-of}
 use Rattle.code_file.specs.declared.Head.{Head}
 use Rattle.check_scan.specs.Marks.{put_in, PartShows, starts-here, put-shows}
-use Rattle.check_scan.specs.declared.Heads.{Heads as HeadsFound}
-use Rattle.check_scan.specs.declared.Heads.TheVariants.{Wrong, Right}
+use Rattle.model.specs.declared.Refusal.TheVariants as refusal
+use Rattle.model.specs.declared.RefusedAt.{RefusedAt}
 
 -- the rules of head k on its numbers, as the model's head_tests has them
 abbrev number_list : Head → ℕ → List Test
@@ -55,6 +55,24 @@ module _ (h : Head) (k : ℕ) where
 unfoldable pub head_ok : Head → ℕ → Bool
 head_ok h k = all (head_list h k true)
 
+-- parameters and results of a stack lie within its greatest depth
+abbrev pub within : ℕ → ℕ → ℕ → Bool
+within a r x = when leb a x then leb r x else false
+
+-- the rules of a head, stack by stack
+pub by-stack : (h : Head) (k : ℕ) → head_ok h k ≡ (when within h.a h.r h.x then (when within h.b h.s h.y then number_ok h k else false) else false)
+unfolding head_ok number_ok
+by-stack h k = go (leb h.a h.x) (leb h.r h.x) (leb h.b h.y) (leb h.s h.y) (all (number_list h k))
+  where
+    go : (a r b s n : Bool) →
+        (when a then (when r then (when b then (when s then n else false) else false) else false) else false)
+        ≡ (when (when a then r else false) then (when (when b then s else false) then n else false) else false)
+    go true true true true n = refl
+    go true true true false n = refl
+    go true true false s n = refl
+    go true false b s n = refl
+    go false r b s n = refl
+
 unfoldable pub starts_at : List ℕ → ℕ → ℕ → Bool
 starts_at m n q = when ltb q n then not (eqb (get_or m (3 * q) 0) none) else false
 
@@ -76,9 +94,13 @@ pub record Placed (f table : List ℕ) (k : ℕ) : Type 0 where
   pub few : k ≤ 64
   pub heads : (n : ℕ) → n < 64 → get_or table n 0 ≡ head_of f n
 
-abbrev pub Headed : List ℕ → List ℕ → List ℕ → HeadsFound → Type 0
-Headed f m table (Wrong p) = (heads_of f ≡ wrong p) × (length m ≡ 3 * length f)
-Headed f m table (Right k) = (heads_of f ≡ right) × Placed f table k × PartShows f (firsts f k) m
+-- refusal 4 at p
+abbrev pub wrong_at : ℕ → Result ℕ RefusedAt
+wrong_at p = Err (record { refusal = refusal.Heads; place = p })
+
+abbrev pub Headed : List ℕ → List ℕ → List ℕ → Result ℕ RefusedAt → Type 0
+Headed f m table (Err r) = (r.refusal ≡ refusal.Heads) × (heads_of f ≡ wrong r.place) × (length m ≡ 3 * length f)
+Headed f m table (Ok k) = (heads_of f ≡ right) × Placed f table k × PartShows f (firsts f k) m
 
 -- k heads are done
 pub record Heading (f m : List ℕ) (k : ℕ) : Type 0 where
@@ -100,13 +122,14 @@ module _ {f m₀ table : List ℕ} {n last : ℕ} (M : ScanMarked f m₀ table n
 
   module _ {m : List ℕ} {k : ℕ} (H : Heading f m k) where
     -- all are done
-    pub heading-end : n ≤ k → Headed f m table (Right k)
+    pub heading-end : n ≤ k → Headed f m table (Ok n)
     unfolding heads_from
     heading-end l =
         let c = M.count in
         let b = H.most_k in
         let z : procs f - k ≡ 0 = omega arith in
-        (H.so_far ∙ rw z, record { count = omega arith; few = H.few; heads = M.listed }, H.shows)
+        let e : n ≡ k = omega arith in
+        (H.so_far ∙ rw z, record { count = c; few = let w = H.few in omega arith; heads = M.listed }, rw e H.shows)
 
     module _ (below : k < n) where
       one_more : k < procs f
@@ -120,15 +143,15 @@ module _ {f m₀ table : List ℕ} {n last : ℕ} (M : ScanMarked f m₀ table n
           H.so_far ∙ rw z
 
       -- a head that does not pass all its tests is the first at fault
-      at-fault : (p : ℕ) → head_of f k ≡ p → (All (head_tests f k) → ⊥) → Headed f m table (Wrong p)
-      at-fault p is fails = (come ∙ rw (go (all (head_tests f k)) refl, is), H.shows.long)
+      at-fault : (p : ℕ) → head_of f k ≡ p → (All (head_tests f k) → ⊥) → Headed f m table (wrong_at p)
+      at-fault p is fails = (refl, come ∙ rw (go (all (head_tests f k)) refl, is), H.shows.long)
         where
           go : (t : Bool) → all (head_tests f k) ≡ t → all (head_tests f k) ≡ false
           go true e = absurd (fails (all_true (head_tests f k) e))
           go false e = e
 
       -- the 65th is one too many
-      pub heading-many : 64 ≤ k → Headed f m table (Wrong last)
+      pub heading-many : 64 ≤ k → Headed f m table (wrong_at last)
       unfolding head_tests
       heading-many l =
           let few = H.few in
@@ -164,7 +187,7 @@ module _ {f m₀ table : List ℕ} {n last : ℕ} (M : ScanMarked f m₀ table n
             go (no l) = rw (le-ltb (p + head_size) (length f) (omega arith)) (far (member (p + head_size) (instructions f)) refl (omega arith))
 
         -- no instruction starts behind it
-        pub heading-alone : {t : Bool} → t ≡ starts_at m (length f) (p + head_size) → t ≡ false → Headed f m table (Wrong p)
+        pub heading-alone : {t : Bool} → t ≡ starts_at m (length f) (p + head_size) → t ≡ false → Headed f m table (wrong_at p)
         unfolding head_tests
         heading-alone t-is e =
             let n : member (p + head_size) (instructions f) ≡ false = sym starts-are ∙ sym t-is ∙ e in
@@ -192,8 +215,8 @@ module _ {f m₀ table : List ℕ} {n last : ℕ} (M : ScanMarked f m₀ table n
                 let e = same_head in
                 ok-is ∙ ap all (λ i. head_list (e i) k (u i))
 
-            pub heading-wrong : ok ≡ false → Headed f m table (Wrong p)
-            heading-wrong e = (come ∙ rw (sym ok-all ∙ e, head-is), H.shows.long)
+            pub heading-wrong : ok ≡ false → Headed f m table (wrong_at p)
+            heading-wrong e = (refl, come ∙ rw (sym ok-all ∙ e, head-is), H.shows.long)
 
             pub heading-right : {m' : List ℕ} → ok ≡ true → m' ≡ put_in m (p + head_size) (state head.a head.b none) → Heading f m' (k + 1)
             unfolding firsts proc_head

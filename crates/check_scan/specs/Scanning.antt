@@ -1,7 +1,7 @@
 -- The scan of the records: what is still to be scanned decides what all the records come to (`ScanAt`), unless a record is cut short by
 -- the file's end (`Behind`); at the end the marks are those of
 -- all the instructions (`marked-shows` in Marks.antt says what they show), and the table has the places of the heads (`Listed`).
-use Rattle.std.specs.Prelude.{ℕ, zero, suc, ◌+◌, ◌-◌, ◌*◌, ◌<◌, ◌≤◌, Bool, true, false, ◌≡◌, refl, set, replicate, drop}
+use Rattle.std.specs.Prelude.{ℕ, zero, suc, ◌+◌, ◌-◌, ◌*◌, ◌<◌, ◌≤◌, Bool, true, false, Result, Ok, Err, ◌≡◌, refl, set, replicate, drop}
 use mathlib.Core.List.{List, [], ◌∷◌}
 use Rattle.std.proofs.Math.Path.{ap}
 use Rattle.std.proofs.Common.{sym, ◌∙◌, arith, length-set, length-drop, get_or-set_same, get_or-set_other, get_or-drop, drop-drop}
@@ -14,8 +14,9 @@ use Rattle.model.specs.Choice.{when◌then◌else◌}
 use Rattle.model.specs.File.{byte_at, body_of, bodies, after, whole?, broken, starts, more, records_of, is_head, select, head_kind, procs_most}
 use Rattle.laws_file.specs.Rest.{rest_of, rest_end, rest_more, rest-broken, whole-yes, whole-unknown, whole-cut, records-first, records-other}
 use Rattle.check_scan.specs.Marks.{unreached, marked}
-use Rattle.check_scan.specs.declared.RecordsFound.{RecordsFound}
-use Rattle.check_scan.specs.declared.RecordsFound.TheVariants.{Broken, Whole}
+use Rattle.model.specs.declared.Refusal.TheVariants as refusal
+use Rattle.model.specs.declared.RefusedAt.{RefusedAt}
+use Rattle.check_scan.specs.declared.Found.{Found}
 
 -- head k at p: the table has room for 64, and the place of the one behind them is kept by itself
 unfoldable pub list_in : List ℕ → ℕ → ℕ → List ℕ
@@ -112,13 +113,20 @@ module _ (table hs : List ℕ) (k last : ℕ) (L : Listed table k last hs []) wh
       at (yes b) = rw (lt-ltb n k b)
       at (no b) = let c = listed-count in rw (le-ltb n k (omega arith)) (sym (get_or-eq_default hs 0 (omega arith)))
 
--- what a scan comes to
-abbrev pub Comes : List ℕ → List ℕ → List ℕ → List ℕ → RecordsFound → Type 0
-Comes f m m' table (Broken p) = records_of f ≡ broken p
-Comes f m m' table (Whole k last) =
-    (ps : List ℕ) × (records_of f ≡ starts ps) × (m' ≡ marked f m ps) × Listed table k last (select (is_head f) ps) []
+-- what a scan finds: refusal 3 at p, or k heads and the place of the 65th
+abbrev pub broken_at : ℕ → Result Found RefusedAt
+broken_at p = Err (record { refusal = refusal.Records; place = p })
 
-pub record Scanned (f m m' table : List ℕ) (r : RecordsFound) : Type 0 where
+abbrev pub whole_with : ℕ → ℕ → Result Found RefusedAt
+whole_with k last = Ok (record { heads = k; later = last })
+
+-- what a scan comes to
+abbrev pub Comes : List ℕ → List ℕ → List ℕ → List ℕ → Result Found RefusedAt → Type 0
+Comes f m m' table (Err r) = (r.refusal ≡ refusal.Records) × (records_of f ≡ broken r.place)
+Comes f m m' table (Ok found) =
+    (ps : List ℕ) × (records_of f ≡ starts ps) × (m' ≡ marked f m ps) × Listed table found.heads found.later (select (is_head f) ps) []
+
+pub record Scanned (f m m' table : List ℕ) (r : Result Found RefusedAt) : Type 0 where
   pub long : length m' ≡ length m
   pub comes : Comes f m m' table r
 
@@ -144,10 +152,10 @@ going-first f m table h t =
       went = λ ps e. (ps, e, refl, listed-first table (select (is_head f) ps) 0 t);
     }
 
-pub scanned-other : (f m table : List ℕ) → (byte_at f 0 ≡ head_kind → ⊥) → Scanned f m m table (Broken 0)
-scanned-other f m table h = record { long = refl; comes = records-other f h }
+pub scanned-other : (f m table : List ℕ) → (byte_at f 0 ≡ head_kind → ⊥) → Scanned f m m table (broken_at 0)
+scanned-other f m table h = record { long = refl; comes = (refl, records-other f h) }
 
-pub scanned-end : {f m₀ m table : List ℕ} {p k last : ℕ} → ScanAt f m₀ m table p k last → length f ≤ p → Scanned f m₀ m table (Whole k last)
+pub scanned-end : {f m₀ m table : List ℕ} {p k last : ℕ} → ScanAt f m₀ m table p k last → length f ≤ p → Scanned f m₀ m table (whole_with k last)
 scanned-end {f} {m₀} {m} {table} {p} G h =
     let g = G.went [] (rest_end f p h) in
     record { long = G.long; comes = (g.0, G.first ∙ g.1, sym (g.2 ∙ (unfold marked in refl)), g.3) }
@@ -156,7 +164,7 @@ scanned-end {f} {m₀} {m} {table} {p} G h =
 pub record Behind (f m₀ m table : List ℕ) (p k last q : ℕ) : Type 0 where
   pub long : length m ≡ length m₀
   pub here : p ≤ length f → ScanAt f m₀ m table p k last
-  pub cut : length f < p → Scanned f m₀ m table (Broken q)
+  pub cut : length f < p → Scanned f m₀ m table (broken_at q)
 
 pub behind-first : (f m table : List ℕ) → byte_at f 0 ≡ head_kind → table ≡ replicate procs_most 0 → Behind f m m table 0 0 0 0
 behind-first f m table h t = record { long = refl; here = λ l. going-first f m table h t; cut = λ l. absurd (omega arith) }
@@ -171,10 +179,10 @@ module _ {f m₀ m table : List ℕ} {p k last b : ℕ} (R : RecordAt f m₀ m t
   G : ScanAt f m₀ m table p k last
   G = R.scan
 
-  going-broken : (m' table' : List ℕ) → length m' ≡ length m₀ → whole? f p ≡ false → Scanned f m₀ m' table' (Broken p)
-  going-broken m' table' l w = record { long = l; comes = G.first ∙ G.broke p (rest-broken f p R.inside w) }
+  going-broken : (m' table' : List ℕ) → length m' ≡ length m₀ → whole? f p ≡ false → Scanned f m₀ m' table' (broken_at p)
+  going-broken m' table' l w = record { long = l; comes = (refl, G.first ∙ G.broke p (rest-broken f p R.inside w)) }
 
-  pub scan-unknown : b ≡ 255 → Scanned f m₀ m table (Broken p)
+  pub scan-unknown : b ≡ 255 → Scanned f m₀ m table (broken_at p)
   scan-unknown e = going-broken m table G.long (whole-unknown f p (sym R.is ∙ e))
 
   pub head-body : get_or f p 0 ≡ head_kind → b ≡ 6
@@ -186,7 +194,7 @@ module _ {f m₀ m table : List ℕ} {p k last b : ℕ} (R : RecordAt f m₀ m t
     unfolding after
     here = rw (← R.is) (sym q-is)
 
-    cut-here : (m' table' : List ℕ) → length m' ≡ length m₀ → length f < q → Scanned f m₀ m' table' (Broken p)
+    cut-here : (m' table' : List ℕ) → length m' ≡ length m₀ → length f < q → Scanned f m₀ m' table' (broken_at p)
     cut-here m' table' e l = going-broken m' table' e (whole-cut f p (rw here l))
 
     goes-on : q ≤ length f → rest_of f p ≡ more p (rest_of f q)

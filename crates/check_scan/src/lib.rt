@@ -6,35 +6,24 @@ ghost use Rattle.model.specs.File as model;
 ghost use Rattle.model.specs.Checker.{state, none};
 ghost use Rattle.check_scan.specs.Marks.{unreached, put_in};
 ghost use Rattle.check_scan.specs.Scanning.{Scanned, list_in, last_in};
-ghost use Rattle.check_scan.specs.Heading.{head_ok, number_ok, starts_at, ScanMarked, Headed};
+ghost use Rattle.check_scan.specs.Heading.{head_ok, number_ok, within, starts_at, ScanMarked, Headed};
 ghost use Rattle.model.specs.File.{file_most, head_size, procs_most};
 
 use code_file::Head;
-use model::{HEAD_KIND, HEAD_SIZE, NONE, PROCS_MOST};
+use model::{HEAD_KIND, HEAD_SIZE, NONE, PROCS_MOST, Refusal, RefusedAt};
 
 // An instruction starts here that no state has reached yet; depths are at most 255.
 const UNREACHED: u16 = 65534;
 
-pub const UNREACHED_DEPTH: usize = 65534; // the same, as a number
+pub const UNREACHED_DEPTH: usize = UNREACHED as usize;
 
 const UNKNOWN: usize = 255;
 
-// What the records of a file come to.
+// What the scan of a file finds whose records are whole.
 #[derive(Clone, Copy)]
-pub enum RecordsFound {
-    Broken(usize), // the place of the first that is at fault
-    Whole(usize, usize), // the number of heads, and the place of the 65th
-}
-
-// Every number is 65,535.
-pub fn fill(m: &mut [u16])
-    ensures { m.new ≡ replicate (length m.old) none }
-{
-    let mut i = 0;
-    while i < m.len() {
-        m[i] = NONE;
-        i += 1;
-    }
+pub struct Found {
+    pub heads: usize, // their number
+    pub later: usize, // the place of the 65th, if there is one
 }
 
 // An instruction with b bytes behind its kind starts at p: it is marked. The place behind it.
@@ -62,13 +51,16 @@ fn list(table: &mut [usize; PROCS_MOST], k: usize, last: usize, p: usize) -> usi
 // Refusal 3: the records in file order, the instructions among them marked, the heads listed. Each common length has a branch of its own:
 // the processor foresees where the next record starts, and does not wait for the length. The tests are mostly `<`: of equal tests the
 // compiler would make one jump by a table. Only the last record can be cut short, so that is asked once, behind the loop.
-pub fn scan(file: &[u8], m: &mut [u16], table: &mut [usize; PROCS_MOST]) -> RecordsFound
+pub fn scan(file: &[u8], m: &mut [u16], table: &mut [usize; PROCS_MOST]) -> Result<Found, RefusedAt>
     requires { (1 ≤ length file.now) × (length file.now ≤ file_most) × (length m.old ≡ 3 * length file.now) × (table.old ≡ replicate procs_most 0) }
     ensures { Scanned file.now m.old m.new table.new result }
 {
     let n = file.len();
     if file[0] != HEAD_KIND {
-        return RecordsFound::Broken(0);
+        return Err(RefusedAt {
+            refusal: Refusal::Records,
+            place: 0,
+        });
     }
     let bodies = code_file::bodies();
     let mut p = 0;
@@ -92,51 +84,45 @@ pub fn scan(file: &[u8], m: &mut [u16], table: &mut [usize; PROCS_MOST]) -> Reco
             k += 1;
             p += HEAD_SIZE;
         } else if b == UNKNOWN {
-            return RecordsFound::Broken(p);
+            return Err(RefusedAt {
+                refusal: Refusal::Records,
+                place: p,
+            });
         } else {
             p = mark(m, p, b);
         }
     }
     if n < p {
-        RecordsFound::Broken(from)
-    } else {
-        RecordsFound::Whole(k, last)
+        return Err(RefusedAt {
+            refusal: Refusal::Records,
+            place: from,
+        });
     }
+    Ok(Found {
+        heads: k,
+        later: last,
+    })
 }
 
 // At most 64 procedures, and procedure 0 has no parameters.
 fn number_right(head: Head, k: usize) -> bool
     ensures { result ≡ number_ok head k }
 {
-    if PROCS_MOST <= k {
-        return false;
-    }
-    if k != 0 {
-        return true;
-    }
-    if head.a != 0 {
-        return false;
-    }
-    head.b == 0
+    k < PROCS_MOST && (k != 0 || head.a == 0 && head.b == 0)
+}
+
+// Parameters and results of a stack lie within its greatest depth.
+fn within(parameters: usize, results: usize, most: usize) -> bool
+    ensures { result ≡ within parameters results most }
+{
+    parameters <= most && results <= most
 }
 
 // The rules of head k, behind which an instruction starts.
 fn head_right(head: Head, k: usize) -> bool
     ensures { result ≡ head_ok head k }
 {
-    if head.x < head.a {
-        return false;
-    }
-    if head.x < head.r {
-        return false;
-    }
-    if head.y < head.b {
-        return false;
-    }
-    if head.y < head.s {
-        return false;
-    }
-    number_right(head, k)
+    within(head.a, head.r, head.x) && within(head.b, head.s, head.y) && number_right(head, k)
 }
 
 // An instruction starts at q, in a file of n bytes.
@@ -144,10 +130,7 @@ fn follows(m: &[u16], n: usize, q: usize) -> bool
     requires { (length m.now ≡ 3 * n) × (n ≤ file_most) }
     ensures { result ≡ starts_at m.now n q }
 {
-    if n <= q {
-        return false;
-    }
-    m[3 * q] != NONE
+    q < n && m[3 * q] != NONE
 }
 
 // The three numbers at q.
@@ -161,13 +144,6 @@ pub fn put(m: &mut [u16], q: usize, main: u16, ptr: u16, inner: u16)
     m[i + 2] = inner;
 }
 
-// What the heads of a file come to: the place of the first one at fault, or their number.
-#[derive(Clone, Copy)]
-pub enum Heads {
-    Wrong(usize),
-    Right(usize),
-}
-
 // A head at p is right: its first instruction gets its state.
 fn place_head(m: &mut [u16], head: Head, p: usize)
     requires { (3 * (p + head_size) + 2 < length m.old) × (p + head_size < file_most) × (head.a < 256) × (head.b < 256) }
@@ -178,37 +154,41 @@ fn place_head(m: &mut [u16], head: Head, p: usize)
     put(m, p + HEAD_SIZE, a, b, NONE);
 }
 
-// Refusal 4: the n heads in file order, as the scan listed them; the 65th stands at last.
+// Refusal 4: the heads in file order, as the scan listed them. Their number.
 pub fn heads_of(
     file: &[u8],
     m: &mut [u16],
     table: &[usize; PROCS_MOST],
-    n: usize,
-    last: usize,
-) -> Heads
-    requires { ScanMarked file.now m.old table.now n last }
+    found: Found,
+) -> Result<usize, RefusedAt>
+    requires { ScanMarked file.now m.old table.now found.heads found.later }
     ensures { Headed file.now m.new table.now result }
 {
     let size = file.len();
-    let mut k = 0;
-    while k < n {
+    for k in 0..found.heads {
         if k == PROCS_MOST {
-            return Heads::Wrong(last);
+            return Err(RefusedAt {
+                refusal: Refusal::Heads,
+                place: found.later,
+            });
         }
         let p = table[k];
         let there = follows(m, size, p + HEAD_SIZE);
-        if there {
-            let head = code_file::head_at(file, p);
-            let right = head_right(head, k);
-            if right {
-                place_head(m, head, p);
-                k += 1;
-            } else {
-                return Heads::Wrong(p);
-            }
-        } else {
-            return Heads::Wrong(p);
+        if !there {
+            return Err(RefusedAt {
+                refusal: Refusal::Heads,
+                place: p,
+            });
         }
+        let head = code_file::head_at(file, p);
+        let right = head_right(head, k);
+        if !right {
+            return Err(RefusedAt {
+                refusal: Refusal::Heads,
+                place: p,
+            });
+        }
+        place_head(m, head, p);
     }
-    Heads::Right(k)
+    Ok(found.heads)
 }

@@ -1,6 +1,6 @@
 -- `check_rows::stack_ok`: by the definition's own tests; a depth that does not rise stays within the greatest.
 use mathlib.Core.Bool.{true, false}
-use mathlib.Core.Path.{◌≡◌}
+use mathlib.Core.Path.{◌≡◌, ◌∙◌}
 use Prim.Native.Nat.{ℕ, ◌+◌, ◌-◌, ◌<◌, ◌≤◌}
 use native.Mathlib.Omega.{arith}
 use lib.Dec.{leb}
@@ -27,11 +27,11 @@ module _ (have floor pop push word x : ℕ) where
 pub returns-then-have-floor : goal.returns-then-have-floor
 returns-then-have-floor c = under _ _ _ _ _ _ (omega arith)
 
-pub returns-then-rest-word : goal.returns-then-rest-word
-returns-then-rest-word c = short _ _ _ _ _ _ (omega arith) (omega arith)
+pub returns-else-word-rest : goal.returns-else-word-rest
+returns-else-word-rest c = lt-leb _ _ (omega arith) ∙ short _ _ _ _ _ _ (omega arith) (omega arith)
 
 pub returns-then-push-pop : goal.returns-then-push-pop
-returns-then-push-pop c = lower _ _ _ _ _ _ (omega arith) (omega arith) (omega arith)
+returns-then-push-pop c = le-leb _ _ (omega arith) ∙ lower _ _ _ _ _ _ (omega arith) (omega arith) (omega arith)
 
-pub returns : goal.returns
-returns c = enough _ _ _ _ _ _ (omega arith) (omega arith)
+pub returns-else-push-pop : goal.returns-else-push-pop
+returns-else-push-pop c = enough _ _ _ _ _ _ (omega arith) (omega arith)

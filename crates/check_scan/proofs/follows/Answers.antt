@@ -3,10 +3,10 @@ use Rattle.laws.specs.Choices.{cases}
 use Rattle.check_scan.specs.Heading.{starts_at}
 use Rattle.check_scan.proofs.follows.Goals as goal
 
-pub returns-then-n-q : goal.returns-then-n-q
+pub returns-then-q-n : goal.returns-then-q-n
 unfolding starts_at
-returns-then-n-q c = search cases
+returns-then-q-n c = search cases
 
-pub returns : goal.returns
+pub returns-else-q-n : goal.returns-else-q-n
 unfolding starts_at
-returns c = search cases
+returns-else-q-n c = search cases

@@ -1,24 +1,24 @@
--- `check_scan::head_right` meets its contract: each rule is tested in the model's order.
-use Rattle.laws.specs.Choices.{cases, if-true}
-use Rattle.check_scan.specs.Heading.{head_ok, number_ok}
+-- `check_scan::head_right` meets its contract: the rules stack by stack, in the model's order.
+use mathlib.Core.Bool.{true≢false}
+use mathlib.Core.Path.{sym, ◌∙◌}
+use Rattle.check_scan.specs.Heading.{by-stack}
 use Rattle.check_scan.proofs.head_right.Goals as goal
+use Rattle.check_scan.proofs.head_right.Goals.{then-within, else-within}
 
-pub returns-then-head : goal.returns-then-head
-unfolding head_ok number_ok
-returns-then-head c = search (cases, if-true) depth 8
+pub returns-then-within-2 : goal.returns-then-within-2
+returns-then-within-2 c =
+    elim c.if-within.branch [
+      | then-within w ↦
+          c.number_right.ensures
+          ∙ sym (by-stack c.args.head c.args.k ∙ rw (sym c.within.ensures ∙ w.if-within.true, sym w.within-then-within.ensures ∙ sym w.value-is ∙ c.if-within-2.true))
+      | else-within w ↦ absurd (true≢false (sym c.if-within-2.true ∙ w.value-is ∙ w.if-within.false))
+    ]
 
-pub returns-then-head-2 : goal.returns-then-head-2
-unfolding head_ok number_ok
-returns-then-head-2 c = search (cases, if-true) depth 8
-
-pub returns-then-head-3 : goal.returns-then-head-3
-unfolding head_ok number_ok
-returns-then-head-3 c = search (cases, if-true) depth 8
-
-pub returns-then-head-4 : goal.returns-then-head-4
-unfolding head_ok number_ok
-returns-then-head-4 c = search (cases, if-true) depth 8
-
-pub returns : goal.returns
-unfolding head_ok number_ok
-returns c = search (cases, if-true) depth 8
+pub returns-else-within-2 : goal.returns-else-within-2
+returns-else-within-2 c =
+    elim c.if-within.branch [
+      | then-within w ↦
+          c.if-within-2.false
+          ∙ sym (by-stack c.args.head c.args.k ∙ rw (sym c.within.ensures ∙ w.if-within.true, sym w.within-then-within.ensures ∙ sym w.value-is ∙ c.if-within-2.false))
+      | else-within w ↦ c.if-within-2.false ∙ sym (by-stack c.args.head c.args.k ∙ rw (sym c.within.ensures ∙ w.if-within.false))
+    ]

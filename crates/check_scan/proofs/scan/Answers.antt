@@ -1,14 +1,10 @@
 -- `check_scan::scan` meets its contract: what is still to be scanned decides what all the records come to; a record that the file's end cuts
 -- short is the last, and decides by itself.
 use mathlib.Core.Path.{refl}
-use Prim.Native.Nat.{◌-◌}
 use native.Mathlib.Omega.{arith}
 use Rattle.check_scan.specs.Scanning.{RecordAt, behind-first, scanned-end, head-body, scan-unknown, scan-short, scan-mark, scan-head, scanned-other}
 use Rattle.check_scan.proofs.scan.Goals as goal
 use Rattle.check_scan.proofs.scan.Goals.{After-body-b}
-
-pub bounds-file-0 : goal.bounds-file-0
-bounds-file-0 c = omega arith
 
 pub returns-then-file : goal.returns-then-file
 returns-then-file c = scanned-other _ _ _ c.if-file.true
@@ -17,12 +13,6 @@ pub loop-p-init : goal.loop-p-init
 loop-p-init c =
     (refl, behind-first _ _ _ c.if-file.false c.requires.3)
 
-pub bounds-file-p : goal.bounds-file-p
-bounds-file-p c = omega arith
-
-pub body-b-requires : goal.body-b-requires
-body-b-requires c = c.bodies-bodies.ensures
-
 -- behind `body`: the record at p
 record-at : (c : After-body-b) →
     let A = c.args in
@@ -30,50 +20,17 @@ record-at : (c : After-body-b) →
     RecordAt A.file.now A.m.now L.m L.table L.p L.k L.last c.body-b.result
 record-at c = record { scan = c.loop-p.invariant.1.here (omega arith); inside = omega arith; is = c.body-b.ensures.is }
 
-pub mark-p-requires : goal.mark-p-requires
-mark-p-requires c = (omega arith, omega arith, omega arith)
-
-pub loop-p-smaller-then-b-lt1 : goal.loop-p-smaller-then-b-lt1
-loop-p-smaller-then-b-lt1 c = omega arith
-
 pub loop-p-preserved-then-b-lt1 : goal.loop-p-preserved-then-b-lt1
 loop-p-preserved-then-b-lt1 c = (refl, scan-short (record-at (goal.at.loop-p-preserved-then-b-lt1 c).After-body-b) (omega arith) (omega arith) c.mark-p.ensures.map)
-
-pub mark-p-requires-then-b-lt2 : goal.mark-p-requires-then-b-lt2
-mark-p-requires-then-b-lt2 c = (omega arith, omega arith, omega arith)
-
-pub loop-p-smaller-then-b-lt2 : goal.loop-p-smaller-then-b-lt2
-loop-p-smaller-then-b-lt2 c = omega arith
 
 pub loop-p-preserved-then-b-lt2 : goal.loop-p-preserved-then-b-lt2
 loop-p-preserved-then-b-lt2 c = (refl, scan-short (record-at (goal.at.loop-p-preserved-then-b-lt2 c).After-body-b) (omega arith) (omega arith) c.mark-p-then-b-lt2.ensures.map)
 
-pub mark-p-requires-then-b-lt3 : goal.mark-p-requires-then-b-lt3
-mark-p-requires-then-b-lt3 c = (omega arith, omega arith, omega arith)
-
-pub loop-p-smaller-then-b-lt3 : goal.loop-p-smaller-then-b-lt3
-loop-p-smaller-then-b-lt3 c = omega arith
-
 pub loop-p-preserved-then-b-lt3 : goal.loop-p-preserved-then-b-lt3
 loop-p-preserved-then-b-lt3 c = (refl, scan-short (record-at (goal.at.loop-p-preserved-then-b-lt3 c).After-body-b) (omega arith) (omega arith) c.mark-p-then-b-lt3.ensures.map)
 
-pub mark-p-requires-then-b-eq4 : goal.mark-p-requires-then-b-eq4
-mark-p-requires-then-b-eq4 c = (omega arith, omega arith, omega arith)
-
-pub loop-p-smaller-then-b-eq4 : goal.loop-p-smaller-then-b-eq4
-loop-p-smaller-then-b-eq4 c = omega arith
-
 pub loop-p-preserved-then-b-eq4 : goal.loop-p-preserved-then-b-eq4
 loop-p-preserved-then-b-eq4 c = (refl, scan-short (record-at (goal.at.loop-p-preserved-then-b-eq4 c).After-body-b) (omega arith) (omega arith) c.mark-p-then-b-eq4.ensures.map)
-
-pub overflow_add-k : goal.overflow_add-k
-overflow_add-k c = omega (arith, (record-at (goal.at.overflow_add-k c).After-body-b).scan.few)
-
-pub overflow_add-p : goal.overflow_add-p
-overflow_add-p c = omega arith
-
-pub loop-p-smaller-then-kind : goal.loop-p-smaller-then-kind
-loop-p-smaller-then-kind c = omega arith
 
 pub loop-p-preserved-then-kind : goal.loop-p-preserved-then-kind
 loop-p-preserved-then-kind c =
@@ -82,30 +39,12 @@ loop-p-preserved-then-kind c =
     let size = head-body R is-head in
     (refl, scan-head R (λ z. omega arith) (omega arith) is-head c.list-last.ensures.heads c.list-last.ensures.later)
 
-pub shape_of-m-then-b-eq-UNKNOWN : goal.shape_of-m-then-b-eq-UNKNOWN
-shape_of-m-then-b-eq-UNKNOWN c = c.loop-p.invariant.1.long
-
 pub returns-then-b-eq-UNKNOWN : goal.returns-then-b-eq-UNKNOWN
 returns-then-b-eq-UNKNOWN c = scan-unknown (record-at (goal.at.returns-then-b-eq-UNKNOWN c).After-body-b) c.if-b-eq-UNKNOWN.true
-
-pub mark-p-requires-else-b-eq-UNKNOWN : goal.mark-p-requires-else-b-eq-UNKNOWN
-mark-p-requires-else-b-eq-UNKNOWN c = (omega arith, omega arith, omega arith)
-
-pub loop-p-smaller : goal.loop-p-smaller
-loop-p-smaller c = omega arith
 
 pub loop-p-preserved : goal.loop-p-preserved
 loop-p-preserved c =
     (refl, scan-mark (record-at (goal.at.loop-p-preserved c).After-body-b) c.if-b-eq-UNKNOWN.false (omega arith) c.if-kind.false c.mark-p-else-b-eq-UNKNOWN.ensures.map)
 
-pub shape_of-m-then-n-p : goal.shape_of-m-then-n-p
-shape_of-m-then-n-p c = c.loop-p.invariant.1.long
-
-pub returns-then-n-p : goal.returns-then-n-p
-returns-then-n-p c = c.loop-p.invariant.1.cut (omega arith)
-
-pub shape_of-m-else-n-p : goal.shape_of-m-else-n-p
-shape_of-m-else-n-p c = c.loop-p.invariant.1.long
-
-pub returns-else-n-p : goal.returns-else-n-p
-returns-else-n-p c = scanned-end (c.loop-p.invariant.1.here (omega arith)) (omega arith)
+pub returns : goal.returns
+returns c = scanned-end (c.loop-p.invariant.1.here (omega arith)) (omega arith)

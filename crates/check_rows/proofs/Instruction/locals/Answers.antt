@@ -1,23 +1,11 @@
--- `check_rows::locals`: at each code the definition computes; the last is 23, being none of the others.
+-- `check_rows::Instruction::locals`: at each code the definition computes; the last is 23, being none of the others.
 use mathlib.Core.Path.{◌≡◌}
 use native.Mathlib.Numerals.{add-one}
 use native.Mathlib.Omega.{arith}
 use Rattle.model.specs.File.{ins_of}
 use Rattle.model.specs.Checker.{basic_effect}
 use Rattle.check_rows.specs.Shape.{shape_of}
-use Rattle.check_rows.proofs.locals.Goals as goal
-
-pub moves-requires : goal.moves-requires
-moves-requires c = rw c.frame.ensures (c.requires.3, (omega arith, omega arith))
-
-pub moves-requires-in-22 : goal.moves-requires-in-22
-moves-requires-in-22 c = rw c.frame-in-22.ensures (c.requires.3, (omega arith, omega arith))
-
-pub moves-requires-in-21 : goal.moves-requires-in-21
-moves-requires-in-21 c = rw c.frame-in-21.ensures (c.requires.3, (omega arith, omega arith))
-
-pub moves-requires-in_default : goal.moves-requires-in_default
-moves-requires-in_default c = rw c.frame-in_default.ensures (c.requires.3, (omega arith, omega arith))
+use Rattle.check_rows.proofs.Instruction.locals.Goals as goal
 
 pub returns-in-20 : goal.returns-in-20
 unfolding shape_of ins_of basic_effect

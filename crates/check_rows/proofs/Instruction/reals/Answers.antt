@@ -1,8 +1,7 @@
--- `check_rows::reals`: at each code the definition computes; the last arm's are 150 to 153, being none of the others.
+-- `check_rows::Instruction::reals`: at each code the definition computes; the last arm's are 150 to 153, being none of the others.
 use Prim.Native.Nat.{suc, ◌+◌}
 use mathlib.Core.List.{[], ◌∷◌}
 use mathlib.Core.Path.{◌≡◌, refl}
-use native.Mathlib.Omega.{arith}
 use Rattle.model.specs.Checker.{basic_effect}
 use Rattle.model.specs.File.{codes, bodies, body_of, ins_of}
 use Rattle.laws_file.specs.Kinds.{NoneOf, at_each}
@@ -10,16 +9,7 @@ use Rattle.check_rows.specs.Kinds.{pops_reals}
 use Rattle.check_rows.specs.Shape.{shape_of}
 use Rattle.check_rows.specs.Tests.{as_state}
 use Rattle.check_rows.specs.Rows.{plainly}
-use Rattle.check_rows.proofs.reals.Goals as goal
-
-pub step-requires : goal.step-requires
-step-requires c = (c.requires.2, c.requires.0, omega arith, omega arith, omega arith)
-
-pub step-requires-in-156 : goal.step-requires-in-156
-step-requires-in-156 c = (c.requires.2, c.requires.0, omega arith, omega arith, omega arith)
-
-pub step-requires-in_default : goal.step-requires-in_default
-step-requires-in_default c = (c.requires.2, c.requires.0, omega arith, omega arith, omega arith)
+use Rattle.check_rows.proofs.Instruction.reals.Goals as goal
 
 pub returns-in-155 : goal.returns-in-155
 unfolding shape_of ins_of basic_effect body_of bodies codes
@@ -36,7 +26,7 @@ returns-in_default c f =
     let is = c.step-in_default.ensures in
     at_each
     (λ k. NoneOf ((156 ∷ []) ∷ (155 ∷ []) ∷ []) k →
-    c.step-in_default.result ≡ plainly (as_state a.s) (as_state a.o) a.limits (a.p + suc (body_of k)) (shape_of f a.p (ins_of f a.p k)))
+    c.step-in_default.result ≡ plainly (as_state a.self.state) (as_state a.self.outer) a.self.procedure (a.self.place + suc (body_of k)) (shape_of f a.self.place (ins_of f a.self.place k)))
     pops_reals _
     (λ u. is, (λ u. is, (λ u. is, (λ u. is, (λ u. absurd (u.0.1 refl), (λ u. absurd (u.1 refl), tt))))))
-    c.requires.1 c.in_default.in_default-own.rest
+    c.requires c.in_default.in_default-own.rest

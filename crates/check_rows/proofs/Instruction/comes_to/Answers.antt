@@ -1,4 +1,4 @@
--- `check_rows::plain_at`: in each row the code is known, and the definition computes; a code with no row pops reals (`last_row`).
+-- `check_rows::Instruction::comes_to`: in each row the code is known, and the definition computes; a code with no row pops reals (`last_row`).
 use mathlib.Core.List.{[], ◌∷◌}
 use mathlib.Core.Logic.{◌⊎◌, inl, inr}
 use Prim.Native.Nat.{suc, ◌<◌}
@@ -7,104 +7,28 @@ use native.Mathlib.Omega.{arith}
 use Rattle.model.specs.File.{codes, bodies, body_of, maker_pops, ins_of}
 use Rattle.model.specs.Checker.{basic_effect}
 use Rattle.check_rows.specs.Shape.{Next, shape_of}
-use Rattle.check_rows.specs.Site.{body-room, low}
+use Rattle.check_rows.specs.Site.{body-room}
 use Rattle.check_rows.specs.Kinds.{body-locals, body-blocks, last_row}
 use Rattle.check_rows.specs.Rows.{row, row_shape, at_row, at_rows}
-use Rattle.check_rows.proofs.plain_at.Goals as goal
-use Rattle.check_rows.proofs.plain_at.Goals.{in_default-via-then-kind-lt20, in_default-via-else-kind-lt20+else-kind-lt24}
-
-pub step-requires : goal.step-requires
-step-requires c = (c.requires.5, low c.requires.1, omega arith, omega arith, omega arith)
-
-pub step-requires-in-31 : goal.step-requires-in-31
-step-requires-in-31 c = (c.requires.5, low c.requires.1, omega arith, omega arith, omega arith)
-
-pub step-requires-in-32 : goal.step-requires-in-32
-step-requires-in-32 c = (c.requires.5, low c.requires.1, omega arith, omega arith, omega arith)
-
-pub step-requires-in-33 : goal.step-requires-in-33
-step-requires-in-33 c = (c.requires.5, low c.requires.1, omega arith, omega arith, omega arith)
+use Rattle.check_rows.proofs.Instruction.comes_to.Goals as goal
+use Rattle.check_rows.proofs.Instruction.comes_to.Goals.{in_default-via-then-kind-lt20, in_default-via-else-kind-lt20+else-kind-lt24}
 
 pub blocks-requires : goal.blocks-requires
-blocks-requires c = (
-  body-room c.requires.1 4 (ap body_of c.requires.2 ∙ body-blocks _ c.in-36.is),
-  low c.requires.1,
-  c.in-36.is,
-  c.requires.5,
-)
-
-pub step-requires-in-54 : goal.step-requires-in-54
-step-requires-in-54 c = (c.requires.5, low c.requires.1, omega arith, omega arith, omega arith)
-
-pub step-requires-in-56 : goal.step-requires-in-56
-step-requires-in-56 c = (c.requires.5, low c.requires.1, omega arith, omega arith, omega arith)
-
-pub step-requires-in-57 : goal.step-requires-in-57
-step-requires-in-57 c = (c.requires.5, low c.requires.1, omega arith, omega arith, omega arith)
-
-pub step-requires-in-58 : goal.step-requires-in-58
-step-requires-in-58 c = (c.requires.5, low c.requires.1, omega arith, omega arith, omega arith)
-
-pub step-requires-in-59 : goal.step-requires-in-59
-step-requires-in-59 c = (c.requires.5, low c.requires.1, omega arith, omega arith, omega arith)
+blocks-requires c = (body-room c.requires.1 4 (ap body_of c.requires.2 ∙ body-blocks _ c.in-36.is), c.in-36.is)
 
 pub calls-requires : goal.calls-requires
 unfolding body_of bodies codes
-calls-requires c = (
-  c.requires.0,
-  body-room c.requires.1 2 (ap body_of (c.requires.2 ∙ c.in-72.is)),
-  low c.requires.1,
-  c.requires.5,
-)
-
-pub step-requires-in-80 : goal.step-requires-in-80
-step-requires-in-80 c = (c.requires.5, low c.requires.1, omega arith, omega arith, omega arith)
-
-pub step-requires-in-81 : goal.step-requires-in-81
-step-requires-in-81 c = (c.requires.5, low c.requires.1, omega arith, omega arith, omega arith)
-
-pub step-requires-in-82 : goal.step-requires-in-82
-step-requires-in-82 c = (c.requires.5, low c.requires.1, omega arith, omega arith, omega arith)
-
-pub step-requires-in-83 : goal.step-requires-in-83
-step-requires-in-83 c = (c.requires.5, low c.requires.1, omega arith, omega arith, omega arith)
-
-pub step-requires-in-84 : goal.step-requires-in-84
-step-requires-in-84 c = (c.requires.5, low c.requires.1, omega arith, omega arith, omega arith)
-
-pub step-requires-in-85 : goal.step-requires-in-85
-step-requires-in-85 c = (c.requires.5, low c.requires.1, omega arith, omega arith, omega arith)
-
-pub step-requires-in-131 : goal.step-requires-in-131
-step-requires-in-131 c = (c.requires.5, low c.requires.1, omega arith, omega arith, omega arith)
-
-pub step-requires-in-144 : goal.step-requires-in-144
-step-requires-in-144 c = (c.requires.5, low c.requires.1, omega arith, omega arith, omega arith)
-
-pub step-requires-in-130 : goal.step-requires-in-130
-step-requires-in-130 c = (c.requires.5, low c.requires.1, omega arith, omega arith, omega arith)
-
-pub step-requires-in-141 : goal.step-requires-in-141
-step-requires-in-141 c = (c.requires.5, low c.requires.1, omega arith, omega arith, omega arith)
-
-pub step-requires-in-53 : goal.step-requires-in-53
-step-requires-in-53 c = (c.requires.5, low c.requires.1, omega arith, omega arith, omega arith)
-
-pub raises-requires : goal.raises-requires
-raises-requires c = (c.requires.5, low c.requires.1)
+calls-requires c = (c.requires.0, body-room c.requires.1 2 (ap body_of (c.requires.2 ∙ c.in-72.is)))
 
 pub locals-requires : goal.locals-requires
 locals-requires c =
-    (body-room c.requires.1 2 (ap body_of c.requires.2 ∙ body-locals _ (omega arith) (omega arith)), omega arith, omega arith, c.requires.5)
+    (body-room c.requires.1 2 (ap body_of c.requires.2 ∙ body-locals _ (omega arith) (omega arith)), omega arith, omega arith)
 
 pub reals-requires : goal.reals-requires
 reals-requires c =
     let k = c.args.kind in
-    let out : (k < 20) ⊎ (23 < k) = elim c.in_default.branch [ in_default-via-then-kind-lt20 w ↦ inl (omega arith) | in_default-via-else-kind-lt20+else-kind-lt24 w ↦ inr (omega arith) ] in (
-      low c.requires.1,
-      last_row k c.requires.3 c.requires.4 out c.in_default-1.rest (λ e. c.requires.1.known (ap body_of c.requires.2 ∙ e)),
-      c.requires.5,
-    )
+    let out : (k < 20) ⊎ (23 < k) = elim c.in_default.branch [ in_default-via-then-kind-lt20 w ↦ inl (omega arith) | in_default-via-else-kind-lt20+else-kind-lt24 w ↦ inr (omega arith) ] in
+    last_row k c.requires.3 c.requires.4 out c.in_default-1.rest (λ e. c.requires.1.known (ap body_of c.requires.2 ∙ e))
 
 pub returns-in-30 : goal.returns-in-30
 unfolding ins_of shape_of basic_effect body_of bodies codes
