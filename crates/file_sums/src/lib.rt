@@ -13,11 +13,9 @@ pub fn sums_of(file: &[u8]) -> Sums
 {
     let mut first = 0usize;
     let mut second = 0usize;
-    let mut i = 0usize;
-    while i < file.len() {
-        first += numbers::byte(file[i]);
+    for byte in file {
+        first += *byte as usize;
         second += first;
-        i += 1;
     }
     Sums { first, second }
 }
