@@ -1,6 +1,6 @@
--- Whole numbers in the machine's bits: those of words fit 32 bits, their sums, differences and products 64, and the quotient of all but -2^31 by -1 fits 32.
+-- Whole numbers in the machine's bits: those of words fit 32 bits, their sums, differences and products 64; a result that fits 32 bits has its word as its value.
 -- Each bound is one on `mag`, which is n of n and of -(n + 1).
-use Prim.Native.Nat.{ℕ, zero, suc, ◌+◌, ◌-◌, ◌*◌, ◌/◌, ◌%◌, ◌^◌, ◌<◌, ◌≤◌}
+use Prim.Native.Nat.{ℕ, zero, suc, ◌+◌, ◌-◌, ◌*◌, ◌^◌, ◌<◌, ◌≤◌}
 use mathlib.Core.Bool.{Bool, true, false, ◌&&◌, true≢false}
 use mathlib.Core.Logic.{◌⊎◌, inl, inr, ⊎_elim}
 use mathlib.Core.Path.{◌≡◌, refl, sym, ◌∙◌, ap}
@@ -8,15 +8,16 @@ use lib.IntN.{ℤ, pos, negsuc, neg_ℤ, nat_abs, ◌+ℤ◌, ◌*ℤ◌, sub_�
 use lib.Signed.{mag, mag_rem, non_neg, quot_z, rem_z, lt_z}
 use lib.Dec.{T, ltb, lit<}
 use mir.Syntax.{Width, w32, w64}
-use mir.Val.{Fits, SFits, to_z, of_z, sel, hbits}
-use mir.ValLaws.{to_z-of_z, to_z_pos, to_z-neg, to_z-Fits, of_z-to_z, sfits_le}
-use borrow.Author.Tests.{lt-ltb, le-ltb, le-leb, lt-leb, ltb-true, ltb-false, leb-true}
+use mir.Val.{Fits, SFits, to_z, of_z, sel, hbits, bool_byte}
+use mir.ValLaws.{to_z-of_z, to_z-Fits, of_z-to_z, sfits_le}
+use borrow.Author.Tests.{eq-eqb, ne_eqb, lt-ltb, le-ltb, le-leb, ltb-true, ltb-false, leb-true}
 use native.Mathlib.Decide.{dec_lt}
-use native.Mathlib.Nat.{div-le_self, div-lt_iff_lt-mul, mul-le-mul, le_trans, lt_of_le_of_lt}
+use native.Mathlib.Nat.{mul-le-mul, le_trans, lt_of_le_of_lt}
 use native.Mathlib.Omega.{arith}
 use Rattle.model.specs.Choice.{when◌then◌else◌}
-use Rattle.model.specs.Words.{signed, to_word, bit, in_range, value_of}
-use Rattle.std.specs.Prelude.{Some}
+use Rattle.model.specs.Words.{signed, to_word, bit, in_range, value_of, Op, operate}
+use Rattle.std.specs.Int.{CanDivide}
+use Rattle.std.specs.Prelude.{Some, None}
 use Rattle.arithmetic.specs.Distance.{negative?}
 
 pub split : (a b : ℕ) → (a < b) ⊎ (b ≤ a)
@@ -41,52 +42,30 @@ signed-fits a h = rw signed_is (to_z-Fits w32 a (record { fits = h }))
 pub signed-bits : (a : ℕ) → a < 4294967296 → of_z w32 (signed a) ≡ a
 signed-bits a h = rw signed_is (of_z-to_z w32 a (record { fits = h }))
 
--- a word that is not z's has another whole number than z
-signed-other : (a : ℕ) (z : ℤ) → a < 4294967296 → (a ≡ of_z w32 z → ⊥) → signed a ≡ z → ⊥
-signed-other a z h k e = k (sym (signed-bits a h) ∙ ap (of_z w32) e)
-
--- a word from 2^31 on, less 2^31 twice
-pub signed-upper : (a : ℕ) → 2147483648 ≤ a → a < 4294967296 → to_z w32 (a - 2147483648) +ℤ negsuc 2147483647 ≡ signed a
-unfolding signed
-signed-upper a h k =
-    let m : a - 2147483648 < 2147483648 = omega arith in
-    rw (to_z_pos w32 (a - 2147483648) m, lt-ltb (a - 2147483648) 2147483648 m, le-ltb a 2147483648 h) (ap negsuc (omega arith))
-
--- a negative number's bits, all turned round, and its word
-pub record Negative (z : ℤ) : Type 0 where
-  pub n : ℕ
-  pub small : n < 2147483648
-  pub turned : to_z w32 (4294967295 - of_z w32 z) ≡ pos n
-  pub word : to_word z ≡ 4294967295 - n
-
-pub negative : (z : ℤ) → SFits w32 z → lt_z (to_z w32 (of_z w32 z)) (pos 0) ≡ true → Negative z
+-- a whole number's bits are its word
+pub to_word_is : (z : ℤ) → to_word z ≡ of_z w32 z
 unfolding to_word
-negative (pos n) f e = absurd (omega (arith, ltb-true n 0 (rw (to_z_pos w32 n f.sfits) at e)))
-negative (negsuc n) f e =
-    let k : 4294967295 - (4294967296 - suc n) ≡ n = omega (arith, f.sfits) in
-    record { n = n; small = f.sfits; turned = rw k (to_z_pos w32 n f.sfits); word = refl }
+to_word_is (pos n) = refl
+to_word_is (negsuc n) = omega arith
 
--- any other number's bits, and its word
-pub record Natural (z : ℤ) : Type 0 where
-  pub n : ℕ
-  pub small : n < 2147483648
-  pub read : to_z w32 (of_z w32 z) ≡ pos n
-  pub word : to_word z ≡ n
-
-pub natural : (z : ℤ) → SFits w32 z → lt_z (to_z w32 (of_z w32 z)) (pos 0) ≡ false → Natural z
-unfolding to_word
-natural (pos n) f e = record { n = n; small = f.sfits; read = to_z-of_z w32 (pos n) f; word = refl }
-natural (negsuc n) f e = absurd (true≢false (rw (to_z-neg w32 n f.sfits) at e))
+-- what the machine reads from the bits of a number that fits
+pub read : (w : Width) {x s : ℤ} → mag x < 2 ^ hbits w → x ≡ s → to_z w (of_z w x) ≡ s
+read w {x} f d = to_z-of_z w x (record { sfits = f }) ∙ d
 
 -- an operation on what the machine reads from the bits of x and y, and its result in bits
 module _ (w : Width) {A : Type 0} (op : ℤ → ℤ → A) {x y s t : ℤ} (f : mag x < 2 ^ hbits w) (g : mag y < 2 ^ hbits w) (d : x ≡ s) (e : y ≡ t) where
   read-both : op (to_z w (of_z w x)) (to_z w (of_z w y)) ≡ op s t
-  read-both = λ i. op ((to_z-of_z w x (record { sfits = f }) ∙ d) i) ((to_z-of_z w y (record { sfits = g }) ∙ e) i)
+  read-both = λ i. op (read w f d i) (read w g e i)
 
--- the bit of a comparison, with u the answer to the machine's test
-pub compared : (op : ℤ → ℤ → Bool) {x y s t : ℤ} {u : Bool} → mag x < 2147483648 → mag y < 2147483648 → x ≡ s → y ≡ t →
-    op (to_z w32 (of_z w32 x)) (to_z w32 (of_z w32 y)) ≡ u → Some (bit u) ≡ Some (bit (op s t))
-compared op f g d e h = rw (sym h ∙ read-both w32 op f g d e)
+-- a test as a word
+pub bit_is : (t : Bool) → bool_byte t ≡ bit t
+bit_is true = refl
+bit_is false = refl
+
+-- the bit of a comparison
+pub compared : (op : ℤ → ℤ → Bool) {x y s t : ℤ} {r : ℕ} → mag x < 2147483648 → mag y < 2147483648 → x ≡ s → y ≡ t →
+    r ≡ bool_byte (op (to_z w32 (of_z w32 x)) (to_z w32 (of_z w32 y))) → Some r ≡ Some (bit (op s t))
+compared op f g d e h = ap Some (h ∙ ap bool_byte (read-both w32 op f g d e) ∙ bit_is _)
 
 module _ (w : Width) (op : ℤ → ℤ → ℤ) {x y s t : ℤ} (f : mag x < 2 ^ hbits w) (g : mag y < 2 ^ hbits w) (d : x ≡ s) (e : y ≡ t) (k : SFits w (op s t)) where
   pub result_fits : SFits w (op (to_z w (of_z w x)) (to_z w (of_z w y)))
@@ -114,10 +93,6 @@ mag-neg : (n : ℕ) → mag (neg_ℤ (pos n)) ≤ n
 mag-neg zero = omega arith
 mag-neg (suc n) = omega arith
 
-mag-neg-lt : (n k : ℕ) → 0 < k → n ≤ k → mag (neg_ℤ (pos n)) < k
-mag-neg-lt zero k p h = p
-mag-neg-lt (suc n) k p h = h
-
 mag-neg-one : (x : ℤ) → mag (neg_ℤ x) ≤ suc (mag x)
 mag-neg-one (pos n) = omega (arith, mag-neg n)
 mag-neg-one (negsuc n) = omega arith
@@ -141,46 +116,9 @@ module _ {a b : ℕ} (f : a < 4294967296) (g : b < 4294967296) where
   product-fits =
       record { sfits = lt_of_le_of_lt (mag-times (signed a) (signed b)) (lt_of_le_of_lt (mul-le-mul (signed-fits a f).sfits (signed-fits b g).sfits) (lit< tt)) }
 
--- -2^31 by -1 alone does not fit
-quot_fits : (x y : ℤ) → SFits w32 x → (x ≡ negsuc 2147483647 → ⊥) ⊎ (y ≡ negsuc 0 → ⊥) → SFits w32 (quot_z x y)
-quot_fits (pos a) (pos b) f h = record { sfits = omega (arith, f.sfits, div-le_self a b) }
-quot_fits (pos a) (negsuc b) f h = record { sfits = omega (arith, f.sfits, div-le_self a (suc b), mag-neg (a / suc b)) }
-quot_fits (negsuc a) (pos b) f h = record { sfits = mag-neg-lt (suc a / b) 2147483648 (omega arith) (omega (arith, f.sfits, div-le_self (suc a) b)) }
-quot_fits (negsuc a) (negsuc b) f h =
-    record {
-      sfits =
-          ⊎_elim
-          (λ (k : negsuc a ≡ negsuc 2147483647 → ⊥).
-          let m : a ≡ 2147483647 → ⊥ = λ e. k (ap negsuc e) in
-          omega (arith, f.sfits, div-le_self (suc a) (suc b)))
-          (λ (k : negsuc b ≡ negsuc 0 → ⊥).
-          let m : b ≡ 0 → ⊥ = λ e. k (ap negsuc e) in
-          let p : suc a < 2147483648 * suc b = omega (arith, f.sfits) in
-          (div-lt_iff_lt-mul (omega arith)).1 p)
-          h;
-    }
-
-module _ {a b : ℕ} (f : a < 4294967296) (g : b < 4294967296) where
-  pub quotient_fits : (a ≡ 2147483648 → ⊥) ⊎ (b ≡ 4294967295 → ⊥) → SFits w32 (quot_z (signed a) (signed b))
-  quotient_fits h =
-      quot_fits (signed a) (signed b) (signed-fits a f)
-      (⊎_elim (λ k. inl (signed-other a (negsuc 2147483647) f k)) (λ k. inr (signed-other b (negsuc 0) g k)) h)
-
-  pub remainder-fits : SFits w32 (rem_z (signed a) (signed b))
-  remainder-fits = sfits_le (mag_rem (signed a) (signed b)) (signed-fits a f)
-
-pub remainder-by-one : (z : ℤ) → rem_z z (negsuc 0) ≡ pos 0
-remainder-by-one (pos n) = ap pos (omega arith)
-remainder-by-one (negsuc n) = let e : suc n % 1 ≡ 0 = omega arith in rw e
-
-neg-fits : (z : ℤ) → SFits w32 z → (z ≡ negsuc 2147483647 → ⊥) → SFits w32 (neg_ℤ z)
-neg-fits (pos n) f h = record { sfits = mag-neg-lt n 2147483648 (omega arith) (omega (arith, f.sfits)) }
-neg-fits (negsuc n) f h =
-    let k : n ≡ 2147483647 → ⊥ = λ e. h (ap negsuc e) in
-    record { sfits = omega (arith, f.sfits) }
-
-pub negative_fits : (a : ℕ) → a < 4294967296 → (a ≡ 2147483648 → ⊥) → SFits w32 (neg_ℤ (signed a))
-negative_fits a f h = neg-fits (signed a) (signed-fits a f) (signed-other a (negsuc 2147483647) f h)
+-- the dividend's size bounds the remainder's
+pub remainder-fits : (a b : ℕ) → a < 4294967296 → SFits w32 (rem_z (signed a) (signed b))
+remainder-fits a b f = sfits_le (mag_rem (signed a) (signed b)) (signed-fits a f)
 
 -- ---- the range of a word: what fits 32 bits
 
@@ -189,15 +127,13 @@ unfolding in_range
 in-range (pos n) f = rw (le-leb n 2147483647 (omega (arith, f.sfits)))
 in-range (negsuc n) f = rw (le-leb n 2147483647 (omega (arith, f.sfits)))
 
-pub low : (z : ℤ) → lt_z z (negsuc 2147483647) ≡ true → false ≡ in_range z
-unfolding in_range
-low (pos n) e = absurd (true≢false (sym e))
-low (negsuc n) e = rw (lt-leb n 2147483647 (ltb-true 2147483647 n e))
+pub low : (z : ℤ) → lt_z z (negsuc 2147483647) ≡ true → SFits w32 z → ⊥
+low (pos n) e f = true≢false (sym e)
+low (negsuc n) e f = omega (arith, f.sfits, ltb-true 2147483647 n e)
 
-pub high : (z : ℤ) → lt_z (pos 2147483647) z ≡ true → false ≡ in_range z
-unfolding in_range
-high (pos n) e = rw (lt-leb n 2147483647 (ltb-true 2147483647 n e))
-high (negsuc n) e = absurd (true≢false (sym e))
+pub high : (z : ℤ) → lt_z (pos 2147483647) z ≡ true → SFits w32 z → ⊥
+high (pos n) e f = omega (arith, f.sfits, ltb-true 2147483647 n e)
+high (negsuc n) e f = true≢false (sym e)
 
 pub between : (z : ℤ) → lt_z z (negsuc 2147483647) ≡ false → lt_z (pos 2147483647) z ≡ false → SFits w32 z
 between (pos n) d e = record { sfits = omega (arith, ltb-false 2147483647 n e) }
@@ -216,6 +152,29 @@ range-fits (negsuc n) e = record { sfits = omega (arith, leb-true n 2147483647 (
 pub made : {r : ℕ} {z : ℤ} → SFits w32 z → r ≡ to_word z → Some r ≡ value_of z
 unfolding value_of
 made {r} {z} f e = rw (← (in-range z f)) (ap Some e)
+
+-- any other has none
+pub unmade : (z : ℤ) → (SFits w32 z → ⊥) → None ≡ value_of z
+unfolding value_of
+unmade z k = go (in_range z) (λ e. k (range-fits z e))
+  where
+    go : (t : Bool) → (t ≡ true → ⊥) → None ≡ (when t then Some (to_word z) else None)
+    go true h = absurd (h refl)
+    go false h = refl
+
+-- a quotient as std has it: of a divisor other than 0, where it fits
+pub divided : (a b : ℕ) {r : ℕ} {q : ℤ} → b < 4294967296 → CanDivide w32 (signed a) (signed b) → q ≡ quot_z (signed a) (signed b) → r ≡ to_word q →
+    Some r ≡ operate Op.div a b
+unfolding operate
+divided a b g k d e = let n = rw (signed-bits b g) at k.0 in rw (ne_eqb b 0 (omega arith)) (made k.1 (e ∙ ap to_word d))
+
+pub undivided : (a b : ℕ) → b < 4294967296 → (CanDivide w32 (signed a) (signed b) → ⊥) → None ≡ operate Op.div a b
+unfolding operate
+undivided a b g k =
+    ⊎_elim
+    (λ (h : 0 < b). rw (ne_eqb b 0 (omega arith)) (unmade _ (λ f. k (rw (signed-bits b g) h, f))))
+    (λ (h : b ≤ 0). rw (eq-eqb b 0 (omega arith)))
+    (split 0 b)
 
 -- ---- distances: the machine's test of the sign, and the cast of what is not negative
 

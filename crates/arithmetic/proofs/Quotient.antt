@@ -1,23 +1,21 @@
 -- Manual 4.19: A = B × quotient + remainder: `quotient-remainder` for all whole numbers, `words-divided` for the words that the two operations
 -- give.
 -- By the signs, from the same law of natural numbers; for a divisor 0 the law holds of the definitions too, though both operations raise.
-use Prim.Native.Nat.{ℕ, zero, suc, ◌*◌, ◌/◌, ◌%◌, ◌<◌, ◌≤◌}
-use mathlib.Core.Bool.{Bool, true, false, true≢false}
-use mathlib.Core.Logic.{⊎_elim}
+use Prim.Native.Nat.{ℕ, zero, suc, ◌*◌, ◌/◌, ◌%◌, ◌<◌}
+use mathlib.Core.Bool.{Bool, true, false}
 use mathlib.Core.Path.{◌≡◌, refl, sym, ◌∙◌, ap}
 use lib.IntN.{ℤ, pos, negsuc, neg_ℤ, nat_abs, ◌+ℤ◌, ◌*ℤ◌, neg_ℤ-+ℤ}
 use lib.Dec.{eqb}
 use lib.Signed.{quot_z, rem_z}
 use mir.Syntax.{w32}
-use mir.Val.{SFits, of_z}
+use mir.Val.{of_z}
 use mir.ValLaws.{to_z-of_z}
-use borrow.Author.Tests.{lt-leb}
 use native.Mathlib.Nat.{div-add-mod, mod-lt, mul-zero}
 use native.Mathlib.Omega.{arith}
 use Rattle.model.specs.Choice.{when◌then◌else◌}
 use Rattle.model.specs.Words.{signed, to_word, in_range, value_of, Op, operate}
 use Rattle.std.specs.Prelude.{Option, Some, None}
-use Rattle.arithmetic.proofs.Bounds.{split, signed_is}
+use Rattle.arithmetic.proofs.Bounds.{signed_is, to_word_is, range-fits}
 
 pos-times-neg : (b q : ℕ) → pos b *ℤ neg_ℤ (pos q) ≡ neg_ℤ (pos (b * q))
 pos-times-neg b zero = rw mul-zero
@@ -48,24 +46,6 @@ remainder-below (negsuc n) d h = rw nat_abs-neg (mod-lt (suc n) h)
 
 -- ---- of words
 
-in-fits : (z : ℤ) → in_range z ≡ true → SFits w32 z
-unfolding in_range
-in-fits (pos n) e =
-    ⊎_elim
-    (λ (h : n < 2147483648). record { sfits = h })
-    (λ (h : 2147483648 ≤ n). absurd (true≢false (sym (rw (lt-leb n 2147483647 h) at e))))
-    (split n 2147483648)
-in-fits (negsuc n) e =
-    ⊎_elim
-    (λ (h : n < 2147483648). record { sfits = h })
-    (λ (h : 2147483648 ≤ n). absurd (true≢false (sym (rw (lt-leb n 2147483647 h) at e))))
-    (split n 2147483648)
-
-word-bits : (z : ℤ) → to_word z ≡ of_z w32 z
-unfolding to_word
-word-bits (pos n) = refl
-word-bits (negsuc n) = omega arith
-
 first : (t : Bool) (w : ℕ) {q : ℕ} → (when t then Some w else None) ≡ Some q → (t ≡ true) × (w ≡ q)
 first true w e = (refl, cc)
 first false w e = let z : ◌≡◌ {A = ℕ} 0 1 = cc in absurd (omega arith)
@@ -79,7 +59,7 @@ pub result-word : (z : ℤ) {q : ℕ} → value_of z ≡ Some q → signed q ≡
 unfolding value_of
 result-word z e =
     let p = first (in_range z) (to_word z) e in
-    ap signed (sym p.1 ∙ word-bits z) ∙ signed_is (of_z w32 z) ∙ to_z-of_z w32 z (in-fits z p.0)
+    ap signed (sym p.1 ∙ to_word_is z) ∙ signed_is (of_z w32 z) ∙ to_z-of_z w32 z (range-fits z p.0)
 
 pub words-divided : (a b q r : ℕ) → operate Op.div a b ≡ Some q → operate Op.rem a b ≡ Some r → signed a ≡ (signed b *ℤ signed q) +ℤ signed r
 unfolding operate

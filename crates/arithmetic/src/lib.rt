@@ -2,62 +2,42 @@
 // A word becomes a signed number, is computed with, and becomes a word again.
 #![tactic(auto)]
 
-ghost use Rattle.std.specs.Prelude.{true, false, ◌≡◌, pos, neg_ℤ, ◌+ℤ◌, ◌-ℤ◌, ◌*ℤ◌};
+ghost use Rattle.std.specs.Prelude.{false, ◌≡◌, pos, ◌+ℤ◌, ◌-ℤ◌, ◌*ℤ◌};
 ghost use Rattle.arithmetic.specs.Distance.{negative?};
-ghost use Rattle.model.specs.Words.{signed, to_word, in_range, Op, operate, Op1, operate1};
-
-const LEAST: u32 = 2147483648; // the word of -2^31
-
-const MINUS_ONE: u32 = 4294967295; // the word of -1
+ghost use Rattle.model.specs.Words.{signed, to_word, value_of, Op, operate, Op1, operate1};
 
 // the whole number of a word
 fn whole(w: u32) -> i32
     ensures { result ≡ signed w }
 {
-    if w < 2147483648 {
-        w as i32
-    } else {
-        (w - 2147483648) as i32 + (-2147483648)
-    }
+    w.cast_signed()
 }
 
 // the same in 64 bits, which hold every sum, difference and product of two
 fn wide(w: u32) -> i64
     ensures { result ≡ signed w }
 {
-    whole(w) as i64
+    i64::from(whole(w))
 }
 
 // the word of a whole number
 fn word(z: i32) -> u32
     ensures { result ≡ to_word z }
 {
-    if z < 0 {
-        4294967295 - !z as u32
-    } else {
-        z as u32
-    }
+    z.cast_unsigned()
 }
 
-// whether a result is a word's: the caller branches on it, where an Option would be asked twice
-pub fn fits(z: i64) -> bool
-    ensures { result ≡ in_range z }
+// the word of a result, where it is in the range of a word. `i32::try_from` would test its sign too: two jumps in the place of one
+pub fn narrow(z: i64) -> Option<u32>
+    ensures { result ≡ value_of z }
 {
-    if z < -2147483648 {
-        return false;
+    if z < i64::from(i32::MIN) {
+        return None;
     }
-    if 2147483647 < z {
-        return false;
+    if i64::from(i32::MAX) < z {
+        return None;
     }
-    true
-}
-
-// the word of a result that fits
-pub fn narrow(z: i64) -> u32
-    requires { in_range z ≡ true }
-    ensures { result ≡ to_word z }
-{
-    word(z as i32)
+    Some(word(z as i32))
 }
 
 pub fn plus(a: u32, b: u32) -> i64
@@ -97,13 +77,8 @@ pub fn times(a: u32, b: u32) -> i64
 pub fn div(a: u32, b: u32) -> Option<u32>
     ensures { result ≡ operate Op.div a b }
 {
-    if b == 0 {
-        return None;
-    }
-    if a == LEAST && b == MINUS_ONE {
-        return None;
-    }
-    Some(word(whole(a) / whole(b)))
+    let quotient = whole(a).checked_div(whole(b))?;
+    Some(word(quotient))
 }
 
 // the remainder has the dividend's sign; by -1 it is 0, of -2^31 too
@@ -113,56 +88,39 @@ pub fn rem(a: u32, b: u32) -> Option<u32>
     if b == 0 {
         return None;
     }
-    if b == MINUS_ONE {
-        return Some(0);
-    }
-    Some(word(whole(a) % whole(b)))
+    Some(word(whole(a).wrapping_rem(whole(b))))
 }
 
-// whether a word's negative is in the range: all but that of -2^31, which is tested first
-pub fn negates(a: u32) -> bool
-    ensures { result ≡ in_range (neg_ℤ (signed a)) }
+// that of -2^31 alone is outside the range
+pub fn neg(a: u32) -> Option<u32>
+    ensures { result ≡ operate1 Op1.neg a }
 {
-    if a == LEAST {
-        return false;
-    }
-    true
-}
-
-// the word of the negative then
-pub fn neg(a: u32) -> u32
-    requires { in_range (neg_ℤ (signed a)) ≡ true }
-    ensures { result ≡ to_word (neg_ℤ (signed a)) }
-{
-    word(-whole(a))
+    let negative = whole(a).checked_neg()?;
+    Some(word(negative))
 }
 
 pub fn not(a: u32) -> u32
     ensures { Some result ≡ operate1 Op1.not? a }
 {
-    if a == 0 { 1 } else { 0 }
+    u32::from(a == 0)
 }
 
 pub fn eq_w(a: u32, b: u32) -> u32
     ensures { Some result ≡ operate Op.eq_w a b }
 {
-    if a == b { 1 } else { 0 }
+    u32::from(a == b)
 }
 
 pub fn lt(a: u32, b: u32) -> u32
     ensures { Some result ≡ operate Op.lt a b }
 {
-    let x = whole(a);
-    let y = whole(b);
-    if x < y { 1 } else { 0 }
+    u32::from(whole(a) < whole(b))
 }
 
 pub fn le(a: u32, b: u32) -> u32
     ensures { Some result ≡ operate Op.le a b }
 {
-    let x = whole(a);
-    let y = whole(b);
-    if x <= y { 1 } else { 0 }
+    u32::from(whole(a) <= whole(b))
 }
 
 pub fn gt(a: u32, b: u32) -> u32

@@ -31,7 +31,7 @@ pub fn plain_fields(
 {
     let place = regs.place;
     let top = regs.ptop - 1;
-    let object = numbers::word(ptr[top]);
+    let object = ptr[top] as usize;
     if object == 0 {
         return Plan::NilObject; // before the field is looked for: 2, not 3
     }
@@ -70,7 +70,7 @@ pub fn ptr_fields(file: &[u8], ptr: &[u32], heap: &[u32], regs: Regs, kind: u8) 
 {
     let place = regs.place;
     let top = regs.ptop - 1;
-    let object = numbers::word(ptr[top]);
+    let object = ptr[top] as usize;
     if object == 0 {
         return Plan::NilObject;
     }
@@ -145,7 +145,7 @@ fn forms(file: &[u8], heap: &[u32], regs: Regs) -> Plan
     let plain = code_file::operand(file, place);
     let ptrs = code_file::operand2(file, place);
     let mark = heap[0];
-    if heap.len() < numbers::word(mark) + (2 + plain + ptrs) {
+    if heap.len() < mark as usize + (2 + plain + ptrs) {
         return Plan::HeapFull;
     }
     let at = regs.ptop - ptrs;

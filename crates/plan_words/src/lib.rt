@@ -3,7 +3,6 @@
 #![tactic(auto)]
 
 ghost use Rattle.std.specs.Prelude.{◌≡◌, List, ◌⊎◌, ℕ, suc, ◌+◌, ◌<◌, ◌≤◌};
-ghost use Rattle.model.specs.Words.{value_of};
 ghost use Rattle.model.specs.File as model;
 ghost use Rattle.model.specs.Control.{Machine, frame_of, set_regs, set_main, set_ptr, set_ctl};
 ghost use Rattle.plan_meaning.specs.Planned.{write, plan_value, planned};
@@ -91,22 +90,12 @@ pub fn ptr_locals(file: &[u8], ptr: &[u32], ctl: &[u32], regs: Regs, kind: u8) -
     }
 }
 
-// A whole number's word on the main stack, or exception 1.
-fn number(z: i64, place: usize, mtop: usize, ptop: usize, at: usize) -> Plan
-    ensures { result ≡ plan_value (value_of z) (λ w. write Into.Main place mtop ptop at w) }
-{
-    if !arithmetic::fits(z) {
-        return Plan::OutOfRange;
-    }
-    writes(Into::Main, place, mtop, ptop, at, arithmetic::narrow(z))
-}
-
-// The same for a division, where 0 divides nothing.
-fn result(value: Option<u32>, place: usize, mtop: usize, ptop: usize, at: usize) -> Plan
-    ensures { result ≡ plan_value value (λ w. write Into.Main place mtop ptop at w) }
+// An operation's word on the main stack, or exception 1.
+fn result(into: Into, value: Option<u32>, place: usize, mtop: usize, ptop: usize, at: usize) -> Plan
+    ensures { result ≡ plan_value value (λ w. write into place mtop ptop at w) }
 {
     match value {
-        Some(w) => writes(Into::Main, place, mtop, ptop, at, w),
+        Some(w) => writes(into, place, mtop, ptop, at, w),
         None => Plan::OutOfRange,
     }
 }
@@ -141,15 +130,15 @@ pub fn sums(main: &[u32], regs: Regs, kind: u8) -> Plan
     requires { (regs.place < file_most) × TopWithin main.now regs.mtop × (2 ≤ regs.mtop) × ((kind ≡ 140) ⊎ (kind ≡ 142)) }
     ensures { (f : List ℕ) (m : Machine) → result ≡ planned f (set_regs regs (set_main main.now m)) 1 kind }
 {
-    let place = regs.place + 1;
     let top = regs.mtop - 1;
     let at = regs.mtop - 2;
     let a = main[at];
     let b = main[top];
-    match kind {
-        140 => number(arithmetic::plus(a, b), place, top, regs.ptop, at),
-        _ => number(arithmetic::minus(a, b), place, top, regs.ptop, at),
-    }
+    let value = match kind {
+        140 => arithmetic::narrow(arithmetic::plus(a, b)),
+        _ => arithmetic::narrow(arithmetic::minus(a, b)),
+    };
+    result(Into::Main, value, regs.place + 1, top, regs.ptop, at)
 }
 
 // 141, 143 and 145.
@@ -157,16 +146,16 @@ pub fn products(main: &[u32], regs: Regs, kind: u8) -> Plan
     requires { (regs.place < file_most) × TopWithin main.now regs.mtop × (2 ≤ regs.mtop) × ((kind ≡ 141) ⊎ ((kind ≡ 143) ⊎ (kind ≡ 145))) }
     ensures { (f : List ℕ) (m : Machine) → result ≡ planned f (set_regs regs (set_main main.now m)) 1 kind }
 {
-    let place = regs.place + 1;
     let top = regs.mtop - 1;
     let at = regs.mtop - 2;
     let a = main[at];
     let b = main[top];
-    match kind {
-        141 => number(arithmetic::times(a, b), place, top, regs.ptop, at),
-        143 => result(arithmetic::div(a, b), place, top, regs.ptop, at),
-        _ => result(arithmetic::rem(a, b), place, top, regs.ptop, at),
-    }
+    let value = match kind {
+        141 => arithmetic::narrow(arithmetic::times(a, b)),
+        143 => arithmetic::div(a, b),
+        _ => arithmetic::rem(a, b),
+    };
+    result(Into::Main, value, regs.place + 1, top, regs.ptop, at)
 }
 
 // 144 and 146.
@@ -174,30 +163,11 @@ pub fn unaries(main: &[u32], regs: Regs, kind: u8) -> Plan
     requires { (regs.place < file_most) × TopWithin main.now regs.mtop × (1 ≤ regs.mtop) × ((kind ≡ 144) ⊎ (kind ≡ 146)) }
     ensures { (f : List ℕ) (m : Machine) → result ≡ planned f (set_regs regs (set_main main.now m)) 1 kind }
 {
-    let place = regs.place + 1;
     let at = regs.mtop - 1;
     let a = main[at];
-    match kind {
-        144 => {
-            if !arithmetic::negates(a) {
-                return Plan::OutOfRange;
-            }
-            writes(
-                Into::Push,
-                place,
-                regs.mtop,
-                regs.ptop,
-                at,
-                arithmetic::neg(a),
-            )
-        }
-        _ => writes(
-            Into::Push,
-            place,
-            regs.mtop,
-            regs.ptop,
-            at,
-            arithmetic::not(a),
-        ),
-    }
+    let value = match kind {
+        144 => arithmetic::neg(a),
+        _ => Some(arithmetic::not(a)),
+    };
+    result(Into::Push, value, regs.place + 1, regs.mtop, regs.ptop, at)
 }

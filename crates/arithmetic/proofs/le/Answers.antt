@@ -4,10 +4,6 @@ use Rattle.model.specs.Words.{operate}
 use Rattle.arithmetic.proofs.Bounds.{compared}
 use Rattle.arithmetic.proofs.le.Goals as goal
 
-pub returns-then-x-y : goal.returns-then-x-y
+pub returns : goal.returns
 unfolding operate
-returns-then-x-y c = let x = c.whole-x in let y = c.whole-y in compared le_z x.type_inv y.type_inv x.ensures y.ensures c.if-x-y.true
-
-pub returns-else-x-y : goal.returns-else-x-y
-unfolding operate
-returns-else-x-y c = let x = c.whole-x in let y = c.whole-y in compared le_z x.type_inv y.type_inv x.ensures y.ensures c.if-x-y.false
+returns c = let x = c.whole in let y = c.whole-2 in compared le_z x.type_inv y.type_inv x.ensures y.ensures c.from.ensures

@@ -1,12 +1,10 @@
--- `arithmetic::not` meets its contract: the test decides the bit.
-use borrow.Author.Tests.{eq-eqb, ne_eqb}
+-- `arithmetic::not` meets its contract: the test is the bit.
+use mathlib.Core.Path.{◌∙◌, ap}
+use Rattle.std.specs.Prelude.{Some}
 use Rattle.model.specs.Words.{operate1}
+use Rattle.arithmetic.proofs.Bounds.{bit_is}
 use Rattle.arithmetic.proofs.not.Goals as goal
 
-pub returns-then-a-eq0 : goal.returns-then-a-eq0
+pub returns : goal.returns
 unfolding operate1
-returns-then-a-eq0 c = rw (eq-eqb _ _ c.if-a-eq0.true)
-
-pub returns-else-a-eq0 : goal.returns-else-a-eq0
-unfolding operate1
-returns-else-a-eq0 c = rw (ne_eqb _ _ c.if-a-eq0.false)
+returns c = ap Some (c.from.ensures ∙ bit_is _)

@@ -1,19 +1,10 @@
--- `arithmetic::word` meets its contract: a negative number's bits turned round are a number below 2^31, taken from 2^32 - 1.
-use native.Mathlib.Omega.{arith}
-use Rattle.arithmetic.proofs.Bounds.{negative, natural}
+-- `arithmetic::word` meets its contract: std's cast gives the bits, which are the word.
+use mathlib.Core.Path.{sym, ◌∙◌, ap}
+use mir.Syntax.{w32}
+use mir.Val.{of_z}
+use mir.ValLaws.{to_z-of_z}
+use Rattle.arithmetic.proofs.Bounds.{to_word_is}
 use Rattle.arithmetic.proofs.word.Goals as goal
 
-pub overflow_cast-result : goal.overflow_cast-result
-overflow_cast-result c = let h = negative c.args.z c.ranges.z c.if-z-lt0.true in rw h.turned (tt, record { fits = omega arith })
-
-pub overflow_sub-result : goal.overflow_sub-result
-overflow_sub-result c = let h = negative c.args.z c.ranges.z c.if-z-lt0.true in rw h.turned (omega arith)
-
-pub overflow_cast-result-else-z-lt0 : goal.overflow_cast-result-else-z-lt0
-overflow_cast-result-else-z-lt0 c = let h = natural c.args.z c.ranges.z c.if-z-lt0.false in rw h.read (tt, record { fits = omega arith })
-
-pub returns-then-z-lt0 : goal.returns-then-z-lt0
-returns-then-z-lt0 c = let h = negative c.args.z c.ranges.z c.if-z-lt0.true in rw (h.turned, h.word)
-
-pub returns-else-z-lt0 : goal.returns-else-z-lt0
-returns-else-z-lt0 c = let h = natural c.args.z c.ranges.z c.if-z-lt0.false in rw (h.read, h.word)
+pub returns : goal.returns
+returns c = c.cast_unsigned.ensures ∙ ap (of_z w32) (to_z-of_z w32 _ c.ranges.z) ∙ sym (to_word_is c.args.z)

@@ -1,20 +1,9 @@
--- `plan_vectors::make_pointers`: as `make_words`, with the value on the pointer stack.
-use mathlib.Core.Path.{◌∙◌, sym}
-use borrow.Author.Tests.{lt-ltb, le-ltb, not-true, not-false}
+-- `plan_vectors::make_pointers`: at code 81 the definition computes to what `make` ensures.
 use Rattle.model.specs.File.{ins_of}
+use Rattle.model.specs.Control.{set_main}
 use Rattle.plan_meaning.specs.Planned.{basic_plan, plan_of, planned}
 use Rattle.plan_vectors.proofs.make_pointers.Goals as goal
 
-pub returns-then-elements-ge-LEAST : goal.returns-then-elements-ge-LEAST
-unfolding planned plan_of basic_plan ins_of
-returns-then-elements-ge-LEAST c = λ f m. rw (le-ltb _ 2147483648 c.if-elements-ge-LEAST.true)
-
-pub returns-then-not-has_room : goal.returns-then-not-has_room
-unfolding planned plan_of basic_plan ins_of
-returns-then-not-has_room c = λ f m. rw (lt-ltb _ 2147483648 c.if-elements-ge-LEAST.false, sym c.has_room.ensures ∙ not-true _ c.if-not-has_room.true-raw)
-
 pub returns : goal.returns
 unfolding planned plan_of basic_plan ins_of
-returns c =
-    λ f m.
-    rw (c.writes.ensures, lt-ltb _ 2147483648 c.if-elements-ge-LEAST.false, sym c.has_room.ensures ∙ not-false _ c.if-not-has_room.false-raw)
+returns c = λ f m. c.make.ensures (set_main c.args.main.now m)

@@ -1,28 +1,24 @@
 -- `plan_words::products`: at each of the three codes the definition computes, and the operation is the one that `arithmetic` ensures.
-use mathlib.Core.Path.{◌∙◌}
+use mathlib.Core.Path.{◌≡◌, ◌∙◌}
+use native.Mathlib.Omega.{arith}
 use mir.Syntax.{w64}
 use mir.ValLaws.{to_z-of_z}
 use Rattle.model.specs.File.{ins_of}
 use Rattle.model.specs.Words.{operate}
 use Rattle.plan_meaning.specs.Planned.{basic_plan, plan_of, planned}
-use Rattle.laws_file.specs.Kinds.{other}
 use Rattle.plan_words.proofs.products.Goals as goal
+use Rattle.plan_words.proofs.products.Goals.{in-141, in-143, in_default}
 
-pub returns-in-141 : goal.returns-in-141
+pub returns : goal.returns
 unfolding planned plan_of basic_plan ins_of operate
-returns-in-141 c =
+returns c =
     λ f m.
-    let z = c.times in
-    rw (c.number.ensures, c.in-141.is, to_z-of_z w64 _ (record { sfits = z.type_inv }) ∙ z.ensures)
-
-pub returns-in-143 : goal.returns-in-143
-unfolding planned plan_of basic_plan ins_of
-returns-in-143 c = λ f m. rw (c.result.ensures, c.in-143.is, c.div.ensures)
-
-pub returns-in_default : goal.returns-in_default
-unfolding planned plan_of basic_plan ins_of
-returns-in_default c =
-    λ f m.
-    let n = c.in_default.in_default-own.rest in
-    let e = other (other c.requires.3 n.0.1) n.1 in
-    rw (c.result-in_default.ensures, e, c.rem.ensures)
+    elim c.match-kind.branch [
+      | in-141 w ↦
+          let z = w.times in
+          rw (c.result.ensures, w.value-is, w.narrow-value.ensures, w.in-141.is, to_z-of_z w64 _ (record { sfits = z.type_inv }) ∙ z.ensures)
+      | in-143 w ↦ rw (c.result.ensures, w.value-is, w.div-value.ensures, w.in-143.is)
+      | in_default w ↦
+          let e : c.args.kind ≡ 145 = omega arith in
+          rw (c.result.ensures, w.value-is, w.rem-value.ensures, e)
+    ]
