@@ -11,9 +11,8 @@ use Rattle.model.specs.Heap.{mark_of, ptrs_at, size_at, Object, fault, clean, an
 use Rattle.model.specs.Heap.{walk}
 use Rattle.audit_heap.specs.declared.BadWord.{BadWord}
 use Rattle.audit_heap.specs.Checked.{Checked, faultless}
-use Rattle.audit_words.specs.Table.{Marks}
 use Rattle.audit_heap.specs.First.{walked, or_audit}
-use Rattle.audit_heap.specs.Found.{Range, fault_at, objects_found, LinksCounted, Walked}
+use Rattle.audit_heap.specs.Found.{Range, fault_at, objects_found, Walked}
 use Rattle.numbers.specs.Small.{Small}
 use Rattle.audit_heap.specs.Turns.{judged-object, walk_step, marks-more, objects-fault, objects-clean, objects-last, linked-more, Marking}
 

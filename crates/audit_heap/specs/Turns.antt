@@ -6,7 +6,7 @@ use Rattle.std.proofs.Common.{Option, Some, None, Err, ◌∙◌, length-set}
 use Rattle.std.specs.List.{between, AllWithin, HoldsAt}
 use Rattle.std.specs.Option.{MatchOption}
 use Rattle.std.proofs.lemmas.List.Edits.{length-between, get_or-between}
-use Rattle.std.specs.Prelude.{Bool, ◌||◌, ◌≢◌, eqb, ltb, length, set}
+use Rattle.std.specs.Prelude.{Bool, ◌||◌, eqb, ltb, length, set}
 use Rattle.std.proofs.Math.Bool.{true, false, not}
 use mathlib.Core.List.{List, [], ◌∷◌, ◌++◌}
 use Rattle.std.proofs.Math.Decide.{ℕ_discrete}
@@ -20,7 +20,7 @@ use Rattle.model.specs.Heap.{mark_of, first_object, ptrs_at, size_at, kind_of, O
 use Rattle.model.specs.Heap.{bad_size, walk, is_pointer, range, pointer_words}
 use Rattle.audit_heap.specs.declared.BadWord.{BadWord}
 use Rattle.audit_heap.specs.Checked.{Checked, faultless, faulty}
-use Rattle.audit_words.specs.Every.{zero_at, Passing}
+use Rattle.audit_words.specs.Every.{Passing}
 use Rattle.audit_words.specs.Table.{Unmarked, Marks, is_marked, marked_at}
 use Rattle.audit_heap.specs.First.{first_bad, walked, or_else, or_audit, bad-append, none-bad, range-mem}
 use Rattle.audit_heap.specs.Audited.{good-object}
@@ -52,7 +52,7 @@ every-clean P from end a A =
     sym (none-bad P (range from (end - from)) (λ j m. let r = range-mem from (end - from) j m in A j r.0 (omega arith)))
 
 -- the search for the first of the words from `from` up to `end` that fails
-abbrev told : ℕ → Option ℕ → Checked
+abbrev pub told : ℕ → Option ℕ → Checked
 told from None = faultless
 told from (Some k) = faulty (from + k)
 

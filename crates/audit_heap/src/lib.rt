@@ -83,7 +83,10 @@ fn check_pointers(heap: &[u32], marks: &[bool], from: usize, end: usize) -> Resu
     if audit_words::all_pointers(words, marks) {
         return Ok(());
     }
-    match words.iter().position(|word| !audit_words::is_pointer(marks, *word)) {
+    match words
+        .iter()
+        .position(|word| !audit_words::is_pointer(marks, *word))
+    {
         Some(k) => Err(BadWord { at: from + k }),
         None => Ok(()),
     }
