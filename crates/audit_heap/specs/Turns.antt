@@ -6,17 +6,17 @@ use Rattle.std.proofs.Common.{Option, Some, None, Err, ◌∙◌, length-set}
 use Rattle.std.specs.List.{between, AllWithin, HoldsAt}
 use Rattle.std.specs.Option.{MatchOption}
 use Rattle.std.proofs.lemmas.List.Edits.{length-between, get_or-between}
-use Rattle.std.specs.Prelude.{Bool, ◌||◌, eqb, ltb, length, set}
-use Rattle.std.proofs.Math.Bool.{true, false, not}
+use Rattle.std.specs.Prelude.{Bool, ◌||◌, eqb, length, set}
+use Rattle.std.proofs.Math.Bool.{true, false}
 use mathlib.Core.List.{List, [], ◌∷◌, ◌++◌}
 use Rattle.std.proofs.Math.Decide.{ℕ_discrete}
 use native.Mathlib.Omega.{arith}
 use Rattle.std.proofs.Math.ListN.{get_or}
 use Rattle.std.proofs.Math.Seq.{get_or-set_same, get_or-set_other}
-use borrow.Author.Tests.{eq-eqb, ne_eqb, le-leb, lt-leb, le-ltb, lt-ltb, not-true, not-false}
+use borrow.Author.Tests.{eq-eqb, ne_eqb, lt-leb}
 use Rattle.model.specs.Choice.{when◌then◌else◌, member}
 use Rattle.model.specs.Words.{word_at}
-use Rattle.model.specs.Heap.{mark_of, first_object, ptrs_at, size_at, kind_of, Object, Objects, Audit, fault, clean, and_object, bad_header}
+use Rattle.model.specs.Heap.{mark_of, first_object, ptrs_at, size_at, Object, Objects, Audit, fault, clean, and_object, bad_header}
 use Rattle.model.specs.Heap.{bad_size, walk, is_pointer, range, pointer_words}
 use Rattle.audit_heap.specs.declared.BadWord.{BadWord}
 use Rattle.audit_heap.specs.Checked.{Checked, faultless, faulty}
@@ -77,58 +77,6 @@ search-told Q h from end (Some k) a b E =
 -- One object
 
 module _ (h : List ℕ) (q mark : ℕ) where
-  -- r tells whether the header is right for its kind
-  module _ (r : Bool) (e : r ≡ (kind_of h q).ptrs (ptrs_at h q)) where
-    pub judged-kind : not r ≡ true → faulty q ≡ fault_at h q mark
-    unfolding fault_at bad_header
-    judged-kind f = rw (← e, not-true r f)
-
-    module _ (f : not r ≡ false) (a : q + 1 < mark) where
-      judged-size : fault_at h q mark ≡ (when bad_size h q mark then faulty (q + 1) else faultless)
-      unfolding fault_at bad_header
-      judged-size = rw (← e, not-false r f, lt-leb mark (q + 1) a)
-
-      -- the size, and what else the kind asks of it
-      module _ (size b : ℕ) (S : Small b (size_at h q) size) where
-        pub judged-small : (ptrs d : ℕ) → Small d (ptrs_at h q) ptrs → size < 2 + ptrs → faulty (q + 1) ≡ fault_at h q mark
-        unfolding bad_size
-        judged-small ptrs d T w =
-            let w' : size_at h q < 2 + ptrs_at h q = rw (S.is, T.is) at w in
-            sym (judged-size ∙ rw (lt-ltb (size_at h q) (2 + ptrs_at h q) w'))
-
-        pub judged-long : mark < q + size → faulty (q + 1) ≡ fault_at h q mark
-        unfolding bad_size
-        judged-long w =
-            let w' : mark < q + size_at h q = rw S.is at w in
-            sym (judged-size ∙ rw (lt-ltb mark (q + size_at h q) w') (go (ltb (size_at h q) (2 + ptrs_at h q))))
-          where
-            go : (t : Bool) → (when t || true || not ((kind_of h q).size (ptrs_at h q) (size_at h q)) then faulty (q + 1) else faultless) ≡ faulty (q + 1)
-            go true = refl
-            go false = refl
-
-        module _ (ptrs d : ℕ) (T : Small d (ptrs_at h q) ptrs) (w : 2 + ptrs ≤ size) (v : q + size ≤ mark)
-            (u : Bool) (g : u ≡ (kind_of h q).size (ptrs_at h q) (size_at h q)) where
-          judged-row : fault_at h q mark ≡ (when not u then faulty (q + 1) else faultless)
-          unfolding bad_size
-          judged-row =
-              let w' : 2 + ptrs_at h q ≤ size_at h q = rw (S.is, T.is) at w in
-              let v' : q + size_at h q ≤ mark = rw S.is at v in
-              judged-size ∙ rw (le-ltb (size_at h q) (2 + ptrs_at h q) w', le-ltb mark (q + size_at h q) v', g)
-
-          pub judged-wrong : not u ≡ true → faulty (q + 1) ≡ fault_at h q mark
-          judged-wrong z = sym (judged-row ∙ rw z)
-
-          pub judged-right : not u ≡ false → faultless ≡ fault_at h q mark
-          judged-right z = sym (judged-row ∙ rw z)
-
-  pub judged-cut : mark ≤ q + 1 → faulty q ≡ fault_at h q mark
-  unfolding fault_at bad_header
-  judged-cut a = rw (le-leb mark (q + 1) a) (go (not ((kind_of h q).ptrs (ptrs_at h q))))
-    where
-      go : (t : Bool) → faulty q ≡ (when t || true then faulty q else when bad_size h q mark then faulty (q + 1) else faultless)
-      go true = refl
-      go false = refl
-
   pub judged-object : fault_at h q mark ≡ faultless → Object h q mark
   unfolding fault_at
   judged-object e = go (bad_header h q mark) refl (bad_size h q mark) refl e

@@ -31,6 +31,7 @@ impl From<BadWord> for RefusedAt {
 }
 
 // The fault of the object at `q`, which is to end at `mark` or before it.
+#[tactic(auto, unfolding(crate::specs::Found::fault_at, model::specs::Heap::bad_header, model::specs::Heap::bad_size))]
 fn judge_object(heap: &[u32], q: usize, mark: usize) -> Result<(), BadWord>
     requires { (q < mark) × (mark ≤ length heap.now) × (length heap.now ≤ heap_most) }
     ensures { result ≡ fault_at heap.now q mark }

@@ -25,7 +25,7 @@ returns-in_err-links c =
 pub returns-then-not-is_pointer : goal.returns-then-not-is_pointer
 returns-then-not-is_pointer c =
     audited-root _ _ _ _ (in-range (goal.at.returns-then-not-is_pointer c).Else-heap-mark) c.mark_objects.ensures c.in_ok-links.was _
-    c.is_pointer.ensures c.if-not-is_pointer.true-raw
+    c.is_pointer.ensures (cc)
 
 pub pointers_right-requires : goal.pointers_right-requires
 pointers_right-requires c =
@@ -38,9 +38,9 @@ returns-in_err-pointers_right c =
     let p = err_from_is_err_and c.from_residual-in_err-pointers_right.result c.from_residual-in_err-pointers_right.ensures.1 in
     rw (p.1, p.2)
     (audited-pointer _ _ _ _ (in-range (goal.at.returns-in_err-pointers_right c).Else-heap-mark) c.mark_objects.ensures c.in_ok-links.was _ _ _
-    c.is_pointer.ensures c.if-not-is_pointer.false-raw c.pointers_right.ensures c.in_err-pointers_right.was)
+    c.is_pointer.ensures (cc) c.pointers_right.ensures c.in_err-pointers_right.was)
 
 pub returns : goal.returns
 returns c =
     audited-free _ _ _ _ (in-range (goal.at.returns c).Else-heap-mark) c.mark_objects.ensures c.in_ok-links.was _ _ _
-    c.is_pointer.ensures c.if-not-is_pointer.false-raw c.pointers_right.ensures c.in_ok-pointers_right.was c.free_zero.ensures
+    c.is_pointer.ensures (cc) c.pointers_right.ensures c.in_ok-pointers_right.was c.free_zero.ensures
