@@ -2,7 +2,7 @@
 -- fault (`fault-exact`), so that there is one (`fault-unsound`). The walk finds the only objects that there can be, each later test is a
 -- field of `Heap`, and the indices that are tested rise.
 use Rattle.std.specs.Prelude.{ℕ, zero, suc, ◌+◌, ◌-◌, ◌<◌, ◌≤◌, ◌≡◌, refl, Bool, true, false, not, ◌&&◌, ◌||◌, List, [], ◌∷◌, ◌++◌, ◌⊎◌, leb, ltb}
-use Rattle.std.proofs.Common.{sym, ◌∙◌, ap, true≢false, inl, inr}
+use Rattle.std.proofs.Common.{Ok, Err, sym, ◌∙◌, ap, true≢false, inl, inr}
 use Rattle.std.proofs.Math.Decide.{dec_lt}
 use native.Mathlib.Omega.{arith}
 use Rattle.std.proofs.Math.ListN.{length, get_or-eq_default}
@@ -17,8 +17,7 @@ use Rattle.model.specs.Faults.{FirstFault, mark_word, on_walk, after_walk}
 use Rattle.model.specs.Claim.{FaultExactly, FaultUnsound}
 use Rattle.heap.specs.Objects.{object-of, objects-snoc, same-objects}
 use Rattle.heap.specs.Pointers.{pointer-true, true-pointer}
-use Rattle.audit_heap.specs.declared.HeapAudit.{HeapAudit}
-use Rattle.audit_heap.specs.declared.HeapAudit.TheVariants.{Clean, Fault}
+use Rattle.audit_heap.specs.Checked.{Checked, faultless, faulty}
 use Rattle.audit_words.specs.Every.{zero_at}
 use Rattle.audit_heap.specs.First.{first_bad, walked, free_words, or_audit, pointer_at, pointers-first, zeros-first, all-good}
 use Rattle.audit_heap.specs.First.{bad-in, good-below, range-mem, range-rising, mem-range}
@@ -211,7 +210,7 @@ module _ (h os : List ℕ) (R : MarkInRange h) (W : Objects h first_object (mark
   free-words i a b = mem-range (mark_of h) (length h - mark_of h) i a (omega arith)
 
   -- every word passes
-  all_pass : first_bad (pointer_at h os) (1 ∷ pointer_words h os) ≡ Clean → first_bad (zero_at h) (free_words h) ≡ Clean → Heap h os
+  all_pass : first_bad (pointer_at h os) (1 ∷ pointer_words h os) ≡ faultless → first_bad (zero_at h) (free_words h) ≡ faultless → Heap h os
   unfolding zero_at
   all_pass e f =
       let good = all-good (pointer_at h os) (1 ∷ pointer_words h os) e in
@@ -231,7 +230,7 @@ module _ (h os : List ℕ) (R : MarkInRange h) (W : Objects h first_object (mark
       free i a (no b) = let c : length h ≤ i = omega arith in get_or-eq_default h 0 c
 
   -- the lowest that does not pass
-  first-pointer : (q : ℕ) → first_bad (pointer_at h os) (1 ∷ pointer_words h os) ≡ Fault q → FirstFault h q
+  first-pointer : (q : ℕ) → first_bad (pointer_at h os) (1 ∷ pointer_words h os) ≡ faulty q → FirstFault h q
   first-pointer q e =
       let b = bad-in (pointer_at h os) (1 ∷ pointer_words h os) q e in
       let at = words-pointer h os q b.0 in
@@ -247,7 +246,7 @@ module _ (h os : List ℕ) (R : MarkInRange h) (W : Objects h first_object (mark
       lowest l i (inl B) = pointer i B (dec_lt i q)
       lowest l i (inr F) = omega (arith, F.0)
 
-  first-free : (q : ℕ) → first_bad (pointer_at h os) (1 ∷ pointer_words h os) ≡ Clean → first_bad (zero_at h) (free_words h) ≡ Fault q → FirstFault h q
+  first-free : (q : ℕ) → first_bad (pointer_at h os) (1 ∷ pointer_words h os) ≡ faultless → first_bad (zero_at h) (free_words h) ≡ faulty q → FirstFault h q
   unfolding zero_at
   first-free q e f =
       let b = bad-in (zero_at h) (free_words h) q f in
@@ -267,11 +266,11 @@ module _ (h os : List ℕ) (R : MarkInRange h) (W : Objects h first_object (mark
           absurd (B.1 (pointer-true os (word_at h i) good))
       lowest i (inr F) = free i F (dec_lt i q)
 
-  words-say : (a : HeapAudit) → first_bad (pointer_at h os) (1 ∷ pointer_words h os) ≡ a → (b : HeapAudit) → first_bad (zero_at h) (free_words h) ≡ b →
+  words-say : (a : Checked) → first_bad (pointer_at h os) (1 ∷ pointer_words h os) ≡ a → (b : Checked) → first_bad (zero_at h) (free_words h) ≡ b →
       Says h (or_audit a (or_audit b (clean os)))
-  words-say Clean e Clean f = all_pass e f
-  words-say Clean e (Fault q) f = first-free q e f
-  words-say (Fault q) e b f = first-pointer q e
+  words-say (Ok u) e (Ok v) f = all_pass e f
+  words-say (Ok u) e (Err w) f = first-free w.at e f
+  words-say (Err w) e b f = first-pointer w.at e
 
 pub heap-says : (h : List ℕ) → Says h (heap_of h)
 heap-says h = go (dec_lt (mark_of h) first_object) (dec_lt (length h) (mark_of h))

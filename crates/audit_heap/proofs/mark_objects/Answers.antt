@@ -4,68 +4,40 @@ use mathlib.Core.Path.{refl, ◌∙◌}
 use mathlib.Core.Bool.{true}
 use native.Mathlib.Omega.{arith}
 use lib.ListN.{length-set}
-use Rattle.model.specs.Heap.{Object}
+use Rattle.std.proofs.lemmas.Result.{err_from_is_err_and}
+use Rattle.model.specs.Heap.{mark_of, Object}
 use Rattle.audit_heap.specs.Turns.{marking-none}
 use Rattle.audit_heap.proofs.Marking.{marking-fault, marking-object, marking-more, marking-end}
 use Rattle.audit_heap.proofs.mark_objects.Goals as goal
-use Rattle.audit_heap.proofs.mark_objects.Goals.{In_default}
-
-pub bounds-marks-0 : goal.bounds-marks-0
-bounds-marks-0 c = omega arith
-
-pub bounds-heap-0 : goal.bounds-heap-0
-bounds-heap-0 c = omega arith
+use Rattle.audit_heap.proofs.mark_objects.Goals.{In_ok-judge_object}
 
 pub loop-q-init : goal.loop-q-init
-loop-q-init c =
-    (refl, marking-none _ _ c.requires.0 c.requires.1 c.requires.2)
+loop-q-init c = (refl, marking-none _ _ c.requires.0 c.requires.1 c.requires.2)
 
-pub judge_object-a-requires : goal.judge_object-a-requires
-judge_object-a-requires c = omega arith
+pub returns-in_err-judge_object : goal.returns-in_err-judge_object
+returns-in_err-judge_object c =
+    let p = err_from_is_err_and c.from_residual.result c.from_residual.ensures.1 in
+    rw (p.1, p.2)
+    (marking-fault _ _ _ _ c.loop-q.invariant.1 _ _ _ c.loop-q-test.true c.judge_object.ensures c.in_err-judge_object.was)
 
-pub shape_of-marks-in-Fault : goal.shape_of-marks-in-Fault
-shape_of-marks-in-Fault c =
-    c.loop-q.invariant.0 ∙ length-set c.args.marks.now 0 true
-
-pub returns-in-Fault : goal.returns-in-Fault
-returns-in-Fault c =
-    marking-fault _ _ _ _ _ _ c.loop-q.invariant.1 c.word-mark.ensures _ _ _ c.loop-q-test.true
-    c.judge_object-a.ensures c.in-Fault.is
-
-pub bounds-marks-q : goal.bounds-marks-q
-bounds-marks-q c = omega arith
-
-object : (c : In_default) →
-    Object c.args.heap.now c.loop-q.q c.word-mark.result
-object c =
-    marking-object _ _ _ _ _ _ c.loop-q.invariant.1 c.word-mark.ensures _ c.judge_object-a.ensures c.in_default.is
-
-pub ptrs_at-links-requires : goal.ptrs_at-links-requires
-ptrs_at-links-requires c = omega (arith, object c)
-
-pub overflow_add-links : goal.overflow_add-links
-overflow_add-links c = omega (arith, c.ptrs_at-links.ensures.small, c.loop-q.invariant.1.few)
+object : (c : In_ok-judge_object) →
+    let h = c.args.heap.now in
+    Object h c.loop-q.q (mark_of h)
+object c = marking-object _ _ _ _ c.loop-q.invariant.1 _ c.judge_object.ensures c.in_ok-judge_object.was
 
 pub size_at-q-requires : goal.size_at-q-requires
-size_at-q-requires c = omega (arith, object (goal.at.size_at-q-requires c).In_default)
-
-pub overflow_add-q : goal.overflow_add-q
-overflow_add-q c = omega (arith, c.size_at-q.ensures.small)
+size_at-q-requires c = omega (arith, object (goal.at.size_at-q-requires c).In_ok-judge_object)
 
 pub loop-q-smaller : goal.loop-q-smaller
-loop-q-smaller c = omega (arith, object (goal.at.loop-q-smaller c).In_default, c.size_at-q.ensures.is)
+loop-q-smaller c = omega (arith, object (goal.at.loop-q-smaller c).In_ok-judge_object, c.size_at-q.ensures.is)
 
 pub loop-q-preserved : goal.loop-q-preserved
 loop-q-preserved c =
     let l = c.loop-q in (
       length-set l.marks l.q true ∙ l.invariant.0,
-      marking-more _ _ _ _ _ _ l.invariant.1 c.word-mark.ensures _ _ _ _ _ c.requires.0
-          c.loop-q-test.true c.judge_object-a.ensures c.in_default.is c.ptrs_at-links.ensures c.size_at-q.ensures,
+      marking-more _ _ _ _ l.invariant.1 _ _ _ _ _ c.requires.0
+          c.loop-q-test.true c.judge_object.ensures c.in_ok-judge_object.was c.ptrs_at-links.ensures c.size_at-q.ensures,
     )
 
-pub shape_of-marks : goal.shape_of-marks
-shape_of-marks c =
-    c.loop-q.invariant.0 ∙ length-set c.args.marks.now 0 true
-
 pub returns : goal.returns
-returns c = marking-end _ _ _ _ _ _ c.loop-q.invariant.1 c.word-mark.ensures c.loop-q-test.false
+returns c = marking-end _ _ _ _ c.loop-q.invariant.1 c.loop-q-test.false
