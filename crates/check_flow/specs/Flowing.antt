@@ -1,6 +1,6 @@
 -- The instructions in file order: those still to come decide what the flow comes to, and at the end the part is the finished map.
 use Prim.Native.Nat.{ℕ, zero, suc, ◌+◌, ◌-◌, ◌*◌, ◌<◌, ◌≤◌}
-use Rattle.std.specs.Prelude.{Bool, ◌⊎◌, ◌≡◌}
+use Rattle.std.specs.Prelude.{Bool, ◌⊎◌, Result, Ok, Err, ◌≡◌}
 use Rattle.std.proofs.Math.Bool.{true, false, true≢false, not}
 use mathlib.Core.List.{List, [], ◌∷◌}
 use Rattle.std.proofs.Math.Logic.{inl, inr}
@@ -28,8 +28,10 @@ use Rattle.check_ways.specs.Faults.{take_ans, HandlerIn}
 use Rattle.check_ways.specs.Ways.{Here}
 use Rattle.check_flow.specs.Own.{own-alike}
 use Rattle.check_flow.specs.Alike.{Good, SameWay, take-alike, in-set, in-unset, outer-alike}
-use Rattle.check_flow.specs.declared.Verdict.{Verdict}
-use Rattle.check_flow.specs.declared.Verdict.TheVariants.{Pass, Refuse}
+use Rattle.check_ways.specs.Numbered.{number-some}
+use Rattle.model.specs.Refusals.{number_of}
+use Rattle.model.specs.declared.Refusal.{Refusal}
+use Rattle.model.specs.declared.RefusedAt.{RefusedAt}
 
 -- the records and heads of a file are right, and its part shows the first instructions
 pub record Begun (f m table : List ℕ) (k : ℕ) : Type 0 where
@@ -43,13 +45,13 @@ pub record Begun (f m table : List ℕ) (k : ℕ) : Type 0 where
   pub good : Good f (firsts f k) m
 
 -- what the flow comes to
-abbrev pub Flowed : List ℕ → List ℕ → ℕ → Verdict → Type 0
-Flowed f m n (Pass j) = (j ≡ n) × ((k : Known) × (flow f ≡ passed k) × (m ≡ map_from k (length f) 0))
-Flowed f m n (Refuse r p) = flow f ≡ refused r p
+abbrev pub Flowed : List ℕ → List ℕ → ℕ → Result ℕ RefusedAt → Type 0
+Flowed f m n (Ok j) = (j ≡ n) × ((k : Known) × (flow f ≡ passed k) × (m ≡ map_from k (length f) 0))
+Flowed f m n (Err r) = flow f ≡ refused (number_of r.refusal) r.place
 
 -- a refusal is no pass
-pub refuse-pass : {A : Type 0} (n p k : ℕ) → Refuse n p ≡ Pass k → A
-refuse-pass n p k z = let v : ◌≡◌ {A = ℕ} 0 1 = cc in absurd (omega arith)
+pub refuse-pass : {A T E : Type 0} (r : E) (k : T) → ◌≡◌ {A = Result T E} (Err r) (Ok k) → A
+refuse-pass r k z = let v : ◌≡◌ {A = ℕ} 0 1 = cc in absurd (omega arith)
 
 abbrev pub ins : List ℕ → List ℕ → List ℕ
 ins f ps = select (λ p. not (is_head f p)) ps
@@ -370,18 +372,18 @@ module _ {f m₀ table : List ℕ} {k : ℕ} (B : Begun f m₀ table k) where
       unfolding take_all
       come = F.so_far ∙ ap (λ (l : List ℕ). take_all f l F.known) ins-are
 
-      pub flowing-fault : {r : ℕ} (m' : List ℕ) → take_ans r m' ≡ take_in f p m → (r ≡ 0 → ⊥) → Flowed f m' k (Refuse r p)
-      flowing-fault {r} m' w n = go (taken (take_one f p F.known) (take_in f p m) r m' w alike)
+      pub flowing-fault : (r : Refusal) (m' : List ℕ) → take_ans (number_of r) m' ≡ take_in f p m → Flowed f m' k (Err (record { refusal = r; place = p }))
+      flowing-fault r m' w = go (taken (take_one f p F.known) (take_in f p m) (number_of r) m' w alike)
         where
-          go : Took (take_one f p F.known) r m' → flow f ≡ refused r p
-          go (inl z) = absurd (n z.0)
+          go : Took (take_one f p F.known) (number_of r) m' → flow f ≡ refused (number_of r) p
+          go (inl z) = absurd (number-some r z.0)
           go (inr z) = come ∙ rw z.0
 
-      pub flowing-take : {r : ℕ} {m' : List ℕ} → take_ans r m' ≡ take_in f p m → r ≡ 0 → Flowing f m' table k (after f p) c h e
-      flowing-take {r} {m'} w z = go (taken (take_one f p F.known) (take_in f p m) r m' w alike)
+      pub flowing-take : {m' : List ℕ} → take_ans 0 m' ≡ take_in f p m → Flowing f m' table k (after f p) c h e
+      flowing-take {m'} w = go (taken (take_one f p F.known) (take_in f p m) 0 m' w alike)
         where
-          go : Took (take_one f p F.known) r m' → Flowing f m' table k (after f p) c h e
-          go (inr y) = absurd (y.1 z)
+          go : Took (take_one f p F.known) 0 m' → Flowing f m' table k (after f p) c h e
+          go (inr y) = absurd (y.1 refl)
           go (inl y) =
               let I = in_proc in
               let a = I.above in
@@ -420,7 +422,7 @@ module _ {f m₀ table : List ℕ} {k : ℕ} (B : Begun f m₀ table k) where
           let y2 : suc (suc (suc (3 * q))) + 2 ≡ suc (suc (suc (3 * q + 2))) = omega arith in
           rw (y0, y1, y2, x) at (h (suc q) (omega arith))
 
-  pub flowing-end : {m : List ℕ} {p c h e : ℕ} → Flowing f m table k p c h e → length f ≤ p → Flowed f m k (Pass k)
+  pub flowing-end : {m : List ℕ} {p c h e : ℕ} → Flowing f m table k p c h e → length f ≤ p → Flowed f m k (Ok k)
   unfolding take_all
   flowing-end {m} {p} F l =
       let w : starts F.rest ≡ starts [] = sym F.rest_is ∙ rest_end f p l in

@@ -1,5 +1,5 @@
 -- What the functions answer that read the map and pass a state on, and what they rest on.
-use Rattle.std.specs.Prelude.{ℕ, zero, suc, ◌+◌, ◌*◌, ◌<◌, ◌≤◌, Bool, true, false, List, [], ◌∷◌, ◌⊎◌, ◌≡◌, refl, eqb, length, get_or}
+use Rattle.std.specs.Prelude.{ℕ, zero, suc, ◌+◌, ◌*◌, ◌<◌, ◌≤◌, Bool, true, false, List, [], ◌∷◌, ◌⊎◌, ◌&&◌, ◌≡◌, refl, eqb, length, get_or}
 use Rattle.std.proofs.Common.{ap, sym, ◌∙◌, arith, lt-ltb, le-ltb, eq-eqb, ne_eqb}
 use Rattle.model.specs.Choice.{when◌then◌else◌}
 use Rattle.model.specs.Checker.{none, State, state, innermost, Taking, bad, good, meet, and_take}
@@ -7,6 +7,9 @@ use Rattle.check_rows.specs.declared.State.{State as Numbers}
 use Rattle.check_rows.specs.Tests.{as_state}
 use Rattle.check_scan.specs.Marks.{unreached, state_in, put_in}
 use Rattle.laws.specs.Members.{get_d_any}
+use Rattle.model.specs.declared.Refusal.{Refusal}
+use Rattle.model.specs.Refusals.{number_of}
+use Rattle.check_ways.specs.Numbered.{number-some}
 use Rattle.check_ways.specs.Takes.{pass_one_in, pass_all_in}
 use Rattle.model.specs.File.{file_most}
 
@@ -70,20 +73,18 @@ module _ (m : List ℕ) (q : ℕ) (t s : State) (is : t ≡ state_in m q) where
   pub pass-new : (m' : List ℕ) → unreached ≤ t.main → m' ≡ put_in m q s → good m' ≡ pass_one_in m q s
   pass-new m' l e = rw (← is, le-ltb t.main unreached l, e)
 
-  pub pass-main : t.main < unreached → (t.main ≡ s.main → ⊥) → bad 9 ≡ pass_one_in m q s
-  pass-main l n = rw (← is, lt-ltb t.main unreached l, ne_eqb t.main s.main n)
+  -- `same?` is what the test of the two states comes to
+  pub pass-met : (same? : Bool) → t.main < unreached → same? ≡ eqb t.main s.main && (eqb t.ptr s.ptr && eqb t.inner s.inner) →
+      (when same? then good m else bad 9) ≡ pass_one_in m q s
+  pass-met same? l e = rw (← is, lt-ltb t.main unreached l, regroup (eqb t.main s.main) (eqb t.ptr s.ptr) (eqb t.inner s.inner), ← e) (go same?)
+    where
+      regroup : (a b c : Bool) → (a && b && c) ≡ (a && (b && c))
+      regroup true b c = refl
+      regroup false b c = refl
 
-  module _ (l : t.main < unreached) (same : t.main ≡ s.main) where
-    pub pass-ptr : (t.ptr ≡ s.ptr → ⊥) → bad 9 ≡ pass_one_in m q s
-    pass-ptr n = rw (← is, lt-ltb t.main unreached l, eq-eqb t.main s.main same, ne_eqb t.ptr s.ptr n)
-
-    pub pass-inner : t.ptr ≡ s.ptr → (t.inner ≡ s.inner → ⊥) → bad 9 ≡ pass_one_in m q s
-    pass-inner e n =
-        rw (← is, lt-ltb t.main unreached l, eq-eqb t.main s.main same, eq-eqb t.ptr s.ptr e, ne_eqb t.inner s.inner n)
-
-    pub pass_same : t.ptr ≡ s.ptr → t.inner ≡ s.inner → good m ≡ pass_one_in m q s
-    pass_same e i =
-        rw (← is, lt-ltb t.main unreached l, eq-eqb t.main s.main same, eq-eqb t.ptr s.ptr e, eq-eqb t.inner s.inner i)
+      go : (b : Bool) → (when b then good m else bad 9) ≡ meet true b m (put_in m q s)
+      go true = refl
+      go false = refl
 
 pub and-end : (s : Taking (List ℕ)) → and_take s (λ m. good m) ≡ s
 and-end (bad n) = refl
@@ -95,9 +96,12 @@ second-as m q t s e = ap (λ (w : State). pass_all_in ((q, s) ∷ (t, w) ∷ [])
 
 -- two states passed on, one after the other
 module _ (m : List ℕ) (q t : ℕ) (s u : State) where
-  pub both_first : (n : ℕ) (m' : List ℕ) → (n ≡ 0 → ⊥) → take_ans n m' ≡ pass_one_in m q s → take_ans n m' ≡ pass_all_in ((q, s) ∷ (t, u) ∷ []) m
+  both_first : (n : ℕ) (m' : List ℕ) → (n ≡ 0 → ⊥) → take_ans n m' ≡ pass_one_in m q s → take_ans n m' ≡ pass_all_in ((q, s) ∷ (t, u) ∷ []) m
   both_first zero m' z e = absurd (z refl)
   both_first (suc n) m' z e = rw (← e)
+
+  pub both-refused : (r : Refusal) (m' : List ℕ) → take_ans (number_of r) m' ≡ pass_one_in m q s → take_ans (number_of r) m' ≡ pass_all_in ((q, s) ∷ (t, u) ∷ []) m
+  both-refused r m' = both_first (number_of r) m' (number-some r)
 
   pub both-second : (n : ℕ) (m' m'' : List ℕ) → take_ans 0 m' ≡ pass_one_in m q s → take_ans n m'' ≡ pass_one_in m' t u →
       take_ans n m'' ≡ pass_all_in ((q, s) ∷ (t, u) ∷ []) m

@@ -1,3 +1,4 @@
 pub mod Takes
+pub mod Numbered
 pub mod Faults
 pub mod Ways

@@ -1,6 +1,6 @@
 -- Taking an instruction by its shape: the model's tests on it in their order (`by_shape`), and for each way that an instruction can lead what
 -- is left of them. Depths that stay as they are need no test (`still`).
-use Rattle.std.specs.Prelude.{ℕ, suc, ◌+◌, ◌-◌, ◌*◌, ◌<◌, ◌≤◌, Bool, not, ◌&&◌, List, [], ◌∷◌, ◌++◌, ◌≡◌, ltb, leb, eqb, length}
+use Rattle.std.specs.Prelude.{ℕ, suc, ◌+◌, ◌-◌, ◌*◌, ◌<◌, ◌≤◌, Bool, not, ◌&&◌, List, [], ◌∷◌, ◌++◌, Option, Some, None, Result, Ok, Err, IfOk, ◌≡◌, ltb, leb, eqb, length}
 use Rattle.std.proofs.Math.Bool.{true, false}
 use Rattle.std.proofs.Common.{true≢false, ◌∙◌, arith, ltb-true}
 use Rattle.std.proofs.Math.Path.{refl, ap, sym}
@@ -13,18 +13,20 @@ use Rattle.laws_file.specs.Kinds.{NoneOf}
 use Rattle.code_file.specs.declared.Head.{Head}
 use Rattle.code_file.specs.Heads.{head_bytes, HeadIs}
 use Rattle.check_rows.specs.declared.State.{State as Numbers}
-use Rattle.check_rows.specs.declared.Limits.{Limits}
+use Rattle.check_rows.specs.declared.Procedure.{Procedure}
+use Rattle.check_rows.specs.declared.Depths.{Depths}
 use Rattle.check_rows.specs.declared.Onward.{Onward}
+use Rattle.model.specs.declared.Refusal.{Refusal}
+use Rattle.model.specs.Refusals.{number_of, fault_of}
 use Rattle.check_rows.specs.Shape.{Way, Next, Jump, Branch, Keep, Open, Close, Return, Shape, shape, shape_of}
 use Rattle.check_rows.specs.Site as site
 use Rattle.check_rows.specs.Site.{Site}
 use Rattle.check_rows.specs.Tests.{as_state, goes_by, jumps_by, target_ok, stacks_ok, depth_ok, leave_ok, effect_in, next_state, target_state, PopsFit}
 use Rattle.check_rows.specs.Tests.{stacks-fit, target-tests, next-tests, depth-tests, leave-tests, passes-are}
-use Rattle.check_rows.specs.Rows.{row, row_shape, is_set_in, onward_by, plainly, Bounded, still}
+use Rattle.check_rows.specs.Rows.{row, row_shape, is_set_in, onward_by, onward_to, plainly, Bounded, still}
 use Rattle.check_rows.specs.Kinds.{NoJump, elsewhere, straight?, straight, body-jumps}
 use Rattle.laws_file.specs.Walk.{after-above}
 use Rattle.check_scan.specs.Marks.{unreached, state_in}
-use Rattle.check_ways.specs.declared.Taken.{Taken}
 use Rattle.check_ways.specs.Takes.{own_in, pass_one_in, pass_all_in, take_in, take_in_with}
 use Rattle.check_ways.specs.Faults.{take_ans, StateIs, OuterIs, HandlerIn, held-as, and-end}
 
@@ -45,7 +47,7 @@ pub record Here (f m : List ℕ) (h e p : ℕ) : Type 0 where
   pub bytes : (i : ℕ) → byte_at f i < 256
 
 -- the limits are those of the procedure with head h
-abbrev pub Bounds : List ℕ → ℕ → Limits → Type 0
+abbrev pub Bounds : List ℕ → ℕ → Procedure → Type 0
 Bounds f h l = (l.x ≡ byte_at f (h + 5)) × (l.y ≡ byte_at f (h + 6))
 
 -- an instruction that pops n main words and leads to t
@@ -56,25 +58,22 @@ abbrev pub branch_way : Bool → Way
 branch_way k = when k then Keep else Branch
 
 -- the instruction at p has n bytes and this shape
-pub record Led (f m : List ℕ) (h p n : ℕ) (l : Limits) (sh : Shape) : Type 0 where
-  pub here : Here f m h l.end p
-  pub bounds : Bounds f h l
+pub record Led (f m : List ℕ) (p n : ℕ) (l : Procedure) (sh : Shape) : Type 0 where
+  pub here : Here f m l.head l.end p
+  pub bounds : Bounds f l.head l
   pub shape_is : shape_of f p (ins_at f p) ≡ sh
   pub size : after f p ≡ p + n
 
 -- the kind of the instruction at p
-pub record Among (f m : List ℕ) (h p : ℕ) (l : Limits) (kind : ℕ) : Type 0 where
-  pub here : Here f m h l.end p
-  pub bounds : Bounds f h l
+pub record Among (f m : List ℕ) (p : ℕ) (l : Procedure) (kind : ℕ) : Type 0 where
+  pub here : Here f m l.head l.end p
+  pub bounds : Bounds f l.head l
   pub kind_is : byte_at f p ≡ kind
 
-abbrev pub taken_by : ℕ → ℕ → Taken
-taken_by n q = record { fault = n; next = q }
-
--- what taking an instruction leaves
-pub record Took (f : List ℕ) (p : ℕ) (m m' : List ℕ) (r : Taken) : Type 0 where
-  pub is : take_ans r.fault m' ≡ take_in f p m
-  pub on : r.fault ≡ 0 → r.next ≡ after f p
+-- what taking an instruction leaves: a refusal, or the place behind it
+pub record Took (f : List ℕ) (p : ℕ) (m m' : List ℕ) (r : Result ℕ Refusal) : Type 0 where
+  pub is : take_ans (fault_of r) m' ≡ take_in f p m
+  pub on : IfOk r (λ q. q ≡ after f p)
 
 -- tests with the numbers of their refusals, and what comes where all hold
 unfoldable pub judged : List (Bool × ℕ) → Taking (List ℕ) → Taking (List ℕ)
@@ -97,12 +96,19 @@ pub all-passed : {x k : Taking (List ℕ)} → Judged x [] k → x ≡ k
 unfolding judged
 all-passed w = w.is
 
+-- the depths that pass to the next instruction, if any do
+abbrev pub Passing : List ℕ → List ℕ → ℕ → Procedure → ℕ → Option Depths → Type 0
+Passing f m p l q None = good m ≡ take_in f p m
+Passing f m p l q (Some d) =
+    (take_in f p m ≡ pass_one_in m (after f p) (state d.main d.ptr (state_in m p).inner)) × (q < l.end) × (d.main ≤ l.x) × (d.ptr ≤ l.y)
+
+abbrev pub ComesTo : List ℕ → List ℕ → ℕ → Procedure → Result Onward Refusal → Type 0
+ComesTo f m p l (Err r) = take_ans (number_of r) m ≡ take_in f p m
+ComesTo f m p l (Ok r) = (r.next ≡ after f p) × Passing f m p l r.next r.depths
+
 -- what comes of an instruction that leads to the next one alone, or nowhere
-pub record Onwards (f m : List ℕ) (p : ℕ) (l : Limits) (r : Onward) : Type 0 where
-  pub stop : r.goes ≡ false → (take_ans r.fault m ≡ take_in f p m) × (r.fault ≡ 0 → r.next ≡ after f p)
-  pub pass : r.goes ≡ true →
-      (r.next ≡ after f p) × (take_in f p m ≡ pass_one_in m (after f p) (state r.main r.ptr (state_in m p).inner))
-      × (r.next < l.end) × (r.main ≤ l.x) × (r.ptr ≤ l.y)
+pub record Onwards (f m : List ℕ) (p : ℕ) (l : Procedure) (r : Result Onward Refusal) : Type 0 where
+  pub comes : ComesTo f m p l r
 
 branch-needs : (a u n d : Bool) (k : Taking (List ℕ)) →
     need (when a then true else false) 5 (need (u && n) 6 (need (when d then true else false) 7 k)) ≡ need a 5 (need u 6 (need n 6 (need d 7 k)))
@@ -112,7 +118,7 @@ branch-needs true true false d k = refl
 branch-needs true false n d k = refl
 branch-needs false u n d k = refl
 
-module _ (f m : List ℕ) (h p : ℕ) (l : Limits) (H : Here f m h l.end p) (B : Bounds f h l) where
+module _ (f m : List ℕ) (h p : ℕ) (l : Procedure) (H : Here f m h l.end p) (B : Bounds f h l) where
   -- the state at the instruction, and the one at the innermost open 160
   abbrev s : State
   s = state_in m p
@@ -308,27 +314,27 @@ module _ (f m : List ℕ) (h p : ℕ) (l : Limits) (H : Here f m h l.end p) (B :
   takes-plain e = go (ins_at f p) refl e
     where
       -- by the four tests
-      out : (known set on d g : Bool) (r : Onward) (k : Taking (List ℕ)) →
-          take_in f p m ≡ need known 5 (need (set && on) 6 (need (when d then true else false) 7 k)) → r.fault ≡ 0 → r.next ≡ after f p → r.goes ≡ g →
+      out : (known set on d g : Bool) (r : Onward) (v : Depths) (k : Taking (List ℕ)) →
+          take_in f p m ≡ need known 5 (need (set && on) 6 (need (when d then true else false) 7 k)) → r.next ≡ after f p →
+          r.depths ≡ (when g then Some v else None) →
           (d ≡ true → on ≡ true → g ≡ true →
-          (k ≡ pass_one_in m (after f p) (state r.main r.ptr s.inner)) × (after f p < l.end) × (r.main ≤ l.x) × (r.ptr ≤ l.y)) →
+          (k ≡ pass_one_in m (after f p) (state v.main v.ptr s.inner)) × (after f p < l.end) × (v.main ≤ l.x) × (v.ptr ≤ l.y)) →
           (g ≡ false → k ≡ good m) → Onwards f m p l (onward_by known set on d r)
-      out false set on d g r k w z q gg h n = record { stop = λ i. (sym w, λ y. absurd (omega arith)); pass = λ i. absurd (true≢false (sym i)) }
-      out true false on d g r k w z q gg h n = record { stop = λ i. (sym w, λ y. absurd (omega arith)); pass = λ i. absurd (true≢false (sym i)) }
-      out true true false d g r k w z q gg h n = record { stop = λ i. (sym w, λ y. absurd (omega arith)); pass = λ i. absurd (true≢false (sym i)) }
-      out true true true false g r k w z q gg h n = record { stop = λ i. (sym w, λ y. absurd (omega arith)); pass = λ i. absurd (true≢false (sym i)) }
-      out true true true true g r k w z q gg h n =
-          record {
-            stop = λ i. (rw z (sym (w ∙ n (sym gg ∙ i))), λ y. q);
-            pass = λ i. let v = h refl refl (sym gg ∙ i) in (q, w ∙ v.0, rw q v.1, v.2, v.3);
-          }
+      out false set on d g r v k w q e h n = record { comes = sym w }
+      out true false on d g r v k w q e h n = record { comes = sym w }
+      out true true false d g r v k w q e h n = record { comes = sym w }
+      out true true true false g r v k w q e h n = record { comes = sym w }
+      out true true true true true r v k w q e h n = let u = h refl refl refl in record { comes = (q, rw e (w ∙ u.0, rw q u.1, u.2, u.3)) }
+      out true true true true false r v k w q e h n = record { comes = (q, rw e (sym (w ∙ n refl))) }
 
       fits : (sh : Shape) → stacks_ok sh s o l.x l.y ≡ true → PopsFit sh s l.x l.y
       fits sh d = stacks-fit sh s o l.x l.y d
 
       result : Shape → Onward
-      result sh =
-          record { fault = 0; goes = goes_by sh.way; next = after f p; main = (moved (effect_in sh) s).main; ptr = (moved (effect_in sh) s).ptr }
+      result sh = onward_to s (after f p) sh
+
+      passed : Shape → Depths
+      passed sh = record { main = (moved (effect_in sh) s).main; ptr = (moved (effect_in sh) s).ptr }
 
       ends : Shape → Taking (List ℕ)
       ends sh = pass_all_in ((after f p, next_state sh p s o) ∷ []) m
@@ -339,17 +345,17 @@ module _ (f m : List ℕ) (h p : ℕ) (l : Limits) (H : Here f m h l.end p) (B :
       go : (i : Ins) → ins_at f p ≡ i → straight? i ≡ true → Onwards f m p l (plainly s o l (after f p) (shape_of f p i))
       go (basic b) z y =
           let sh = shape_of f p (basic b) in
-          out true (is_set_in s) (ltb (after f p) l.end) (deep sh) true (result sh) (ends sh) (by_shape sh (ap (shape_of f p) z)) refl refl refl
+          out true (is_set_in s) (ltb (after f p) l.end) (deep sh) true (result sh) (passed sh) (ends sh) (by_shape sh (ap (shape_of f p) z)) refl refl
           (λ d on g. let w = fits sh d in (and-end _, ltb-true (after f p) l.end on, w.main_within, w.ptr_within))
           (λ g. absurd (true≢false g))
       go (call n) z y =
           let sh = shape_of f p (call n) in
-          out sh.known (is_set_in s) (ltb (after f p) l.end) (deep sh) true (result sh) (ends sh) (by_shape sh (ap (shape_of f p) z)) refl refl refl
+          out sh.known (is_set_in s) (ltb (after f p) l.end) (deep sh) true (result sh) (passed sh) (ends sh) (by_shape sh (ap (shape_of f p) z)) refl refl
           (λ d on g. let w = fits sh d in (and-end _, ltb-true (after f p) l.end on, w.main_within, w.ptr_within))
           (λ g. absurd (true≢false g))
       go raise z y =
           let sh = shape_of f p raise in
-          out true (is_set_in s) true (deep sh) false (result sh) (good m) (by_shape sh (ap (shape_of f p) z)) refl refl refl
+          out true (is_set_in s) true (deep sh) false (result sh) (passed sh) (good m) (by_shape sh (ap (shape_of f p) z)) refl refl
           (λ d on g. absurd (true≢false (sym g)))
           (λ g. refl)
       go (jump q) z y = absurd (true≢false (sym y))
@@ -391,17 +397,17 @@ module _ {f m : List ℕ} {h e p : ℕ} (H : Here f m h e p) where
       (omega arith, omega arith)
 
 -- what the functions have in hand: the state s as read, o at the innermost open 160, and the place p + n behind the instruction
-module _ {f m : List ℕ} {h p : ℕ} {l : Limits} (H : Here f m h l.end p) (B : Bounds f h l) {s : Numbers} (S : StateIs m p s) where
-  pub held-here : HandlerIn m s.inner
-  held-here = held-as m p s S H.held
+module _ {f m : List ℕ} {h p : ℕ} {s : Numbers} (S : StateIs m p s) where
+  pub held-here : {e : ℕ} → Here f m h e p → HandlerIn m s.inner
+  held-here H = held-as m p s S H.held
 
-  pub bounded-here : {o : Numbers} → OuterIs m (as_state s) o → Bounded (as_state s) (as_state o) l
-  bounded-here O = rw (O.is ∙ ap (λ (u : State). innermost (state_in m) u) S.is, S.is) (bounded f m h p l H B)
+  pub bounded-here : {l : Procedure} → Here f m h l.end p → Bounds f h l → {o : Numbers} → OuterIs m (as_state s) o → Bounded (as_state s) (as_state o) l
+  bounded-here {l} H B O = rw (O.is ∙ ap (λ (u : State). innermost (state_in m) u) S.is, S.is) (bounded f m h p l H B)
 
-pub led : {f m : List ℕ} {h p kind : ℕ} {l : Limits} → Among f m h p l kind → (k n : ℕ) (sh : Shape) → kind ≡ k → suc (body_of k) ≡ n →
-    shape_of f p (ins_of f p k) ≡ sh → Led f m h p n l sh
+pub led : {f m : List ℕ} {p kind : ℕ} {l : Procedure} → Among f m p l kind → (k n : ℕ) (sh : Shape) → kind ≡ k → suc (body_of k) ≡ n →
+    shape_of f p (ins_of f p k) ≡ sh → Led f m p n l sh
 unfolding ins_at after
-led {f} {m} {h} {p} A k n sh e b i =
+led {f} {m} {p} A k n sh e b i =
     record {
       here = A.here;
       bounds = A.bounds;
@@ -410,17 +416,17 @@ led {f} {m} {h} {p} A k n sh e b i =
     }
 
 -- 1 to 6 have a body of two bytes
-pub target_room : {f m : List ℕ} {h p kind : ℕ} {l : Limits} → Among f m h p l kind × (1 ≤ kind) × (kind ≤ 6) → p + 2 < length f
+pub target_room : {f m : List ℕ} {p kind : ℕ} {l : Procedure} → Among f m p l kind × (1 ≤ kind) × (kind ≤ 6) → p + 2 < length f
 target_room W = site.body-room W.0.here.site 2 (ap body_of W.0.kind_is ∙ body-jumps _ W.1 W.2)
 
-module _ {f m : List ℕ} {h p : ℕ} {l : Limits} {s : Numbers} where
-  pub on-jump : {t : ℕ} → Led f m h p 3 l (leads_to Jump 0 t) → StateIs m p s →
-      Judged (take_in f p m) ((own_in m h l.end t, 5) ∷ (is_set_in (as_state s), 6) ∷ []) (pass_one_in m t (as_state s))
-  on-jump L S = rw (← S.is) at (takes-jump f m h p l L.here L.bounds _ L.shape_is)
+module _ {f m : List ℕ} {p : ℕ} {l : Procedure} {s : Numbers} where
+  pub on-jump : {t : ℕ} → Led f m p 3 l (leads_to Jump 0 t) → StateIs m p s →
+      Judged (take_in f p m) ((own_in m l.head l.end t, 5) ∷ (is_set_in (as_state s), 6) ∷ []) (pass_one_in m t (as_state s))
+  on-jump L S = rw (← S.is) at (takes-jump f m l.head p l L.here L.bounds _ L.shape_is)
 
-  pub on_branch : (keep : Bool) (t : ℕ) → Led f m h p 3 l (leads_to (branch_way keep) 1 t) → StateIs m p s →
+  pub on_branch : (keep : Bool) (t : ℕ) → Led f m p 3 l (leads_to (branch_way keep) 1 t) → StateIs m p s →
       Judged (take_in f p m)
-      ((own_in m h l.end t, 5)
+      ((own_in m l.head l.end t, 5)
       ∷ (is_set_in (as_state s), 6)
       ∷ (ltb (p + 3) l.end, 6)
       ∷ (stacks_ok (row_shape Next (row 1 0 0 0 0 0)) (as_state s) (innermost (state_in m) (as_state s)) l.x l.y, 7)
@@ -430,50 +436,57 @@ module _ {f m : List ℕ} {h p : ℕ} {l : Limits} {s : Numbers} where
       ∷ (t, (when keep then as_state s else state (s.main - 1) s.ptr s.inner))
       ∷ [])
       m)
-  on_branch keep t L S = rw (← S.is, L.size) at (takes-branch f m h p l L.here L.bounds keep t L.shape_is)
+  on_branch keep t L S = rw (← S.is, L.size) at (takes-branch f m l.head p l L.here L.bounds keep t L.shape_is)
 
-  pub on-open : {t : ℕ} → Led f m h p 3 l (leads_to Open 0 t) → StateIs m p s →
+  pub on-open : {t : ℕ} → Led f m p 3 l (leads_to Open 0 t) → StateIs m p s →
       Judged (take_in f p m)
-      ((own_in m h l.end t, 5)
+      ((own_in m l.head l.end t, 5)
       ∷ (leb (suc p) t, 5)
       ∷ (is_set_in (as_state s), 6)
       ∷ (ltb (p + 3) l.end, 6)
       ∷ (leb (suc s.main) l.x, 7)
       ∷ [])
       (pass_all_in ((p + 3, state s.main s.ptr p) ∷ (t, state (s.main + 1) s.ptr s.inner) ∷ []) m)
-  on-open L S = rw (← S.is, L.size) at (takes-open f m h p l L.here L.bounds _ L.shape_is)
+  on-open L S = rw (← S.is, L.size) at (takes-open f m l.head p l L.here L.bounds _ L.shape_is)
 
-  pub on-close : Led f m h p 1 l (leads_to Close 0 0) → StateIs m p s →
+  pub on-close : Led f m p 1 l (leads_to Close 0 0) → StateIs m p s →
       Judged (take_in f p m) ((is_set_in (as_state s), 6) ∷ (ltb (p + 1) l.end, 6) ∷ (not (eqb s.inner none), 8) ∷ [])
       (pass_one_in m (p + 1) (state s.main s.ptr (innermost (state_in m) (as_state s)).inner))
-  on-close L S = rw (← S.is, L.size) at (takes-close f m h p l L.here L.bounds L.shape_is)
+  on-close L S = rw (← S.is, L.size) at (takes-close f m l.head p l L.here L.bounds L.shape_is)
 
-  pub on_return : {v : Head} → Led f m h p 1 l (leads_to Return 0 0) → StateIs m p s → HeadIs f h v →
+  pub on_return : {v : Head} → Led f m p 1 l (leads_to Return 0 0) → StateIs m p s → HeadIs f l.head v →
       Judged (take_in f p m) ((is_set_in (as_state s), 6) ∷ (eqb s.main v.r, 8) ∷ (eqb s.ptr v.s, 8) ∷ (eqb s.inner none, 8) ∷ []) (good m)
   unfolding head_bytes
-  on_return L S H = rw H.is (rw (← S.is) at (takes-return f m h p l L.here L.bounds L.shape_is))
+  on_return L S H = rw H.is (rw (← S.is) at (takes-return f m l.head p l L.here L.bounds L.shape_is))
 
--- taking an instruction of kind k, whose record has n bytes, where nothing but the fault is left open
-pub took : {f m m' : List ℕ} {h p kind r : ℕ} {l : Limits} → Among f m h p l kind → (k n : ℕ) → kind ≡ k → suc (body_of k) ≡ n →
-    take_ans r m' ≡ take_in f p m → Took f p m m' (taken_by r (p + n))
+-- taking an instruction of kind k, whose record has n bytes, where nothing but the refusal is left open
+pub took : {f m m' : List ℕ} {p kind : ℕ} {l : Procedure} → Among f m p l kind → (k n : ℕ) → kind ≡ k → suc (body_of k) ≡ n →
+    take_ans 0 m' ≡ take_in f p m → Took f p m m' (Ok (p + n))
 unfolding after
-took A k n e b w = record { is = w; on = λ z. rw (A.kind_is, e) (omega (arith, b)) }
+took A k n e b w = record { is = w; on = rw (A.kind_is, e) (omega (arith, b)) }
+
+pub took_not : {f m m' : List ℕ} {p : ℕ} {r : Refusal} → take_ans (number_of r) m' ≡ take_in f p m → Took f p m m' (Err r)
+took_not w = record { is = w; on = tt }
 
 -- and one that leads to the next alone, or nowhere
-pub onwards-taken : {f m : List ℕ} {h p kind : ℕ} {l : Limits} {s o : Numbers} {r : Onward} → Among f m h p l kind → NoJump kind → NoneOf elsewhere kind →
+pub onwards-taken : {f m : List ℕ} {p kind : ℕ} {l : Procedure} {s o : Numbers} {r : Result Onward Refusal} → Among f m p l kind → NoJump kind → NoneOf elsewhere kind →
     StateIs m p s → OuterIs m (as_state s) o → r ≡ plainly (as_state s) (as_state o) l (after f p) (shape_of f p (ins_at f p)) → Onwards f m p l r
 unfolding ins_at
-onwards-taken {f} {m} {h} {p} {kind} {l} A a e S O w =
-    rw (w, O.is ∙ ap (λ (u : State). innermost (state_in m) u) S.is, S.is) (takes-plain f m h p l A.here A.bounds (rw A.kind_is (straight kind a e f p)))
+onwards-taken {f} {m} {p} {kind} {l} A a e S O w =
+    rw (w, O.is ∙ ap (λ (u : State). innermost (state_in m) u) S.is, S.is) (takes-plain f m l.head p l A.here A.bounds (rw A.kind_is (straight kind a e f p)))
 
-module _ {f m : List ℕ} {p : ℕ} {l : Limits} {r : Onward} (W : Onwards f m p l r) where
-  module _ {s : Numbers} (S : StateIs m p s) (g : r.goes ≡ true) where
-    here-inner : s.inner ≡ (state_in m p).inner
-    here-inner = ap (λ (u : State). u.inner) S.is
+-- the state passed on, if it is, decides
+module _ {f m : List ℕ} {p : ℕ} {l : Procedure} {r : Onward} (W : Onwards f m p l (Ok r)) where
+  pub onwards-on : r.next ≡ after f p
+  onwards-on = W.comes.0
 
-    pub plain-passed : {n : ℕ} {m' : List ℕ} → take_ans n m' ≡ pass_one_in m r.next (state r.main r.ptr s.inner) →
-        Took f p m m' (taken_by n r.next)
-    plain-passed e = let w = W.pass g in record { is = (rw (w.0, here-inner) at e) ∙ sym w.1; on = λ z. w.0 }
+  pub onwards-stopped : r.depths ≡ None → good m ≡ take_in f p m
+  onwards-stopped e = rw e at W.comes.1
 
-  pub plain-stopped : r.goes ≡ false → Took f p m m (taken_by r.fault r.next)
-  plain-stopped g = let w = W.stop g in record { is = w.0; on = w.1 }
+  module _ {d : Depths} (e : r.depths ≡ Some d) where
+    pub onwards-passing : Passing f m p l r.next (Some d)
+    onwards-passing = rw e at W.comes.1
+
+    pub onwards-passed : {s : Numbers} → StateIs m p s → (n : ℕ) (m' : List ℕ) → take_ans n m' ≡ pass_one_in m r.next (state d.main d.ptr s.inner) →
+        take_ans n m' ≡ take_in f p m
+    onwards-passed {s} S n m' e = let z : s.inner ≡ (state_in m p).inner = ap (λ (u : State). u.inner) S.is in (rw (onwards-on, z) at e) ∙ sym onwards-passing.0

@@ -8,7 +8,7 @@ use Rattle.check_flow.proofs.flow.Given as goal
 
 abbrev pub invariant-loop-p : goal.invariant-loop-p
 invariant-loop-p l =
-    (l.n ≡ length l.file) × Flowing l.file l.m l.table l.k l.p l.c l.head l.limits.end × Bounds l.file l.head l.limits
+    (l.n ≡ length l.file) × Flowing l.file l.m l.heads (length l.heads) l.p l.c l.procedure.head l.procedure.end × Bounds l.file l.procedure.head l.procedure
 
 abbrev pub decreases-loop-p : goal.decreases-loop-p
 decreases-loop-p l = length l.file - l.p

@@ -8,17 +8,13 @@ use Rattle.model.specs.Checker.{handler_at}
 use Rattle.check_rows.specs.Shape.{Open, Close, Return, shape_of}
 use Rattle.check_rows.specs.Site.{body-room}
 use Rattle.check_rows.specs.Kinds.{NoJump, body-jumps}
-use Rattle.check_ways.specs.Ways.{leads_to, led, here_place, took}
+use Rattle.check_ways.specs.Ways.{leads_to, led, took}
 use Rattle.check_flow.proofs.take.Goals as goal
 use Rattle.check_flow.proofs.take.Goals.{in_default-via-then-kind-lt1, in_default-via-else-kind-lt1+else-kind-lt7}
 
 pub leave-requires : goal.leave-requires
 unfolding ins_of shape_of body_of bodies codes
 leave-requires c = led c.requires.1 73 1 (leads_to Return 0 0) c.in-73.is refl refl
-
-pub overflow_add-p : goal.overflow_add-p
-overflow_add-p c =
-    let a = here_place c.requires.1.here in omega arith
 
 pub operand-requires : goal.operand-requires
 unfolding body_of bodies codes
@@ -30,25 +26,13 @@ unfolding ins_of shape_of body_of bodies codes handler_at
 open-requires c =
     led c.requires.1 160 3 (leads_to Open 0 _) c.in-160.is refl (rw (c.operand.ensures.is, c.requires.1.here.head))
 
-pub overflow_add-p-in-160 : goal.overflow_add-p-in-160
-overflow_add-p-in-160 c =
-    let a = here_place c.requires.1.here in omega arith
-
 pub close-requires : goal.close-requires
 unfolding ins_of shape_of body_of bodies codes
 close-requires c = led c.requires.1 161 1 (leads_to Close 0 0) c.in-161.is refl refl
 
-pub overflow_add-p-in-161 : goal.overflow_add-p-in-161
-overflow_add-p-in-161 c =
-    let a = here_place c.requires.1.here in omega arith
-
 pub jumps-requires : goal.jumps-requires
 jumps-requires c =
     (c.requires.1, omega arith, omega arith)
-
-pub overflow_add-p-in-1-to-6 : goal.overflow_add-p-in-1-to-6
-overflow_add-p-in-1-to-6 c =
-    let a = here_place c.requires.1.here in omega arith
 
 pub plain-requires : goal.plain-requires
 plain-requires c =
@@ -56,24 +40,21 @@ plain-requires c =
     let r = c.in_default-1.rest in
     (c.requires.0, c.requires.1, aside, ((((tt, c.requires.2), r.0.0.1), r.0.1), r.1))
 
-pub returns-in-73 : goal.returns-in-73
+pub returns-in_ok-leave-in-73 : goal.returns-in_ok-leave-in-73
 unfolding body_of bodies codes
-returns-in-73 c =
-    rw c.done.ensures (took c.requires.1 73 1 c.in-73.is refl c.leave.ensures)
+returns-in_ok-leave-in-73 c = took c.requires.1 73 1 c.in-73.is refl c.in_ok-leave-in-73.ensures
 
-pub returns-in-160 : goal.returns-in-160
+pub returns-in_ok-open-in-160 : goal.returns-in_ok-open-in-160
 unfolding body_of bodies codes
-returns-in-160 c =
-    rw c.done-in-160.ensures (took c.requires.1 160 3 c.in-160.is refl c.open.ensures)
+returns-in_ok-open-in-160 c = took c.requires.1 160 3 c.in-160.is refl c.in_ok-open-in-160.ensures
 
-pub returns-in-161 : goal.returns-in-161
+pub returns-in_ok-close-in-161 : goal.returns-in_ok-close-in-161
 unfolding body_of bodies codes
-returns-in-161 c =
-    rw c.done-in-161.ensures (took c.requires.1 161 1 c.in-161.is refl c.close.ensures)
+returns-in_ok-close-in-161 c = took c.requires.1 161 1 c.in-161.is refl c.in_ok-close-in-161.ensures
 
-pub returns-in-1-to-6 : goal.returns-in-1-to-6
-returns-in-1-to-6 c =
-    rw c.done-in-1-to-6.ensures (took c.requires.1 _ 3 refl (ap suc (body-jumps _ (omega arith) (omega arith))) c.jumps.ensures)
+pub returns-in_ok-jumps-in-1-to-6 : goal.returns-in_ok-jumps-in-1-to-6
+returns-in_ok-jumps-in-1-to-6 c =
+    took c.requires.1 _ 3 refl (ap suc (body-jumps _ (omega arith) (omega arith))) c.in_ok-jumps-in-1-to-6.ensures
 
 pub returns-in_default : goal.returns-in_default
 returns-in_default c = c.plain.ensures

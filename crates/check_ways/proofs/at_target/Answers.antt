@@ -4,5 +4,5 @@ use Rattle.check_ways.proofs.at_target.Goals as goal
 pub returns-then-keep : goal.returns-then-keep
 returns-then-keep c = rw c.if-keep.true
 
-pub returns : goal.returns
-returns c = rw c.if-keep.false
+pub returns-else-keep : goal.returns-else-keep
+returns-else-keep c = rw c.if-keep.false

@@ -23,25 +23,24 @@ state_in-s-requires c =
 
 pub returns-then-s-ge-UNREACHED_DEPTH : goal.returns-then-s-ge-UNREACHED_DEPTH
 returns-then-s-ge-UNREACHED_DEPTH c =
-    let J = test-passes (on_branch c.args.keep _ c.requires c.state_in-s.ensures) (sym c.own.ensures ∙ c.if-own.true) in
+    let J = test-passes (on_branch c.args.keep _ c.requires c.state_in-s.ensures) (sym c.own.ensures ∙ c.if-not-own.false) in
     stops J (le-ltb _ _ c.if-s-ge-UNREACHED_DEPTH.true)
 
-pub returns-then-limits-next : goal.returns-then-limits-next
-returns-then-limits-next c =
-    let J = test-passes (on_branch c.args.keep _ c.requires c.state_in-s.ensures) (sym c.own.ensures ∙ c.if-own.true) in
-    stops (test-passes J (lt-ltb _ _ c.if-s-ge-UNREACHED_DEPTH.false)) (le-ltb _ _ c.if-limits-next.true)
+pub returns-then-procedure-next : goal.returns-then-procedure-next
+returns-then-procedure-next c =
+    let J = test-passes (on_branch c.args.keep _ c.requires c.state_in-s.ensures) (sym c.own.ensures ∙ c.if-not-own.false) in
+    stops (test-passes J (lt-ltb _ _ c.if-s-ge-UNREACHED_DEPTH.false)) (le-ltb _ _ c.if-procedure-next.true)
 
 pub outer_of-o-requires : goal.outer_of-o-requires
 outer_of-o-requires c =
-    held-here c.requires.here c.requires.bounds c.state_in-s.ensures
+    held-here c.state_in-s.ensures c.requires.here
+
+pub invariant_of-at : goal.invariant_of-at
+invariant_of-at c =
+    record { low = (here_place c.requires.here).1; bounded = bounded-here c.state_in-s.ensures c.requires.here c.requires.bounds c.outer_of-o.ensures }
 
 pub depths_ok-requires : goal.depths_ok-requires
-depths_ok-requires c =
-    rw c.effect.ensures (
-      bounded-here c.requires.here c.requires.bounds c.state_in-s.ensures c.outer_of-o.ensures,
-      (omega arith, omega arith),
-      c.if-s-ge-UNREACHED_DEPTH.false,
-    )
+depths_ok-requires c = rw c.effect.ensures ((omega arith, omega arith), c.if-s-ge-UNREACHED_DEPTH.false)
 
 -- behind the test of the depths: what is left of the tests, and what passes on
 left_at : (c : After-depths_ok) →
@@ -51,36 +50,36 @@ left_at : (c : After-depths_ok) →
     Judged (take_in a.file.now a.p a.m.now) ((c.depths_ok.result, 7) ∷ [])
     (pass_all_in ((a.p + 3, popped) ∷ (a.target, (when a.keep then as_state s else popped)) ∷ []) a.m.now)
 left_at c =
-    let J = test-passes (on_branch c.args.keep _ c.requires c.state_in-s.ensures) (sym c.own.ensures ∙ c.if-own.true) in
-    let K = test-passes (test-passes J (lt-ltb _ _ c.if-s-ge-UNREACHED_DEPTH.false)) (lt-ltb _ _ c.if-limits-next.false) in
+    let J = test-passes (on_branch c.args.keep _ c.requires c.state_in-s.ensures) (sym c.own.ensures ∙ c.if-not-own.false) in
+    let K = test-passes (test-passes J (lt-ltb _ _ c.if-s-ge-UNREACHED_DEPTH.false)) (lt-ltb _ _ c.if-procedure-next.false) in
     rw (c.depths_ok.ensures, c.effect.ensures, c.outer_of-o.ensures.is) K
 
-pub overflow_sub-rest : goal.overflow_sub-rest
-overflow_sub-rest c =
-    let w = (stacks-fit _ _ _ _ _ (sym c.depths_ok.ensures ∙ c.if-depths_ok.true)).main in
+pub overflow_sub-then : goal.overflow_sub-then
+overflow_sub-then c =
+    let w = (stacks-fit _ _ _ _ _ (sym c.depths_ok.ensures ∙ c.if-not-depths_ok.false)).main in
     rw c.effect.ensures at w
 
 pub pass_both-requires : goal.pass_both-requires
 pass_both-requires c =
     let S = c.state_in-s.ensures in
     let a = S.main_small in
-    let w = own-place c.requires.here _ (sym c.own.ensures ∙ c.if-own.true) in
+    let w = own-place c.requires.here _ (sym c.own.ensures ∙ c.if-not-own.false) in
     let b : c.state_in-s.result.main - 1 < 65536 = omega (arith, a) in (
-      fitting (next_place c.requires.here _ c.if-limits-next.false) b S.ptr_small S.inner_small,
+      fitting (next_place c.requires.here _ c.if-procedure-next.false) b S.ptr_small S.inner_small,
       rw c.at_target.ensures (fits-either c.args.keep (fitting w a S.ptr_small S.inner_small) (fitting w b S.ptr_small S.inner_small)),
     )
 
-pub returns-then-depths_ok : goal.returns-then-depths_ok
-returns-then-depths_ok c =
+pub returns : goal.returns
+returns c =
     let a = c.args in
     let s = c.state_in-s.result in
     c.pass_both.ensures
     ∙ second-as a.m.now (a.p + 3) a.target (state (s.main - 1) s.ptr s.inner) c.at_target.ensures
-    ∙ sym (all-passed (test-passes (left_at (goal.at.returns-then-depths_ok c).After-depths_ok) c.if-depths_ok.true))
+    ∙ sym (all-passed (test-passes (left_at (goal.at.returns c).After-depths_ok) c.if-not-depths_ok.false))
 
-pub returns-then-own : goal.returns-then-own
-returns-then-own c = stops (left_at (goal.at.returns-then-own c).After-depths_ok) c.if-depths_ok.false
+pub returns-then-not-depths_ok : goal.returns-then-not-depths_ok
+returns-then-not-depths_ok c = stops (left_at (goal.at.returns-then-not-depths_ok c).After-depths_ok) c.if-not-depths_ok.true
 
-pub returns : goal.returns
-returns c =
-    stops (takes-branch _ _ _ _ _ c.requires.here c.requires.bounds c.args.keep _ c.requires.shape_is) (sym c.own.ensures ∙ c.if-own.false)
+pub returns-then-not-own : goal.returns-then-not-own
+returns-then-not-own c =
+    stops (takes-branch _ _ _ _ c.args.procedure c.requires.here c.requires.bounds c.args.keep _ c.requires.shape_is) (sym c.own.ensures ∙ c.if-not-own.true)

@@ -15,26 +15,26 @@ pub returns-then-s-ge-UNREACHED_DEPTH : goal.returns-then-s-ge-UNREACHED_DEPTH
 returns-then-s-ge-UNREACHED_DEPTH c =
     stops (on-close c.requires c.state_in-s.ensures) (le-ltb _ _ c.if-s-ge-UNREACHED_DEPTH.true)
 
-pub returns-then-limits-next : goal.returns-then-limits-next
-returns-then-limits-next c =
-    stops (test-passes (on-close c.requires c.state_in-s.ensures) (lt-ltb _ _ c.if-s-ge-UNREACHED_DEPTH.false)) (le-ltb _ _ c.if-limits-next.true)
+pub returns-then-procedure-next : goal.returns-then-procedure-next
+returns-then-procedure-next c =
+    stops (test-passes (on-close c.requires c.state_in-s.ensures) (lt-ltb _ _ c.if-s-ge-UNREACHED_DEPTH.false)) (le-ltb _ _ c.if-procedure-next.true)
 
 pub returns-then-s-eq-NONE_OPEN : goal.returns-then-s-eq-NONE_OPEN
 returns-then-s-eq-NONE_OPEN c =
     let J = test-passes (on-close c.requires c.state_in-s.ensures) (lt-ltb _ _ c.if-s-ge-UNREACHED_DEPTH.false) in
-    stops (test-passes J (lt-ltb _ _ c.if-limits-next.false)) (ap not (eq-eqb _ _ c.if-s-eq-NONE_OPEN.true))
+    stops (test-passes J (lt-ltb _ _ c.if-procedure-next.false)) (ap not (eq-eqb _ _ c.if-s-eq-NONE_OPEN.true))
 
 pub outer_of-o-requires : goal.outer_of-o-requires
 outer_of-o-requires c =
-    held-here c.requires.here c.requires.bounds c.state_in-s.ensures
+    held-here c.state_in-s.ensures c.requires.here
 
 pub pass_one-requires : goal.pass_one-requires
 pass_one-requires c =
     let S = c.state_in-s.ensures in
-    fitting (next_place c.requires.here _ c.if-limits-next.false) S.main_small S.ptr_small c.outer_of-o.ensures.inner_small
+    fitting (next_place c.requires.here _ c.if-procedure-next.false) S.main_small S.ptr_small c.outer_of-o.ensures.inner_small
 
 pub returns : goal.returns
 returns c =
-    let J = test-passes (test-passes (on-close c.requires c.state_in-s.ensures) (lt-ltb _ _ c.if-s-ge-UNREACHED_DEPTH.false)) (lt-ltb _ _ c.if-limits-next.false) in
+    let J = test-passes (test-passes (on-close c.requires c.state_in-s.ensures) (lt-ltb _ _ c.if-s-ge-UNREACHED_DEPTH.false)) (lt-ltb _ _ c.if-procedure-next.false) in
     let o = ap (λ (u : State). u.inner) c.outer_of-o.ensures.is in
     (rw o at c.pass_one.ensures) ∙ sym (all-passed (test-passes J (ap not (ne_eqb _ _ c.if-s-eq-NONE_OPEN.false))))

@@ -15,18 +15,18 @@ state_in-s-requires c =
 
 pub returns-then-s-ge-UNREACHED_DEPTH : goal.returns-then-s-ge-UNREACHED_DEPTH
 returns-then-s-ge-UNREACHED_DEPTH c =
-    stops (test-passes (on-jump c.requires c.state_in-s.ensures) (sym c.own.ensures ∙ c.if-own.true)) (le-ltb _ _ c.if-s-ge-UNREACHED_DEPTH.true)
+    stops (test-passes (on-jump c.requires c.state_in-s.ensures) (sym c.own.ensures ∙ c.if-not-own.false)) (le-ltb _ _ c.if-s-ge-UNREACHED_DEPTH.true)
 
 pub pass_one-requires : goal.pass_one-requires
 pass_one-requires c =
     let S = c.state_in-s.ensures in
-    fitting (own-place c.requires.here _ (sym c.own.ensures ∙ c.if-own.true)) S.main_small S.ptr_small S.inner_small
-
-pub returns-then-own : goal.returns-then-own
-returns-then-own c =
-    let J = test-passes (on-jump c.requires c.state_in-s.ensures) (sym c.own.ensures ∙ c.if-own.true) in
-    c.pass_one.ensures ∙ sym (all-passed (test-passes J (lt-ltb _ _ c.if-s-ge-UNREACHED_DEPTH.false)))
+    fitting (own-place c.requires.here _ (sym c.own.ensures ∙ c.if-not-own.false)) S.main_small S.ptr_small S.inner_small
 
 pub returns : goal.returns
 returns c =
-    stops (takes-jump _ _ _ _ _ c.requires.here c.requires.bounds _ c.requires.shape_is) (sym c.own.ensures ∙ c.if-own.false)
+    let J = test-passes (on-jump c.requires c.state_in-s.ensures) (sym c.own.ensures ∙ c.if-not-own.false) in
+    c.pass_one.ensures ∙ sym (all-passed (test-passes J (lt-ltb _ _ c.if-s-ge-UNREACHED_DEPTH.false)))
+
+pub returns-then-not-own : goal.returns-then-not-own
+returns-then-not-own c =
+    stops (takes-jump _ _ _ _ c.args.procedure c.requires.here c.requires.bounds _ c.requires.shape_is) (sym c.own.ensures ∙ c.if-not-own.true)

@@ -11,8 +11,8 @@ own-requires c = ends_low c.requires.here
 
 pub returns-then-target-p : goal.returns-then-target-p
 returns-then-target-p c =
-    let J = takes-open _ _ _ _ _ c.requires.here c.requires.bounds _ c.requires.shape_is in
-    stops (test-passes J (sym c.own.ensures ∙ c.if-own.true)) (lt-leb (suc c.args.p) c.args.target (omega (arith, c.if-target-p.true)))
+    let J = takes-open _ _ _ _ c.args.procedure c.requires.here c.requires.bounds _ c.requires.shape_is in
+    stops (test-passes J (sym c.own.ensures ∙ c.if-not-own.false)) (lt-leb (suc c.args.p) c.args.target (omega (arith, c.if-target-p.true)))
 
 pub state_in-s-requires : goal.state_in-s-requires
 state_in-s-requires c =
@@ -20,39 +20,39 @@ state_in-s-requires c =
 
 pub returns-then-s-ge-UNREACHED_DEPTH : goal.returns-then-s-ge-UNREACHED_DEPTH
 returns-then-s-ge-UNREACHED_DEPTH c =
-    let J = test-passes (on-open c.requires c.state_in-s.ensures) (sym c.own.ensures ∙ c.if-own.true) in
+    let J = test-passes (on-open c.requires c.state_in-s.ensures) (sym c.own.ensures ∙ c.if-not-own.false) in
     stops (test-passes J (le-leb (suc c.args.p) c.args.target (omega (arith, c.if-target-p.false)))) (le-ltb _ _ c.if-s-ge-UNREACHED_DEPTH.true)
 
-pub returns-then-limits-next : goal.returns-then-limits-next
-returns-then-limits-next c =
-    let J = test-passes (on-open c.requires c.state_in-s.ensures) (sym c.own.ensures ∙ c.if-own.true) in
+pub returns-then-procedure-next : goal.returns-then-procedure-next
+returns-then-procedure-next c =
+    let J = test-passes (on-open c.requires c.state_in-s.ensures) (sym c.own.ensures ∙ c.if-not-own.false) in
     let K = test-passes J (le-leb (suc c.args.p) c.args.target (omega (arith, c.if-target-p.false))) in
-    stops (test-passes K (lt-ltb _ _ c.if-s-ge-UNREACHED_DEPTH.false)) (le-ltb _ _ c.if-limits-next.true)
+    stops (test-passes K (lt-ltb _ _ c.if-s-ge-UNREACHED_DEPTH.false)) (le-ltb _ _ c.if-procedure-next.true)
 
-pub returns-then-limits-s : goal.returns-then-limits-s
-returns-then-limits-s c =
-    let J = test-passes (on-open c.requires c.state_in-s.ensures) (sym c.own.ensures ∙ c.if-own.true) in
+pub returns-then-procedure-s : goal.returns-then-procedure-s
+returns-then-procedure-s c =
+    let J = test-passes (on-open c.requires c.state_in-s.ensures) (sym c.own.ensures ∙ c.if-not-own.false) in
     let K = test-passes (test-passes (test-passes J (le-leb (suc c.args.p) c.args.target (omega (arith, c.if-target-p.false))))
-    (lt-ltb _ _ c.if-s-ge-UNREACHED_DEPTH.false)) (lt-ltb _ _ c.if-limits-next.false) in
-    stops K (lt-leb (suc c.state_in-s.result.main) c.args.limits.x (omega (arith, c.if-limits-s.true)))
+    (lt-ltb _ _ c.if-s-ge-UNREACHED_DEPTH.false)) (lt-ltb _ _ c.if-procedure-next.false) in
+    stops K (lt-leb (suc c.state_in-s.result.main) c.args.procedure.x (omega (arith, c.if-procedure-s.true)))
 
 pub pass_both-requires : goal.pass_both-requires
 pass_both-requires c =
     let S = c.state_in-s.ensures in
     let a = here_place c.requires.here in
-    let v = next_place c.requires.here _ c.if-limits-next.false in
-    let w = own-place c.requires.here _ (sym c.own.ensures ∙ c.if-own.true) in (
+    let v = next_place c.requires.here _ c.if-procedure-next.false in
+    let w = own-place c.requires.here _ (sym c.own.ensures ∙ c.if-not-own.false) in (
       record { inside = v.0; low = v.1; main_small = S.main_small; ptr_small = S.ptr_small; inner_small = omega arith },
       record { inside = w.0; low = w.1; main_small = omega arith; ptr_small = S.ptr_small; inner_small = S.inner_small },
     )
 
-pub returns-then-own : goal.returns-then-own
-returns-then-own c =
-    let J = test-passes (on-open c.requires c.state_in-s.ensures) (sym c.own.ensures ∙ c.if-own.true) in
-    let K = test-passes J (le-leb (suc c.args.p) c.args.target (omega (arith, c.if-target-p.false))) in
-    let L = test-passes (test-passes K (lt-ltb _ _ c.if-s-ge-UNREACHED_DEPTH.false)) (lt-ltb _ _ c.if-limits-next.false) in
-    c.pass_both.ensures ∙ sym (all-passed (test-passes L (le-leb (suc c.state_in-s.result.main) c.args.limits.x (omega (arith, c.if-limits-s.false)))))
-
 pub returns : goal.returns
 returns c =
-    stops (takes-open _ _ _ _ _ c.requires.here c.requires.bounds _ c.requires.shape_is) (sym c.own.ensures ∙ c.if-own.false)
+    let J = test-passes (on-open c.requires c.state_in-s.ensures) (sym c.own.ensures ∙ c.if-not-own.false) in
+    let K = test-passes J (le-leb (suc c.args.p) c.args.target (omega (arith, c.if-target-p.false))) in
+    let L = test-passes (test-passes K (lt-ltb _ _ c.if-s-ge-UNREACHED_DEPTH.false)) (lt-ltb _ _ c.if-procedure-next.false) in
+    c.pass_both.ensures ∙ sym (all-passed (test-passes L (le-leb (suc c.state_in-s.result.main) c.args.procedure.x (omega (arith, c.if-procedure-s.false)))))
+
+pub returns-then-not-own : goal.returns-then-not-own
+returns-then-not-own c =
+    stops (takes-open _ _ _ _ c.args.procedure c.requires.here c.requires.bounds _ c.requires.shape_is) (sym c.own.ensures ∙ c.if-not-own.true)

@@ -2,11 +2,11 @@
 use Rattle.laws.specs.Choices.{cases}
 use Rattle.check_ways.proofs.own.Goals as goal
 
-pub returns-then-q-head : goal.returns-then-q-head
-returns-then-q-head c = search cases
+pub returns-then-q-procedure : goal.returns-then-q-procedure
+returns-then-q-procedure c = search cases
 
-pub returns-then-end-q : goal.returns-then-end-q
-returns-then-end-q c = search cases
+pub returns-else-q-procedure : goal.returns-else-q-procedure
+returns-else-q-procedure c = search cases
 
-pub returns : goal.returns
-returns c = search cases
+pub returns-else-procedure-q : goal.returns-else-procedure-q
+returns-else-procedure-q c = search cases

@@ -1,7 +1,8 @@
 -- `check_ways::plain`: what the instruction comes to (`takes-plain`), then its state passed to the next one.
 use native.Mathlib.Omega.{arith}
+use Rattle.std.proofs.lemmas.Result.{err_from_is_err_and}
 use Rattle.check_ways.specs.Faults.{fitting}
-use Rattle.check_ways.specs.Ways.{here_place, next_place, held-here, bounded-here, onwards-taken, plain-passed, plain-stopped}
+use Rattle.check_ways.specs.Ways.{here_place, next_place, held-here, bounded-here, onwards-taken, onwards-on, onwards-stopped, onwards-passing, onwards-passed, took_not}
 use Rattle.check_ways.proofs.plain.Goals as goal
 
 pub state_in-s-requires : goal.state_in-s-requires
@@ -9,29 +10,48 @@ state_in-s-requires c =
     here_place c.requires.1.here
 
 pub outer_of-o-requires : goal.outer_of-o-requires
-outer_of-o-requires c =
-    held-here c.requires.1.here c.requires.1.bounds c.state_in-s.ensures
+outer_of-o-requires c = held-here c.state_in-s.ensures c.requires.1.here
 
-pub plain_at-to-requires : goal.plain_at-to-requires
-plain_at-to-requires c =
+pub invariant_of-at : goal.invariant_of-at
+invariant_of-at c =
     let A = c.requires.1 in
-    (c.requires.0, A.here.site, A.kind_is, c.requires.2, c.requires.3, bounded-here A.here A.bounds c.state_in-s.ensures c.outer_of-o.ensures)
+    record { low = (here_place A.here).1; bounded = bounded-here c.state_in-s.ensures A.here A.bounds c.outer_of-o.ensures }
+
+pub comes_to-requires : goal.comes_to-requires
+comes_to-requires c =
+    let A = c.requires.1 in
+    (c.requires.0, A.here.site, A.kind_is, c.requires.2, c.requires.3)
 
 pub pass_one-requires : goal.pass_one-requires
 pass_one-requires c =
     let A = c.requires.1 in
     let S = c.state_in-s.ensures in
-    let W = onwards-taken c.requires.1 c.requires.2 c.requires.3 c.state_in-s.ensures c.outer_of-o.ensures c.plain_at-to.ensures in
-    let w = W.pass c.if-to.true in
-    let x = bounded-here A.here A.bounds S c.outer_of-o.ensures in
-    fitting (next_place A.here _ w.2) (omega (arith, w.3, x.x_byte)) (omega (arith, w.4, x.y_byte)) S.inner_small
+    let W = onwards-taken A c.requires.2 c.requires.3 S c.outer_of-o.ensures c.in_ok-to.ensures in
+    let w = onwards-passing W c.in-Some.is in
+    let x = bounded-here S {l = c.args.procedure} A.here A.bounds c.outer_of-o.ensures in
+    fitting (next_place A.here _ w.1) (omega (arith, w.2, x.x_byte)) (omega (arith, w.3, x.y_byte)) S.inner_small
 
-pub returns-then-to : goal.returns-then-to
-returns-then-to c =
-    let W = onwards-taken c.requires.1 c.requires.2 c.requires.3 c.state_in-s.ensures c.outer_of-o.ensures c.plain_at-to.ensures in
-    rw c.done.ensures (plain-passed W c.state_in-s.ensures c.if-to.true c.pass_one.ensures)
+pub returns-in_err-to : goal.returns-in_err-to
+returns-in_err-to c =
+    let W = onwards-taken c.requires.1 c.requires.2 c.requires.3 c.state_in-s.ensures c.outer_of-o.ensures c.in_err-to.ensures in
+    let p = err_from_is_err_and c.from_residual.result c.from_residual.ensures.1 in
+    rw (p.1, p.2) (took_not W.comes)
 
-pub returns : goal.returns
-returns c =
-    let W = onwards-taken c.requires.1 c.requires.2 c.requires.3 c.state_in-s.ensures c.outer_of-o.ensures c.plain_at-to.ensures in
-    rw c.done-2.ensures (plain-stopped W c.if-to.false)
+pub returns-in_err-pass_one : goal.returns-in_err-pass_one
+returns-in_err-pass_one c =
+    let S = c.state_in-s.ensures in
+    let W = onwards-taken c.requires.1 c.requires.2 c.requires.3 S c.outer_of-o.ensures c.in_ok-to.ensures in
+    let r = c.from_residual-in_err-pass_one in
+    let p = err_from_is_err_and r.result r.ensures.1 in
+    rw (p.1, p.2) (took_not (onwards-passed W c.in-Some.is S _ _ c.in_err-pass_one.ensures))
+
+pub returns-in_ok-pass_one : goal.returns-in_ok-pass_one
+returns-in_ok-pass_one c =
+    let S = c.state_in-s.ensures in
+    let W = onwards-taken c.requires.1 c.requires.2 c.requires.3 S c.outer_of-o.ensures c.in_ok-to.ensures in
+    record { is = onwards-passed W c.in-Some.is S 0 _ c.in_ok-pass_one.ensures; on = onwards-on W }
+
+pub returns-in_default : goal.returns-in_default
+returns-in_default c =
+    let W = onwards-taken c.requires.1 c.requires.2 c.requires.3 c.state_in-s.ensures c.outer_of-o.ensures c.in_ok-to.ensures in
+    record { is = onwards-stopped W c.in_default.is; on = onwards-on W }
