@@ -150,7 +150,7 @@ fn target(file: &[u8], table: &[usize; PROCS_MOST], ctl: &[u32], at: usize, fram
     requires { Targets file.now table.now ctl.now at frame }
     ensures { result ≡ head_of file.now (frame_of ctl.now frame).proc + operand file.now at }
 {
-    let proc = control_stack::proc_of(ctl, frame);
+    let proc = control_stack::frame_of(ctl, frame).proc;
     table[proc] + code_file::operand(file, at)
 }
 

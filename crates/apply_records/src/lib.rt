@@ -21,24 +21,21 @@ pub fn call(file: &[u8], ctl: &mut [u32], regs: Regs, put: Put) -> Regs
 {
     let place = regs.place;
     let top = regs.ctop;
-    let callee = code_file::operand(file, place);
-    let back = place + 3;
     let frame = Frame {
         main_base: put.at,
         ptr_base: put.word as usize,
-        proc: callee,
-        returns: back,
+        proc: code_file::operand(file, place),
+        returns: place + 3,
         caller: regs.frame,
     };
-    control_stack::put_frame(ctl, top, frame);
+    control_stack::put_record(ctl, top, frame.words());
     Regs {
         place: put.place,
         frame: top / RECORD + 1,
-        handler: regs.handler,
         mtop: put.mtop,
         ptop: put.ptop,
         ctop: top + RECORD,
-        state: regs.state,
+        ..regs
     }
 }
 
@@ -48,18 +45,14 @@ pub fn leave(ctl: &mut [u32], regs: Regs, put: Put) -> Regs
     ensures { (main ptr heap : List ℕ) → record { regs = result; main = main; ptr = ptr; ctl = ctl.new; heap = heap }
         ≡ returned put (record { regs = regs; main = main; ptr = ptr; ctl = ctl.old; heap = heap }) }
 {
-    let top = regs.ctop;
-    let caller = control_stack::caller_of(ctl, regs.frame);
-    let rest = top - RECORD;
+    let rest = regs.ctop - RECORD;
+    let caller = control_stack::frame_of(ctl, regs.frame).caller;
     control_stack::clear_record(ctl, rest);
     Regs {
         place: put.place,
         frame: caller,
-        handler: regs.handler,
-        mtop: regs.mtop,
-        ptop: regs.ptop,
         ctop: rest,
-        state: regs.state,
+        ..regs
     }
 }
 
@@ -77,15 +70,12 @@ pub fn open(ctl: &mut [u32], regs: Regs, put: Put) -> Regs
         frame: regs.frame,
         outer: regs.handler,
     };
-    control_stack::put_handler(ctl, top, handler);
+    control_stack::put_record(ctl, top, handler.words());
     Regs {
         place: put.place,
-        frame: regs.frame,
         handler: top / RECORD + 1,
-        mtop: regs.mtop,
-        ptop: regs.ptop,
         ctop: top + RECORD,
-        state: regs.state,
+        ..regs
     }
 }
 
@@ -95,17 +85,13 @@ pub fn close(ctl: &mut [u32], regs: Regs, put: Put) -> Regs
     ensures { (main ptr heap : List ℕ) → record { regs = result; main = main; ptr = ptr; ctl = ctl.new; heap = heap }
         ≡ closed put (record { regs = regs; main = main; ptr = ptr; ctl = ctl.old; heap = heap }) }
 {
-    let top = regs.ctop;
-    let under = top - RECORD;
+    let under = regs.ctop - RECORD;
     let outer = control_stack::outer_at(ctl, under);
     control_stack::clear_record(ctl, under);
     Regs {
         place: put.place,
-        frame: regs.frame,
         handler: outer,
-        mtop: regs.mtop,
-        ptop: regs.ptop,
         ctop: under,
-        state: regs.state,
+        ..regs
     }
 }

@@ -160,7 +160,7 @@ fn leaves(ctl: &[u32], regs: Regs) -> Plan
     requires { Numbered ctl.now regs.frame }
     ensures { (f : List ℕ) (m : Machine) → result ≡ planned f (set_regs regs (set_ctl ctl.now m)) 1 73 }
 {
-    let place = control_stack::returns_of(ctl, regs.frame);
+    let place = control_stack::frame_of(ctl, regs.frame).returns;
     writes(Into::Return, place, regs.mtop, regs.ptop, 0, 0)
 }
 

@@ -23,7 +23,7 @@ fn main_locals(file: &[u8], main: &[u32], ctl: &[u32], regs: Regs, kind: u8) -> 
 {
     let place = regs.place;
     let top = regs.mtop;
-    let at = control_stack::main_base_of(ctl, regs.frame) + code_file::operand(file, place);
+    let at = control_stack::frame_of(ctl, regs.frame).main_base + code_file::operand(file, place);
     match kind {
         20 => writes(Into::Push, place + 3, top + 1, regs.ptop, top, main[at]),
         _ => {
@@ -80,7 +80,7 @@ pub fn ptr_locals(file: &[u8], ptr: &[u32], ctl: &[u32], regs: Regs, kind: u8) -
 {
     let place = regs.place;
     let top = regs.ptop;
-    let at = control_stack::ptr_base_of(ctl, regs.frame) + code_file::operand(file, place);
+    let at = control_stack::frame_of(ctl, regs.frame).ptr_base + code_file::operand(file, place);
     match kind {
         21 => writes(Into::Pointer, place + 3, regs.mtop, top + 1, top, ptr[at]),
         _ => {

@@ -15,9 +15,8 @@ fn word_from(bytes: &[u8], i: usize) -> usize
     ensures { Small 4294967296 (word_from bytes.now i) result }
 {
     let at = 4 * i;
-    let high = numbers::byte(bytes[at]) * 256 + numbers::byte(bytes[at + 1]);
-    let low = numbers::byte(bytes[at + 2]) * 256 + numbers::byte(bytes[at + 3]);
-    high * 65536 + low
+    let word = <[u8; 4]>::try_from(&bytes[at..at + 4]).unwrap();
+    u32::from_be_bytes(word) as usize
 }
 
 pub fn regs_from(bytes: &[u8]) -> Regs
@@ -51,10 +50,8 @@ fn put_word(bytes: &mut [u8], i: usize, w: usize)
     ensures { Stored bytes.old i w bytes.new }
 {
     let at = 4 * i;
-    bytes[at] = (w / 16777216 % 256) as u8;
-    bytes[at + 1] = (w / 65536 % 256) as u8;
-    bytes[at + 2] = (w / 256 % 256) as u8;
-    bytes[at + 3] = (w % 256) as u8;
+    let word = (w % 4294967296) as u32;
+    bytes[at..at + 4].copy_from_slice(&word.to_be_bytes());
 }
 
 // The sums stay.

@@ -1,4 +1,6 @@
 -- `plan_words::main_locals`: at each of the two codes the definition computes; the frame's main base is read from its record.
+use Rattle.std.proofs.Common.{ap}
+use Rattle.model.specs.Control.{Frame}
 use Rattle.model.specs.File.{ins_of}
 use Rattle.plan_meaning.specs.Planned.{basic_plan, plan_of, planned}
 use Rattle.laws_file.specs.Kinds.{other}
@@ -6,11 +8,11 @@ use Rattle.plan_words.proofs.main_locals.Goals as goal
 
 pub returns-in-20 : goal.returns-in-20
 unfolding planned plan_of basic_plan ins_of
-returns-in-20 c = λ m. rw (c.writes.ensures, c.in-20.is, c.main_base_of.ensures, c.operand.ensures.is)
+returns-in-20 c = λ m. rw (c.writes.ensures, c.in-20.is, ap (λ (f : Frame). f.main_base) c.frame_of.ensures, c.operand.ensures.is)
 
 pub returns-in_default : goal.returns-in_default
 unfolding planned plan_of basic_plan ins_of
 returns-in_default c =
     λ m.
     let e = other c.requires.4 c.in_default.in_default-own.rest.1 in
-    rw (c.writes-in_default.ensures, e, c.main_base_of.ensures, c.operand.ensures.is)
+    rw (c.writes-in_default.ensures, e, ap (λ (f : Frame). f.main_base) c.frame_of.ensures, c.operand.ensures.is)

@@ -1,7 +1,0 @@
--- The main base is one word of the record.
-use Rattle.model.specs.Control.{rec_at}
-use Rattle.control_stack.proofs.main_base_of.Goals as goal
-
-pub returns : goal.returns
-unfolding rec_at
-returns c = c.word.ensures.0

@@ -1,7 +1,0 @@
--- The return place is one word of the record.
-use Rattle.model.specs.Control.{rec_at}
-use Rattle.control_stack.proofs.returns_of.Goals as goal
-
-pub returns : goal.returns
-unfolding rec_at
-returns c = c.word.ensures.0
