@@ -1,18 +1,16 @@
 -- Steps of a run: what is left of the budget decides what the rest of the run comes to, and soundness is kept. Steps add up.
 use Prim.Native.Nat.{ℕ, suc, ◌+◌, ◌-◌, ◌<◌, ◌≤◌}
-use Rattle.std.specs.Prelude.{Bool, true, false, List, ◌≡◌, refl, length}
+use Rattle.std.specs.Prelude.{List, ◌≡◌, refl, length}
 use Rattle.std.proofs.Math.Path.{ap}
-use Rattle.std.proofs.Common.{sym, ◌∙◌, subst, ne_eqb}
+use Rattle.std.proofs.Common.{sym, ◌∙◌, ne_eqb}
 use native.Mathlib.Omega.{arith}
-use Rattle.model.specs.Control.{Machine, set_regs}
+use Rattle.model.specs.Control.{Machine}
 use Rattle.plan_meaning.specs.Planned.{plan_at}
 use Rattle.model.specs.Step.{next, step, run_on}
 use Rattle.plan_meaning.specs.Settled.{settle, applied}
 use Rattle.theory_step.specs.Alive.{Alive, alive-step}
 use Rattle.theory_step.specs.Settling.{alive-plan}
-use Rattle.apply.specs.Applies.{Late, Later, applied_if}
-use Rattle.model.specs.declared.Regs.{Regs}
-use Rattle.run_steps.specs.declared.Pause.{Pause}
+use Rattle.apply.specs.Applies.{Later}
 use Rattle.plan_meaning.specs.declared.Put.{Put}
 use Rattle.plan_meaning.specs.declared.Plan.{Plan}
 use Rattle.plan_meaning.specs.declared.Plan.TheVariants.{Write}

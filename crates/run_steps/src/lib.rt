@@ -47,13 +47,25 @@ pub fn go_on(
     while 0 < left {
         let plan = plan::plan_at(file, table, main, ptr, ctl, heap, r);
         let Plan::Write(put) = plan else {
-            return Pause { plan, regs: r, left };
+            return Pause {
+                plan,
+                regs: r,
+                left,
+            };
         };
         let Some(next) = apply::apply(file, main, ptr, ctl, heap, r, put) else {
-            return Pause { plan, regs: r, left };
+            return Pause {
+                plan,
+                regs: r,
+                left,
+            };
         };
         r = next;
         left -= 1;
     }
-    Pause { plan: Plan::Thrown, regs: r, left }
+    Pause {
+        plan: Plan::Thrown,
+        regs: r,
+        left,
+    }
 }
