@@ -10,7 +10,6 @@ use Rattle.plan_meaning.specs.declared.Put.{Put}
 use Rattle.model.specs.declared.Regs.{Regs}
 use Rattle.plan_meaning.specs.declared.Plan.{Plan}
 use Rattle.plan_meaning.specs.declared.Plan.TheVariants.{Write}
-use Rattle.apply.specs.declared.Tried.{Tried}
 use Rattle.laws.specs.Cuts.{Topped}
 use Rattle.plan_meaning.specs.Suits.{Suits}
 use Rattle.apply_words.specs.Asks.{Retract, Dropping}
@@ -46,9 +45,6 @@ Late i r = Retract i ⊎ (MakesNew i ⊎ ((i ≡ into.Return) × (r.frame ≡ 1)
 
 abbrev pub Later : Regs → Plan → Type 0
 Later r plan = (put : Put) → plan ≡ Write put → Late put.into r
-
-abbrev pub tried : Bool → Regs → Tried
-tried t r = record { done = t; regs = r }
 
 -- applied, or all as before
 abbrev pub applied_if : Bool → List ℕ → Put → Machine → Machine

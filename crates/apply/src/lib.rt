@@ -1,7 +1,7 @@
 // What a plan comes to: its writes applied, or its exception raised, all in one step (Manual 4.25).
 #![tactic(auto)]
 
-ghost use Rattle.std.specs.Prelude.{◌≡◌, true, false, List, ℕ, ◌+◌, ◌*◌, ◌<◌, ◌≤◌, length};
+ghost use Rattle.std.specs.Prelude.{◌≡◌, List, ℕ, ◌+◌, ◌*◌, ◌<◌, ◌≤◌, length, unwrap_or, is_some, IfSome, IfNone};
 ghost use Rattle.model.specs.File.{operand, head_of};
 ghost use Rattle.model.specs.Words.{cut};
 ghost use Rattle.model.specs.Control.{frame_of, record_words};
@@ -9,20 +9,18 @@ ghost use Rattle.model.specs.Step.{raised};
 ghost use Rattle.plan_meaning.specs.Settled.{applied, settle};
 ghost use Rattle.laws.specs.Cuts.{Topped};
 ghost use Rattle.apply_words.specs.Asks.{onwards};
-ghost use Rattle.apply.specs.Applies.{Applies, Late, PutsNew, Lately, Later, tried, applied_if};
-ghost use Rattle.apply.specs.Ended.{Targets, Raises, RealRaises, Settles, ended_of, resumed, raised_by};
+ghost use Rattle.apply.specs.Applies.{Applies, Late, PutsNew, Lately, Later, applied_if};
+ghost use Rattle.apply.specs.Ended.{Targets, Raises, RealRaises, Settles, ended, resumed, raised_by};
 ghost use Rattle.model.specs.Calls.{main_most, ctl_most};
 
 use control_stack::Handler;
 use model::{PROCS_MOST, RECORD, Regs};
 use plan_meaning::{Into, Plan, Put};
 
-// What a step leads to: on with these registers, or an exception of this code that no handler catches.
-#[derive(Clone, Copy)]
-pub struct Outcome {
-    pub on: bool,
+// An exception that no handler catches: the state stays as it was.
+#[derive(Clone, Copy, Debug, PartialEq, Eq)]
+pub struct Uncaught {
     pub code: u32,
-    pub regs: Regs,
 }
 
 // The registers after an instruction that leaves the control stack as it is.
@@ -31,35 +29,15 @@ fn onward(regs: Regs, put: Put) -> Regs
 {
     Regs {
         place: put.place,
-        frame: regs.frame,
-        handler: regs.handler,
         mtop: put.mtop,
         ptop: put.ptop,
-        ctop: regs.ctop,
-        state: regs.state,
+        ..regs
     }
 }
 
-// What applying a plan's writes comes to: the registers then, or that it is left to `apply_late`, nothing being touched.
-#[derive(Clone, Copy)]
-pub struct Tried {
-    pub done: bool,
-    pub regs: Regs,
-}
-
-fn done(regs: Regs) -> Tried
-    ensures { result ≡ tried true regs }
-{
-    Tried { done: true, regs }
-}
-
-fn undone(regs: Regs) -> Tried
-    ensures { result ≡ tried false regs }
-{
-    Tried { done: false, regs }
-}
-
-// Applies the writes of a plan, as far as they need no loop: the steps of a run that go through here keep their registers.
+// Applies the writes of a plan, as far as they need no loop: the steps of a run that go through here keep their registers. With no registers given it is left
+// to `apply_late`, and nothing is touched.
+#[tactic(auto, unfolding(plan_meaning::specs::Settled::applied, plan_meaning::specs::Settled::apply_into))]
 pub fn apply(
     file: &[u8],
     main: &mut [u32],
@@ -68,38 +46,35 @@ pub fn apply(
     heap: &mut [u32],
     regs: Regs,
     put: Put,
-) -> Tried
+) -> Option<Regs>
     requires { Applies file.now put (record { regs = regs; main = main.old; ptr = ptr.old; ctl = ctl.old; heap = heap.old }) }
-    ensures state { record { regs = result.regs; main = main.new; ptr = ptr.new; ctl = ctl.new; heap = heap.new }
-        ≡ applied_if result.done file.now put (record {
+    ensures state { record { regs = unwrap_or result regs; main = main.new; ptr = ptr.new; ctl = ctl.new; heap = heap.new }
+        ≡ applied_if (is_some result) file.now put (record {
           regs = regs;
           main = main.old;
           ptr = ptr.old;
           ctl = ctl.old;
           heap = heap.old;
         }) }
-    ensures running { result.regs.state ≡ regs.state }
-    ensures undone { result.done ≡ false → Late put.into regs }
+    ensures running { IfSome result (λ r. r.state ≡ regs.state) }
+    ensures undone { IfNone result (Late put.into regs) }
 {
-    let into = put.into;
-    match into {
-        Into::Frame => done(apply_records::call(file, ctl, regs, put)),
+    match put.into {
+        Into::Frame => Some(apply_records::call(file, ctl, regs, put)),
         Into::Return => {
             if regs.frame == 1 {
-                return undone(regs);
+                return None;
             }
-            done(apply_records::leave(ctl, regs, put))
+            Some(apply_records::leave(ctl, regs, put))
         }
-        Into::Handler => done(apply_records::open(ctl, regs, put)),
-        Into::Close => done(apply_records::close(ctl, regs, put)),
-        Into::View => undone(regs),
-        Into::WordVector => undone(regs),
-        Into::PtrVector => undone(regs),
+        Into::Handler => Some(apply_records::open(ctl, regs, put)),
+        Into::Close => Some(apply_records::close(ctl, regs, put)),
+        Into::View | Into::WordVector | Into::PtrVector => None,
         _ => {
             if apply_words::plain(main, ptr, heap, regs, put) {
-                return done(onward(regs, put));
+                return Some(onward(regs, put));
             }
-            undone(regs)
+            None
         }
     }
 }
@@ -118,6 +93,7 @@ fn put_new(main: &mut [u32], ptr: &mut [u32], heap: &mut [u32], regs: Regs, put:
 }
 
 // Applies what `apply` leaves: a new object, a retract of many words, the end of a run.
+#[tactic(auto, unfolding(plan_meaning::specs::Settled::applied, plan_meaning::specs::Settled::apply_into))]
 fn apply_late(
     main: &mut [u32],
     ptr: &mut [u32],
@@ -130,9 +106,8 @@ fn apply_late(
     ensures { (f : List ℕ) → record { regs = result; main = main.new; ptr = ptr.new; ctl = ctl.new; heap = heap.new }
         ≡ applied f put (record { regs = regs; main = main.old; ptr = ptr.old; ctl = ctl.old; heap = heap.old }) }
 {
-    let into = put.into;
     let next = onward(regs, put);
-    match into {
+    match put.into {
         Into::View | Into::WordVector | Into::PtrVector => {
             put_new(main, ptr, heap, regs, put);
             next
@@ -159,15 +134,13 @@ fn resume(guard: Handler, place: usize, handler: usize, state: usize) -> Regs
     requires { (guard.main_top < main_most) × (1 ≤ handler) × (handler ≤ ctl_most) }
     ensures { result ≡ resumed guard place handler state }
 {
-    let above = guard.main_top + 1;
-    let under = RECORD * (handler - 1);
     Regs {
         place,
         frame: guard.frame,
         handler: guard.outer,
-        mtop: above,
+        mtop: guard.main_top + 1,
         ptop: guard.ptr_top,
-        ctop: under,
+        ctop: RECORD * (handler - 1),
         state,
     }
 }
@@ -191,33 +164,20 @@ pub fn raise(
     ctl: &mut [u32],
     regs: Regs,
     code: u32,
-) -> Outcome
+) -> Result<Regs, Uncaught>
     requires { Raises file.now table.now regs main.old ptr.old ctl.old }
-    ensures { (heap : List ℕ) → record {
-      on = result.on;
-      code = result.code;
-      state = record {
-        regs = result.regs;
-        main = main.new;
-        ptr = ptr.new;
-        ctl = ctl.new;
-        heap = heap;
-      };
-    } ≡ ended_of (raised file.now (record {
-      regs = regs;
-      main = main.old;
-      ptr = ptr.old;
-      ctl = ctl.old;
-      heap = heap;
-    }) code) }
+    ensures { (heap : List ℕ) → ended result regs (λ r. record { regs = r; main = main.new; ptr = ptr.new; ctl = ctl.new; heap = heap })
+        ≡ raised file.now (record {
+          regs = regs;
+          main = main.old;
+          ptr = ptr.old;
+          ctl = ctl.old;
+          heap = heap;
+        }) code }
 {
     let handler = regs.handler;
     if handler == 0 {
-        return Outcome {
-            on: false,
-            code,
-            regs,
-        };
+        return Err(Uncaught { code });
     }
     let guard = control_stack::handler_at(ctl, handler - 1);
     let place = target(file, table, ctl, guard.opened, guard.frame);
@@ -227,15 +187,11 @@ pub fn raise(
     apply_words::cut_to(ptr, guard.ptr_top, regs.ptop);
     unwind(ctl, under, regs.ctop);
     main[top] = code;
-    let next = resume(guard, place, handler, regs.state);
-    Outcome {
-        on: true,
-        code: 0,
-        regs: next,
-    }
+    Ok(resume(guard, place, handler, regs.state))
 }
 
 // The code of the exception that a plan raises.
+#[tactic(auto, unfolding(crate::specs::Ended::raised_by))]
 pub fn code_of(plan: Plan, main: &[u32], mtop: usize) -> u32
     requires { (mtop ≤ length main.now) × (plan ≡ Plan.Thrown → 1 ≤ mtop) }
     ensures { result ≡ raised_by main.now mtop plan }
@@ -254,6 +210,7 @@ pub fn code_of(plan: Plan, main: &[u32], mtop: usize) -> u32
 }
 
 // What a plan comes to that `apply` left, or that is no write and so raises. An instruction on reals comes here only if its result is not finite.
+#[tactic(auto, unfolding(plan_meaning::specs::Settled::settle))]
 pub fn step_with(
     file: &[u8],
     table: &[usize; PROCS_MOST],
@@ -263,35 +220,21 @@ pub fn step_with(
     heap: &mut [u32],
     regs: Regs,
     plan: Plan,
-) -> Outcome
+) -> Result<Regs, Uncaught>
     requires { Settles file.now table.now (record { regs = regs; main = main.old; ptr = ptr.old; ctl = ctl.old; heap = heap.old }) plan × Later regs plan
         × RealRaises file.now (record { regs = regs; main = main.old; ptr = ptr.old; ctl = ctl.old; heap = heap.old }) plan }
-    ensures { record {
-      on = result.on;
-      code = result.code;
-      state = record {
-        regs = result.regs;
-        main = main.new;
-        ptr = ptr.new;
-        ctl = ctl.new;
-        heap = heap.new;
-      };
-    } ≡ ended_of (settle file.now (record {
-      regs = regs;
-      main = main.old;
-      ptr = ptr.old;
-      ctl = ctl.old;
-      heap = heap.old;
-    }) plan) }
+    ensures { ended result regs (λ r. record { regs = r; main = main.new; ptr = ptr.new; ctl = ctl.new; heap = heap.new })
+        ≡ settle file.now (record {
+          regs = regs;
+          main = main.old;
+          ptr = ptr.old;
+          ctl = ctl.old;
+          heap = heap.old;
+        }) plan }
 {
     let Plan::Write(put) = plan else {
         let code = code_of(plan, main, regs.mtop);
         return raise(file, table, main, ptr, ctl, regs, code);
     };
-    let next = apply_late(main, ptr, ctl, heap, regs, put);
-    Outcome {
-        on: true,
-        code: 0,
-        regs: next,
-    }
+    Ok(apply_late(main, ptr, ctl, heap, regs, put))
 }

@@ -11,28 +11,9 @@ ghost use Rattle.apply_words.specs.Asks.{Plain, Retract, Dropping, InMain, InPtr
 use model::Regs;
 use plan_meaning::{Into, Put};
 
-// Zeroes the words from new to old, the top so far.
-fn clear(l: &mut [u32], new: usize, old: usize)
-    requires { (new ≤ old) × Topped old l.old }
-    ensures { l.new ≡ cut new l.old }
-{
-    let mut i = old;
-    while new < i {
-        i -= 1;
-        l[i] = 0;
-    }
-}
-
-// The stack cut to its new top where at most one word goes, with no loop: a loop among the steps of a run takes the registers that these need.
-fn pop_one(l: &mut [u32], new: usize, old: usize)
-    requires { Topped old l.old × (old ≤ new + 1) }
-    ensures { l.new ≡ cut new l.old }
-{
-    if old <= new {
-        return;
-    }
-    l[new] = 0;
-}
+// The stack cut to its new top, with no loop: a loop among the steps of a run takes the registers that these need. A caller takes the function whose bound on
+// the words that go it knows, and so the fewest tests. No const parameter makes one of them: that of the halves would have to be computed, which the language
+// does not do, and a trait with a type for each bound is longer than what it would save.
 
 // Where exactly one goes: no test.
 fn pop_last(l: &mut [u32], new: usize, old: usize)
@@ -50,6 +31,17 @@ fn pop_some(l: &mut [u32], new: usize, old: usize)
     let last = old - 1;
     l[last] = 0;
     l[new] = 0;
+}
+
+// Where at most one goes.
+fn pop_one(l: &mut [u32], new: usize, old: usize)
+    requires { Topped old l.old × (old ≤ new + 1) }
+    ensures { l.new ≡ cut new l.old }
+{
+    if old <= new {
+        return;
+    }
+    pop_last(l, new, old);
 }
 
 // Where at most two go.
@@ -103,7 +95,7 @@ pub fn cut_to(l: &mut [u32], new: usize, old: usize)
         pop_eight(l, new, old);
         return;
     }
-    clear(l, new, old);
+    l[new..old].fill(0);
 }
 
 // 73 in the first frame: the run is finished.
@@ -117,10 +109,9 @@ pub fn finish(ctl: &mut [u32], regs: Regs) -> Regs
         place: 0,
         frame: 0,
         handler: 0,
-        mtop: regs.mtop,
-        ptop: regs.ptop,
         ctop: 0,
         state: 1,
+        ..regs
     }
 }
 
@@ -131,15 +122,9 @@ fn put_back(main: &mut [u32], ptr: &mut [u32], put: Put)
         → record { regs = onwards put m.regs; main = main.new; ptr = ptr.new; ctl = m.ctl; heap = m.heap }
         ≡ plain_write put.into put m }
 {
-    let into = put.into;
-    let at = put.at;
-    match into {
-        Into::DropMain => {
-            main[at] = put.word;
-        }
-        Into::DropPointer => {
-            ptr[at] = put.word;
-        }
+    match put.into {
+        Into::DropMain => main[put.at] = put.word,
+        Into::DropPointer => ptr[put.at] = put.word,
         _ => {}
     }
 }
@@ -190,9 +175,8 @@ pub fn plain(main: &mut [u32], ptr: &mut [u32], heap: &mut [u32], regs: Regs, pu
     } ≡ tried_write result put.into put (record { regs = regs; main = main.old; ptr = ptr.old; ctl = ctl; heap = heap.old }) }
     ensures undone { result ≡ false → Retract put.into }
 {
-    let into = put.into;
     let at = put.at;
-    match into {
+    match put.into {
         Into::Nothing => true,
         Into::Pop => {
             pop_last(main, put.mtop, regs.mtop);

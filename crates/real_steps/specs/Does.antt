@@ -1,5 +1,5 @@
 -- What doing an instruction on reals comes to is its rule, and what is asked for it. The words written one after another are words pushed.
-use Rattle.std.specs.Prelude.{ℕ, ◌+◌, ◌-◌, ◌/◌, ◌%◌, ◌<◌, ◌≤◌, Bool, true, false, List, [], ◌∷◌, ◌≡◌, refl, Float, length, set}
+use Rattle.std.specs.Prelude.{ℕ, ◌+◌, ◌-◌, ◌/◌, ◌%◌, ◌<◌, ◌≤◌, Option, Some, None, true, List, [], ◌∷◌, ◌≡◌, refl, Float, length, set}
 use Rattle.std.proofs.Math.Logic.{inl, inr}
 use native.Mathlib.Omega.{arith}
 use Rattle.std.specs.Float.{binary64}
@@ -33,16 +33,16 @@ abbrev pub moved_on : Regs → ℕ → ℕ → Regs
 moved_on r q t =
     record { place = q; frame = r.frame; handler = r.handler; mtop = t; ptop = r.ptop; ctop = r.ctop; state = r.state }
 
--- done, or that 1 is raised
-abbrev pub came_to : Bool → Machine → Result
-came_to true m = done m
-came_to false m = fails out_of_range
+-- done, with the registers then, or 1 is raised
+abbrev pub came_to : Option Regs → (Regs → Machine) → Result
+came_to (Some r) m = done (m r)
+came_to None m = fails out_of_range
 
--- from the main stack l and the registers r to l' and r', or to exception 1: as the rule of i says, whatever the other lists are
-abbrev pub Does : List ℕ → Regs → ℕ → Bool → Regs → List ℕ → Ins → Type 0
-Does l r q t r' l' i =
+-- from the main stack l and the registers r to l' and the registers given, or to exception 1: as the rule of i says, whatever the other lists are
+abbrev pub Does : List ℕ → Regs → ℕ → Option Regs → List ℕ → Ins → Type 0
+Does l r q t l' i =
     (f ptr ctl heap : List ℕ) →
-    came_to t (record { regs = r'; main = l'; ptr = ptr; ctl = ctl; heap = heap })
+    came_to t (λ r'. record { regs = r'; main = l'; ptr = ptr; ctl = ctl; heap = heap })
     ≡ rule f (record { regs = r; main = l; ptr = ptr; ctl = ctl; heap = heap }) q i
 
 -- what is asked: an instruction on reals stands at the place, its record is in the file, the words popped are there, and those pushed fit

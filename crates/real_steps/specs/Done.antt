@@ -1,6 +1,6 @@
 -- Each instruction on reals, done word by word, is its rule: the words read are those that the rule names from the top, and words written one above another
 -- are words pushed.
-use Rattle.std.specs.Prelude.{ℕ, ◌+◌, ◌-◌, ◌≤◌, Bool, true, false, ◌&&◌, List, ◌≡◌, Float, set}
+use Rattle.std.specs.Prelude.{ℕ, ◌+◌, ◌-◌, ◌≤◌, Some, None, Bool, true, false, ◌&&◌, List, ◌≡◌, Float, set}
 use Rattle.std.proofs.Math.Path.{refl}
 use native.Mathlib.Omega.{arith}
 use Rattle.std.specs.Float.Ieee.Scale.{finite}
@@ -37,7 +37,7 @@ module _ (l : List ℕ) (r : Regs) (q : ℕ) where
   top = r.mtop
 
   pub literal-done : (f : List ℕ) (p h w : ℕ) → h ≡ operand4 f p → w ≡ operand_low f p →
-      Does l r q true (moved_on r q (top + 2)) (set (set l top h) (top + 1) w) (ins_of f p 53)
+      Does l r q (Some (moved_on r q (top + 2))) (set (set l top h) (top + 1) w) (ins_of f p 53)
   unfolding rule basic_rule ins_of
   literal-done f p h w eh ew = λ g ptr ctl heap. let e : top + 1 + 1 ≡ top + 2 = omega arith in rw (eh, ew, e)
 
@@ -46,7 +46,7 @@ module _ (l : List ℕ) (r : Regs) (q : ℕ) where
     at = top - 4
 
     module _ (o : RealOp) (x : Float) (is : x ≡ operate_reals o (real_at l at) (real_at l (at + 2))) where
-      pub operation-done : finite x ≡ true → Does l r q true (moved_on r q (at + 2)) (put_real (cut at l) at x) (basic (real o))
+      pub operation-done : finite x ≡ true → Does l r q (Some (moved_on r q (at + 2))) (put_real (cut at l) at x) (basic (real o))
       unfolding rule basic_rule words_of all_finite
       operation-done t =
           λ f ptr ctl heap.
@@ -56,7 +56,7 @@ module _ (l : List ℕ) (r : Regs) (q : ℕ) where
           let e : at + 1 + 1 ≡ at + 2 = omega arith in
           rw (e3, e2, e1, ← is, t, e)
 
-      pub operation-raises : finite x ≡ false → Does l r q false r l (basic (real o))
+      pub operation-raises : finite x ≡ false → Does l r q None l (basic (real o))
       unfolding rule basic_rule all_finite
       operation-raises t =
           λ f ptr ctl heap.
@@ -66,7 +66,7 @@ module _ (l : List ℕ) (r : Regs) (q : ℕ) where
           rw (e3, e2, e1, ← is, t)
 
     pub less_done : (w : ℕ) → w ≡ bit (less_reals (real_at l at) (real_at l (at + 2))) →
-        Does l r q true (moved_on r q (at + 1)) (set (cut at l) at w) (basic real_less)
+        Does l r q (Some (moved_on r q (at + 1))) (set (cut at l) at w) (basic real_less)
     unfolding rule basic_rule
     less_done w is =
         λ f ptr ctl heap.
@@ -100,7 +100,7 @@ module _ (l : List ℕ) (r : Regs) (q : ℕ) where
           )
 
       pub hoop-done : (finite p.across && finite p.along) ≡ true →
-          Does l r q true (moved_on r q (low + 4)) (put_real (put_real (cut low l) low p.across) (low + 2) p.along) (basic hoop)
+          Does l r q (Some (moved_on r q (low + 4))) (put_real (put_real (cut low l) low p.across) (low + 2) p.along) (basic hoop)
       unfolding words_of all_finite
       hoop-done t =
           λ f ptr ctl heap.
@@ -108,7 +108,7 @@ module _ (l : List ℕ) (r : Regs) (q : ℕ) where
           let four : low + 2 + 1 + 1 ≡ low + 4 = omega arith in
           rw (hoop-point f ptr ctl heap, and-true (finite p.across) (finite p.along), t, two, four)
 
-      pub hoop-raises : (finite p.across && finite p.along) ≡ false → Does l r q false r l (basic hoop)
+      pub hoop-raises : (finite p.across && finite p.along) ≡ false → Does l r q None l (basic hoop)
       unfolding all_finite
       hoop-raises t =
           λ f ptr ctl heap. rw (hoop-point f ptr ctl heap, and-true (finite p.across) (finite p.along), t)

@@ -1,7 +1,8 @@
-// Manual 4.31 to 4.34: the instructions on reals, done: the result worked out and tested, then words popped and its words pushed.
+// Manual 4.31 to 4.34: the instructions on reals, done: the result worked out and tested, then words popped and its words pushed. Each gives the registers
+// after it, or nothing where its result is not finite: then nothing is touched.
 #![tactic(auto)]
 
-ghost use Rattle.std.specs.Prelude.{◌≡◌, true, false, List, ◌⊎◌, ℕ, ◌+◌, ◌<◌, ◌≤◌, length};
+ghost use Rattle.std.specs.Prelude.{◌≡◌, true, List, ◌⊎◌, ℕ, ◌+◌, ◌<◌, ◌≤◌, length, IfNone, IfSome};
 ghost use Rattle.std.specs.Float.Ieee.Scale.{finite};
 ghost use Rattle.model.specs.File as model;
 ghost use Rattle.model.specs.Calls.{main_most};
@@ -12,35 +13,15 @@ ghost use Rattle.real_steps.specs.Does.{real_at, point_at, put_real, moved_on, D
 use model::Regs;
 use reals::Point;
 
-// What an instruction on reals comes to: the registers after it, or that its result is not finite, nothing being touched.
-#[derive(Clone, Copy)]
-pub struct Moved {
-    pub done: bool,
-    pub regs: Regs,
-}
-
 // On to the next place, with another top of the main stack.
-fn goes_on(regs: Regs, next: usize, top: usize) -> Moved
-    ensures { result ≡ record { done = true; regs = moved_on regs next top } }
+fn goes_on(regs: Regs, next: usize, top: usize) -> Regs
+    ensures { result ≡ moved_on regs next top }
 {
-    Moved {
-        done: true,
-        regs: Regs {
-            place: next,
-            frame: regs.frame,
-            handler: regs.handler,
-            mtop: top,
-            ptop: regs.ptop,
-            ctop: regs.ctop,
-            state: regs.state,
-        },
+    Regs {
+        place: next,
+        mtop: top,
+        ..regs
     }
-}
-
-fn not_finite(regs: Regs) -> Moved
-    ensures { result ≡ record { done = false; regs = regs } }
-{
-    Moved { done: false, regs }
 }
 
 // The real whose high word is at i.
@@ -73,75 +54,75 @@ fn put_real(main: &mut [u32], i: usize, x: f64)
 }
 
 // 53: no f64 is made of its words, so that every pattern stays as it is.
-fn literal(file: &[u8], main: &mut [u32], regs: Regs, next: usize) -> Moved
+fn literal(file: &[u8], main: &mut [u32], regs: Regs, next: usize) -> Option<Regs>
     requires { (regs.place + 8 < length file.now) × (regs.mtop + 1 < length main.old) }
-    ensures does { Does main.old regs next result.done result.regs main.new (model.ins_of file.now regs.place 53) }
-    ensures kept { result.done ≡ false → main.new ≡ main.old }
-    ensures running { result.regs.state ≡ regs.state }
+    ensures does { Does main.old regs next result main.new (model.ins_of file.now regs.place 53) }
+    ensures kept { IfNone result (main.new ≡ main.old) }
+    ensures running { IfSome result (λ r. r.state ≡ regs.state) }
 {
     let top = regs.mtop;
     main[top] = code_file::operand4(file, regs.place);
     main[top + 1] = code_file::operand_low(file, regs.place);
-    goes_on(regs, next, top + 2)
+    Some(goes_on(regs, next, top + 2))
 }
 
 // 150 to 153.
-fn operation(main: &mut [u32], regs: Regs, next: usize, kind: u8) -> Moved
+fn operation(main: &mut [u32], regs: Regs, next: usize, kind: u8) -> Option<Regs>
     requires { Topped regs.mtop main.old × (4 ≤ regs.mtop) × ((kind ≡ 150) ⊎ ((kind ≡ 151) ⊎ ((kind ≡ 152) ⊎ (kind ≡ 153)))) }
-    ensures does { (f : List ℕ) (p : ℕ) → Does main.old regs next result.done result.regs main.new (model.ins_of f p kind) }
-    ensures kept { result.done ≡ false → main.new ≡ main.old }
-    ensures running { result.regs.state ≡ regs.state }
+    ensures does { (f : List ℕ) (p : ℕ) → Does main.old regs next result main.new (model.ins_of f p kind) }
+    ensures kept { IfNone result (main.new ≡ main.old) }
+    ensures running { IfSome result (λ r. r.state ≡ regs.state) }
 {
     let at = regs.mtop - 4;
     let x = reals::operate(kind, real_at(main, at), real_at(main, at + 2));
-    if reals::is_finite(x) {
-        apply_words::cut_to(main, at, regs.mtop);
-        put_real(main, at, x);
-        return goes_on(regs, next, at + 2);
+    if !x.is_finite() {
+        return None;
     }
-    not_finite(regs)
+    apply_words::cut_to(main, at, regs.mtop);
+    put_real(main, at, x);
+    Some(goes_on(regs, next, at + 2))
 }
 
 // 155.
-fn less(main: &mut [u32], regs: Regs, next: usize) -> Moved
+fn less(main: &mut [u32], regs: Regs, next: usize) -> Option<Regs>
     requires { Topped regs.mtop main.old × (4 ≤ regs.mtop) }
-    ensures does { Does main.old regs next result.done result.regs main.new (model.basic model.real_less) }
-    ensures kept { result.done ≡ false → main.new ≡ main.old }
-    ensures running { result.regs.state ≡ regs.state }
+    ensures does { Does main.old regs next result main.new (model.basic model.real_less) }
+    ensures kept { IfNone result (main.new ≡ main.old) }
+    ensures running { IfSome result (λ r. r.state ≡ regs.state) }
 {
     let at = regs.mtop - 4;
     let word = reals::less(real_at(main, at), real_at(main, at + 2));
     apply_words::cut_to(main, at, regs.mtop);
     main[at] = word;
-    goes_on(regs, next, at + 1)
+    Some(goes_on(regs, next, at + 1))
 }
 
 // 156.
-fn hoop(main: &mut [u32], regs: Regs, next: usize) -> Moved
+fn hoop(main: &mut [u32], regs: Regs, next: usize) -> Option<Regs>
     requires { Topped regs.mtop main.old × (10 ≤ regs.mtop) × (length main.old ≤ main_most) }
-    ensures does { Does main.old regs next result.done result.regs main.new (model.basic model.hoop) }
-    ensures kept { result.done ≡ false → main.new ≡ main.old }
-    ensures running { result.regs.state ≡ regs.state }
+    ensures does { Does main.old regs next result main.new (model.basic model.hoop) }
+    ensures kept { IfNone result (main.new ≡ main.old) }
+    ensures running { IfSome result (λ r. r.state ≡ regs.state) }
 {
     let at = regs.mtop - 10;
     let shift = point_at(main, at + 4);
     let scale = real_at(main, at + 8);
-    let point = point_at(main, at).scaled(scale).shifted(shift);
-    if point.is_finite() {
-        apply_words::cut_to(main, at, regs.mtop);
-        put_real(main, at, point.across);
-        put_real(main, at + 2, point.along);
-        return goes_on(regs, next, at + 4);
+    let point = point_at(main, at) * scale + shift;
+    if !point.is_finite() {
+        return None;
     }
-    not_finite(regs)
+    apply_words::cut_to(main, at, regs.mtop);
+    put_real(main, at, point.across);
+    put_real(main, at + 2, point.along);
+    Some(goes_on(regs, next, at + 4))
 }
 
 // The instruction on reals at the machine's place; body is the place behind its code.
-pub fn step(file: &[u8], main: &mut [u32], regs: Regs, body: usize) -> Moved
+pub fn step(file: &[u8], main: &mut [u32], regs: Regs, body: usize) -> Option<Regs>
     requires { RealHere file.now main.old regs × (body ≡ regs.place + 1) }
-    ensures does { Does main.old regs (model.after file.now regs.place) result.done result.regs main.new (model.ins_at file.now regs.place) }
-    ensures kept { result.done ≡ false → main.new ≡ main.old }
-    ensures running { result.regs.state ≡ regs.state }
+    ensures does { Does main.old regs (model.after file.now regs.place) result main.new (model.ins_at file.now regs.place) }
+    ensures kept { IfNone result (main.new ≡ main.old) }
+    ensures running { IfSome result (λ r. r.state ≡ regs.state) }
 {
     let place = regs.place;
     let kind = file[place];

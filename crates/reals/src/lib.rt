@@ -11,6 +11,16 @@ ghost use Rattle.model.specs.Reals.{words_many, real_of, less_reals, scaled, shi
 ghost use Rattle.laws_file.specs.Codes.{is_real?};
 ghost use Rattle.reals.specs.Given.{Operates, as_point};
 
+use std::ops::{Add, Mul};
+
+// A pattern is 64 bits: above them all is the sign's, and an infinity is the greatest pattern below it that is no NaN's.
+const SIGN: u64 = 1 << 63;
+
+const INFINITY: u64 = f64::to_bits(f64::INFINITY);
+
+// How many words there are.
+const WORDS: u64 = 1 << 32;
+
 // A hoop point: two reals.
 #[derive(Clone, Copy)]
 pub struct Point {
@@ -22,7 +32,7 @@ pub struct Point {
 fn pattern(high: u32, low: u32) -> u64
     ensures { result ≡ high * words_many + low }
 {
-    (high as u64) * 4294967296 + (low as u64)
+    u64::from(high) << 32 | u64::from(low)
 }
 
 // The real that two words are. `from_bits` is not defined at a NaN's pattern, so that the pattern is tested first, as a number: without its sign's bit
@@ -31,17 +41,11 @@ pub fn real_of(high: u32, low: u32) -> f64
     ensures { result ≡ real_of high low }
 {
     let bits = pattern(high, low);
-    if bits % 9223372036854775808 <= 9218868437227405312 {
-        return f64::from_bits(bits);
+    if bits % SIGN <= INFINITY {
+        f64::from_bits(bits)
+    } else {
+        f64::NAN
     }
-    0.0 / 0.0
-}
-
-// Neither a NaN nor an infinity: an infinity less itself is a NaN, and a NaN equals nothing.
-pub fn is_finite(x: f64) -> bool
-    ensures { result ≡ finite x }
-{
-    x - x == 0.0
 }
 
 // The words of a real that is finite.
@@ -49,28 +53,24 @@ pub fn high_word(x: f64) -> u32
     requires { finite x ≡ true }
     ensures { result ≡ to_bits binary64 x / words_many }
 {
-    (f64::to_bits(x) / 4294967296) as u32
+    (x.to_bits() >> 32) as u32
 }
 
 pub fn low_word(x: f64) -> u32
     requires { finite x ≡ true }
     ensures { result ≡ to_bits binary64 x % words_many }
 {
-    (f64::to_bits(x) % 4294967296) as u32
+    (x.to_bits() % WORDS) as u32
 }
 
-// Whether a code stands for an instruction on reals. No arm has neighbouring codes: for those the language tests a range first.
+// Whether a code stands for an instruction on reals. No alternatives are neighbouring codes: for those the language tests a range first.
 pub fn is_real(kind: u8) -> bool
     ensures { (f : List ℕ) (p : ℕ) → result ≡ is_real? (ins_of f p kind) }
 {
-    match kind {
-        53 | 150 | 152 | 155 => true,
-        151 | 153 | 156 => true,
-        _ => false,
-    }
+    matches!(kind, 53 | 150 | 152 | 155) || matches!(kind, 151 | 153 | 156)
 }
 
-// 150 to 153.
+// 150 to 153: the match on the code's number, the last arm for 153.
 pub fn operate(kind: u8, a: f64, b: f64) -> f64
     requires { (kind ≡ 150) ⊎ ((kind ≡ 151) ⊎ ((kind ≡ 152) ⊎ (kind ≡ 153))) }
     ensures { Operates kind a b result }
@@ -87,37 +87,42 @@ pub fn operate(kind: u8, a: f64, b: f64) -> f64
 pub fn less(a: f64, b: f64) -> u32
     ensures { result ≡ bit (less_reals a b) }
 {
-    if a < b { 1 } else { 0 }
+    u32::from(a < b)
 }
 
 impl Point {
-    // Each product is rounded once.
-    pub fn scaled(self, by: f64) -> Point
-        ensures { as_point result ≡ scaled by (as_point self) }
+    // Both its reals are.
+    pub fn is_finite(self) -> bool
+        ensures { result ≡ (finite self.across && finite self.along) }
     {
+        self.across.is_finite() && self.along.is_finite()
+    }
+}
+
+// Each product is rounded once.
+impl Mul<f64> for Point {
+    type Output = Point;
+
+    ghost mul_gives = { λ p by r. as_point r ≡ scaled by (as_point p) };
+
+    fn mul(self, by: f64) -> Point {
         Point {
             across: self.across * by,
             along: self.along * by,
         }
     }
+}
 
-    // Each sum is rounded once.
-    pub fn shifted(self, by: Point) -> Point
-        ensures { as_point result ≡ shifted (as_point by) (as_point self) }
-    {
+// Each sum is rounded once.
+impl Add for Point {
+    type Output = Point;
+
+    ghost add_gives = { λ p by r. as_point r ≡ shifted (as_point by) (as_point p) };
+
+    fn add(self, by: Point) -> Point {
         Point {
             across: self.across + by.across,
             along: self.along + by.along,
         }
-    }
-
-    // Both its reals are.
-    pub fn is_finite(self) -> bool
-        ensures { result ≡ (finite self.across && finite self.along) }
-    {
-        if is_finite(self.across) {
-            return is_finite(self.along);
-        }
-        false
     }
 }

@@ -1,5 +1,5 @@
 -- Instructions on reals, one after another, are steps of the run, whatever the lists that they leave alone; where one is left, it raises 1.
-use Rattle.std.specs.Prelude.{ℕ, ◌+◌, ◌-◌, ◌<◌, ◌≤◌, Bool, true, false, List, ◌≡◌, refl, length}
+use Rattle.std.specs.Prelude.{ℕ, ◌+◌, ◌-◌, ◌<◌, ◌≤◌, Some, None, Bool, true, false, List, ◌≡◌, refl, length}
 use Rattle.std.proofs.Common.{true≢false, ap, ◌∙◌, arith}
 use Rattle.std.proofs.Math.Path.{sym}
 use Rattle.model.specs.File.{byte_at, after, ins_of, ins_at}
@@ -115,27 +115,28 @@ module _ {f l : List ℕ} {r : Regs} {p : ℕ} (A : AtReal f l r p) where
       (record { real = A.real; inside = S.inside; pops = S.pops; pushes = S.pushes; topped = R.main_top; few = R.main_at_most }, A.body)
 
   -- it was done: one step more
-  module _ (t : Bool) (l' : List ℕ) (r' : Regs) (D : Does l r (after f r.place) t r' l' (ins_at f r.place)) where
-    pub reckons-step : {l₀ : List ℕ} {r₀ : Regs} {n₀ n : ℕ} → Reckons f l₀ r₀ n₀ l r n → 0 < n → t ≡ true → r'.state ≡ r.state → length l' ≡ length l →
+  module _ (l' : List ℕ) (r' : Regs) (D : Does l r (after f r.place) (Some r') l' (ins_at f r.place)) where
+    pub reckons-step : {l₀ : List ℕ} {r₀ : Regs} {n₀ n : ℕ} → Reckons f l₀ r₀ n₀ l r n → 0 < n → r'.state ≡ r.state → length l' ≡ length l →
         Reckons f l₀ r₀ n₀ l' r' (n - 1)
-    reckons-step K some d s k =
+    reckons-step K some s k =
         record {
           going =
               λ o R.
               let G = K.going o R in
-              let w = real-done f (with o r l) _ (with o r' l') (rw d at (D f o.ptr o.ctl o.heap)) in
+              let w = real-done f (with o r l) _ (with o r' l') (D f o.ptr o.ctl o.heap) in
               let e = sym (alive-plan G.runs.alive A.on?) ∙ (ap (settle f (with o r l)) (real-plan f (with o r l) A.real) ∙ w) in
               going_step G some A.on? e (record { main = k; ptr = refl; ctl = refl; heap = refl });
           state = s ∙ K.state;
           kept = k ∙ K.kept;
         }
 
-    pub reals-on : t ≡ true → r'.state ≡ r.state → length l' ≡ length l → Runs f A.rest.table (with A.rest r' l')
-    reals-on d s k = ((reckons-step (reckons-none {n = 1}) (omega arith) d s k).going A.rest A.runs).runs
+    pub reals-on : r'.state ≡ r.state → length l' ≡ length l → Runs f A.rest.table (with A.rest r' l')
+    reals-on s k = ((reckons-step (reckons-none {n = 1}) (omega arith) s k).going A.rest A.runs).runs
 
-    -- its result was not finite
-    pub reals-raise : t ≡ false → (o : Rest) (q : ℕ) → settle f (with o r l) (Real q) ≡ raised f (with o r l) (code_of out_of_range)
-    reals-raise d o q = real-raised f (with o r l) q (rw d at (D f o.ptr o.ctl o.heap))
+  -- its result was not finite
+  pub reals-raise : (l' : List ℕ) → Does l r (after f r.place) None l' (ins_at f r.place) →
+      (o : Rest) (q : ℕ) → settle f (with o r l) (Real q) ≡ raised f (with o r l) (code_of out_of_range)
+  reals-raise l' D o q = real-raised f (with o r l) q (D f o.ptr o.ctl o.heap)
 
 -- where no instruction on reals is left, or no step
 module _ {f table : List ℕ} {n n' : ℕ} {m m' : Machine} {plan : Plan} (P : Paused f table n m n' m' plan) where

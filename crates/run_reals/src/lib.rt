@@ -13,14 +13,11 @@ use run_steps::Pause;
 pub fn at_real(pause: Pause) -> bool
     ensures { result ≡ at_real? pause.plan }
 {
-    let plan = pause.plan;
-    let Plan::Real(_) = plan else {
-        return false;
-    };
-    true
+    matches!(pause.plan, Plan::Real(_))
 }
 
-// Where instructions on reals leave the machine: behind them, or before one whose result is not finite.
+// Where instructions on reals leave the machine: behind them, or before one whose result is not finite. Both have the same values, so that a flag tells them apart:
+// with a variant for each they would stand twice.
 #[derive(Clone, Copy)]
 struct Past {
     finite: bool,
@@ -38,17 +35,15 @@ fn reckon(file: &[u8], main: &mut [u32], regs: Regs, body: usize, budget: u32) -
     let mut at = body;
     let mut left = budget;
     while 0 < left {
-        let after = left - 1;
-        let moved = real_steps::step(file, main, r, at);
-        if !moved.done {
+        let Some(next) = real_steps::step(file, main, r, at) else {
             return Past {
                 finite: false,
                 regs: r,
                 left,
             };
-        }
-        r = moved.regs;
-        left = after;
+        };
+        r = next;
+        left -= 1;
         let place = r.place;
         if !reals::is_real(file[place]) {
             return Past {
@@ -95,8 +90,7 @@ pub fn go_on(
 {
     let mut at = pause;
     while 0 < at.left {
-        let plan = at.plan;
-        let Plan::Real(body) = plan else {
+        let Plan::Real(body) = at.plan else {
             return at;
         };
         let past = reckon(file, main, at.regs, body, at.left);

@@ -1,18 +1,16 @@
 -- Steps of a run: what is left of the budget decides what the rest of the run comes to, and soundness is kept. Steps add up.
 use Prim.Native.Nat.{ℕ, suc, ◌+◌, ◌-◌, ◌<◌, ◌≤◌}
-use Rattle.std.specs.Prelude.{Bool, true, false, List, ◌≡◌, refl, length}
+use Rattle.std.specs.Prelude.{List, ◌≡◌, refl, length}
 use Rattle.std.proofs.Math.Path.{ap}
-use Rattle.std.proofs.Common.{sym, ◌∙◌, subst, ne_eqb}
+use Rattle.std.proofs.Common.{sym, ◌∙◌, ne_eqb}
 use native.Mathlib.Omega.{arith}
-use Rattle.model.specs.Control.{Machine, set_regs}
+use Rattle.model.specs.Control.{Machine}
 use Rattle.plan_meaning.specs.Planned.{plan_at}
 use Rattle.model.specs.Step.{next, step, run_on}
-use Rattle.plan_meaning.specs.Settled.{settle}
+use Rattle.plan_meaning.specs.Settled.{settle, applied}
 use Rattle.theory_step.specs.Alive.{Alive, alive-step}
 use Rattle.theory_step.specs.Settling.{alive-plan}
-use Rattle.apply.specs.Applies.{Late, Later, applied_if}
-use Rattle.model.specs.declared.Regs.{Regs}
-use Rattle.run_steps.specs.declared.Pause.{Pause}
+use Rattle.apply.specs.Applies.{Later}
 use Rattle.plan_meaning.specs.declared.Put.{Put}
 use Rattle.plan_meaning.specs.declared.Plan.{Plan}
 use Rattle.plan_meaning.specs.declared.Plan.TheVariants.{Write}
@@ -32,9 +30,6 @@ pub record SameLengths (m m₀ : Machine) : Type 0 where
 pub alike-trans : {m m' m'' : Machine} → SameLengths m'' m' → SameLengths m' m → SameLengths m'' m
 alike-trans a b = record { main = a.main ∙ b.main; ptr = a.ptr ∙ b.ptr; ctl = a.ctl ∙ b.ctl; heap = a.heap ∙ b.heap }
 
-abbrev pub paused_at : Plan → Regs → ℕ → Pause
-paused_at p r n = record { plan = p; regs = r; left = n }
-
 -- with n steps left the machine is at m, and with n' left at m': the rest of the run is the same, however many steps were done before
 pub record Going (f table : List ℕ) (n : ℕ) (m : Machine) (n' : ℕ) (m' : Machine) : Type 0 where
   pub less : n' ≤ n
@@ -53,15 +48,9 @@ pub record Paused (f table : List ℕ) (n : ℕ) (m : Machine) (n' : ℕ) (m' : 
   pub on? : m'.regs.state ≡ 1 → ⊥
   pub stopped : 0 < n' → PlanPaused f m' plan
 
--- no plan writes, or the write was not done: the plan is settled apart
+-- a plan that does not write is settled apart
 pub stopped-raise : {f : List ℕ} {m : Machine} {plan : Plan} → plan ≡ plan_at f m → ((put : Put) → plan ≡ Write put → ⊥) → PlanPaused f m plan
 stopped-raise e never = record { is = e; late = λ put u. absurd (never put u) }
-
-stopped-late : (f : List ℕ) (m : Machine) (put : Put) → Write put ≡ plan_at f m → Late put.into m.regs → PlanPaused f m (Write put)
-stopped-late f m put e L = record { is = e; late = λ put' u. subst (λ (p : Put). Late p.into m.regs) (write-one put put' u) L }
-  where
-    write-one : (p q : Put) → Write p ≡ Write q → p ≡ q
-    write-one p q u = cc
 
 module _ {f table : List ℕ} where
   pub going_start : {n : ℕ} {m : Machine} → Runs f table m → Going f table n m n m
@@ -106,16 +95,9 @@ module _ {f table : List ℕ} where
         alike = a;
       })
 
--- a plan's write was done, which is a step; or it was not, and all is as it was
+-- a plan's write was done, which is a step
 module _ {f table : List ℕ} {n₀ n : ℕ} {m₀ m : Machine} (G : Going f table n₀ m₀ n m) (on? : m.regs.state ≡ 1 → ⊥)
-    {put : Put} {b : Bool} {m' : Machine} (e : Write put ≡ plan_at f m) where
-  pub going-applied : 0 < n → b ≡ true → m' ≡ applied_if b f put m → SameLengths m' m → Going f table n₀ m₀ (n - 1) m'
+    {put : Put} {m' : Machine} (e : Write put ≡ plan_at f m) where
+  pub going-applied : 0 < n → m' ≡ applied f put m → SameLengths m' m → Going f table n₀ m₀ (n - 1) m'
   unfolding settle
-  going-applied some d a l =
-      going_step G some on? (sym (alive-plan G.runs.alive on?) ∙ rw (← e) (ap next (sym (rw d at a)))) l
-
-  pub paused-late : {r : Regs} → m'.regs ≡ m.regs → b ≡ false → set_regs r m' ≡ applied_if b f put m → (b ≡ false → Late put.into m.regs) →
-      Paused f table n₀ m₀ n m' (Write put)
-  paused-late q d a l =
-      let k : m' ≡ m = ap (set_regs m'.regs) (rw d at a) ∙ ap (λ (x : Regs). set_regs x m) q in
-      rw k (record { going = G; on? = on?; stopped = λ h. stopped-late f m put e (l d) })
+  going-applied some a l = going_step G some on? (sym (alive-plan G.runs.alive on?) ∙ rw (← e) (ap next (sym a))) l

@@ -2,11 +2,10 @@
 #![tactic(auto)]
 
 ghost use Rattle.std.specs.Prelude.{◌≡◌};
-ghost use Rattle.run_steps.specs.Going.{Runs, Paused, paused_at};
+ghost use Rattle.run_steps.specs.Going.{Runs, Paused};
 
-use apply::Tried;
 use model::{PROCS_MOST, Regs};
-use plan_meaning::{Plan, Put};
+use plan_meaning::Plan;
 
 // Where the steps pause: before an instruction whose plan is settled apart, or with no step left of the budget.
 #[derive(Clone, Copy)]
@@ -14,12 +13,6 @@ pub struct Pause {
     pub plan: Plan,
     pub regs: Regs,
     pub left: u32,
-}
-
-fn stop(plan: Plan, regs: Regs, left: u32) -> Pause
-    ensures { result ≡ paused_at plan regs left }
-{
-    Pause { plan, regs, left }
 }
 
 // Steps on, as far as the budget lasts and no raise and no loop is needed. It is called from more than one place, which keeps it a function of its own
@@ -52,19 +45,27 @@ pub fn go_on(
     let mut r = regs;
     let mut left = budget;
     while 0 < left {
-        let after = left - 1;
         let plan = plan::plan_at(file, table, main, ptr, ctl, heap, r);
         let Plan::Write(put) = plan else {
-            return stop(plan, r, left);
+            return Pause {
+                plan,
+                regs: r,
+                left,
+            };
         };
-        let tried = apply::apply(file, main, ptr, ctl, heap, r, put);
-        let done = tried.done;
-        if done {
-            r = tried.regs;
-            left = after;
-        } else {
-            return stop(Plan::Write(put), r, left);
-        }
+        let Some(next) = apply::apply(file, main, ptr, ctl, heap, r, put) else {
+            return Pause {
+                plan,
+                regs: r,
+                left,
+            };
+        };
+        r = next;
+        left -= 1;
     }
-    stop(Plan::Thrown, r, left)
+    Pause {
+        plan: Plan::Thrown,
+        regs: r,
+        left,
+    }
 }

@@ -4,10 +4,6 @@ use mathlib.Core.Path.{◌∙◌}
 use Rattle.laws.specs.Cuts.{cut-cut, cut-topped}
 use Rattle.apply.proofs.unwind.Goals as goal
 
-pub clear_record-requires : goal.clear_record-requires
-clear_record-requires c =
-    (omega (arith, c.requires.0.fits), λ i h. c.requires.0.zero i (omega arith))
-
 pub cut_to-requires : goal.cut_to-requires
 cut_to-requires c =
     rw c.clear_record.ensures (cut-topped _ _ (omega (arith, c.requires.0.fits)))

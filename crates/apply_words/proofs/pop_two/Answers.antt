@@ -4,9 +4,3 @@ use Rattle.apply_words.proofs.pop_two.Goals as goal
 
 pub returns-then-old-new : goal.returns-then-old-new
 returns-then-old-new c = cut-above _ _ _ c.if-old-new.true c.requires.0
-
-pub pop_some-requires : goal.pop_some-requires
-pop_some-requires c = (c.requires.0, c.if-old-new.false, c.requires.1)
-
-pub returns : goal.returns
-returns c = c.pop_some.ensures

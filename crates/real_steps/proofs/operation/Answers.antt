@@ -1,27 +1,23 @@
 -- `real_steps::operation`: the result is the rule's; where it is finite its words take the place of four, else nothing is written.
-use mathlib.Core.Bool.{true≢false}
-use mathlib.Core.Path.{refl, sym, ◌∙◌}
+use native.Mathlib.Omega.{arith}
+use mathlib.Core.Path.{sym, ◌∙◌}
+use Rattle.reals.proofs.Finite.{finite-is}
 use Rattle.real_steps.specs.Done.{operation-done, operation-raises}
 use Rattle.real_steps.proofs.operation.Goals as goal
 
-pub returns-then-is_finite : goal.returns-then-is_finite
-returns-then-is_finite c =
+pub returns-then-not-is_finite-clause-does : goal.returns-then-not-is_finite-clause-does
+returns-then-not-is_finite-clause-does c =
     let O = c.operate-x.ensures in
-    let t = sym c.is_finite.ensures ∙ c.if-is_finite.true in
-    record {
-      does = rw (c.goes_on.ensures, c.put_real.ensures, c.cut_to.ensures)
-          (λ f p. rw (O.code f p) (operation-done _ _ _ c.requires.1 O.op _ (O.is ∙ rw (c.real_at.ensures, c.real_at-2.ensures)) t));
-      kept = rw c.goes_on.ensures (λ e. absurd (true≢false e));
-      running = rw c.goes_on.ensures;
-    }
+    let t = finite-is _ ∙ sym c.is_finite.ensures.value ∙ c.if-not-is_finite.true in
+    λ f p. rw (O.code f p) (operation-raises _ _ _ c.requires.1 O.op _ (O.is ∙ rw (c.real_at.ensures, c.real_at-2.ensures)) t)
 
-pub returns : goal.returns
-returns c =
+pub put_real-requires : goal.put_real-requires
+put_real-requires c =
+    (finite-is _ ∙ sym c.is_finite.ensures.value ∙ c.if-not-is_finite.false, omega (arith, c.cut_to.auto, c.requires.0.fits, c.requires.1))
+
+pub returns-clause-does : goal.returns-clause-does
+returns-clause-does c =
     let O = c.operate-x.ensures in
-    let t = sym c.is_finite.ensures ∙ c.if-is_finite.false in
-    record {
-      does = rw c.not_finite.ensures
-          (λ f p. rw (O.code f p) (operation-raises _ _ _ c.requires.1 O.op _ (O.is ∙ rw (c.real_at.ensures, c.real_at-2.ensures)) t));
-      kept = λ e. refl;
-      running = rw c.not_finite.ensures;
-    }
+    let t = finite-is _ ∙ sym c.is_finite.ensures.value ∙ c.if-not-is_finite.false in
+    rw (c.goes_on.ensures, c.put_real.ensures, c.cut_to.ensures)
+    (λ f p. rw (O.code f p) (operation-done _ _ _ c.requires.1 O.op _ (O.is ∙ rw (c.real_at.ensures, c.real_at-2.ensures)) t))

@@ -32,31 +32,27 @@ operation-requires c =
     let o = operation-ready R _ refl n.0.0.1 n.0.1 n.1 in
     (R.topped, four-ready R _ (operation-four R o) refl, o)
 
-pub returns-in-53 : goal.returns-in-53
+pub returns-in-53-clause-does : goal.returns-in-53-clause-does
 unfolding ins_at
-returns-in-53 c =
+returns-in-53-clause-does c =
     let e = c.in-53.is in
-    let L = c.literal.ensures in
-    record { does = rw (← after-literal _ _ _ e c.requires.1, e) L.does; kept = L.kept; running = L.running }
+    rw (← after-literal _ _ _ e c.requires.1, e) c.literal.ensures.does
 
-pub returns-in-155 : goal.returns-in-155
+pub returns-in-155-clause-does : goal.returns-in-155-clause-does
 unfolding ins_at ins_of
-returns-in-155 c =
+returns-in-155-clause-does c =
     let e = c.in-155.is in
-    let L = c.less.ensures in
-    record { does = rw (← after-code _ _ _ _ (inr (inr (inr (inr (inl refl))))) e c.requires.1, e) L.does; kept = L.kept; running = L.running }
+    rw (← after-code _ _ _ _ (inr (inr (inr (inr (inl refl))))) e c.requires.1, e) c.less.ensures.does
 
-pub returns-in-156 : goal.returns-in-156
+pub returns-in-156-clause-does : goal.returns-in-156-clause-does
 unfolding ins_at ins_of
-returns-in-156 c =
+returns-in-156-clause-does c =
     let e = c.in-156.is in
-    let L = c.hoop.ensures in
-    record { does = rw (← after-code _ _ _ _ (inr (inr (inr (inr (inr refl))))) e c.requires.1, e) L.does; kept = L.kept; running = L.running }
+    rw (← after-code _ _ _ _ (inr (inr (inr (inr (inr refl))))) e c.requires.1, e) c.hoop.ensures.does
 
-pub returns-in_default : goal.returns-in_default
+pub returns-in_default-clause-does : goal.returns-in_default-clause-does
 unfolding ins_at
-returns-in_default c =
+returns-in_default-clause-does c =
     let n = c.in_default.in_default-own.rest in
     let o = operation-ready c.requires.0 _ refl n.0.0.1 n.0.1 n.1 in
-    let L = c.operation.ensures in
-    record { does = rw (← after-code _ _ _ _ (operation-code c.requires.0 o) refl c.requires.1) (L.does _ _); kept = L.kept; running = L.running }
+    rw (← after-code _ _ _ _ (operation-code c.requires.0 o) refl c.requires.1) (c.operation.ensures.does _ _)

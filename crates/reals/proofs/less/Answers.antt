@@ -1,11 +1,15 @@
--- `reals::less`: by the test.
+-- `reals::less`: by the test, 1 or 0.
+use mathlib.Core.Bool.{Bool, true, false}
+use mathlib.Core.Path.{◌≡◌, refl}
+use Rattle.std.specs.Int.{from_bool}
+use Rattle.model.specs.Words.{bit}
 use Rattle.model.specs.Reals.{less_reals}
 use Rattle.reals.proofs.less.Goals as goal
 
-pub returns-then-a-b : goal.returns-then-a-b
-unfolding less_reals
-returns-then-a-b c = rw c.if-a-b.true
+is-bit : (b : Bool) → from_bool b ≡ bit b
+is-bit true = refl
+is-bit false = refl
 
-pub returns-else-a-b : goal.returns-else-a-b
+pub returns : goal.returns
 unfolding less_reals
-returns-else-a-b c = rw c.if-a-b.false
+returns c = rw c.from.ensures (is-bit _)

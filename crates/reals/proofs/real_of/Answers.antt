@@ -1,17 +1,18 @@
--- `reals::real_of`: the test tells the patterns of NaNs apart, and 0 by 0 is the NaN.
+-- `reals::real_of`: the test tells the patterns of NaNs apart.
 use mathlib.Core.Path.{sym, ap, ◌∙◌}
 use lib.Ieee.{binary64, of_bits}
 use Rattle.model.specs.Reals.{real_of}
-use Rattle.reals.proofs.Patterns.{a-number, no_number, zero_by_zero}
+use Rattle.std.proofs.lemmas.Float.{not_nan_f64_bits}
+use Rattle.reals.proofs.Patterns.{no_number, nan-is}
 use Rattle.reals.proofs.real_of.Goals as goal
 
 pub float_from_bits-result : goal.float_from_bits-result
-float_from_bits-result c = a-number _ c.if-bits-le9218868437227405312.true
+float_from_bits-result c = not_nan_f64_bits _ c.if-bits-le-INFINITY.true
 
-pub returns-then-bits-le9218868437227405312 : goal.returns-then-bits-le9218868437227405312
+pub returns-then-bits-le-INFINITY : goal.returns-then-bits-le-INFINITY
 unfolding real_of
-returns-then-bits-le9218868437227405312 c = ap (of_bits binary64) c.pattern-bits.ensures
+returns-then-bits-le-INFINITY c = ap (of_bits binary64) c.pattern-bits.ensures
 
-pub returns : goal.returns
+pub returns-else-bits-le-INFINITY : goal.returns-else-bits-le-INFINITY
 unfolding real_of
-returns c = zero_by_zero ∙ sym (no_number _ c.if-bits-le9218868437227405312.false) ∙ ap (of_bits binary64) c.pattern-bits.ensures
+returns-else-bits-le-INFINITY c = nan-is ∙ sym (no_number _ c.if-bits-le-INFINITY.false) ∙ ap (of_bits binary64) c.pattern-bits.ensures

@@ -1,6 +1,5 @@
 -- `run_reals::reckon` meets its contract: each turn is one step of the model, in a run of every state that has these registers and this main stack.
 use Rattle.run_reals.specs.Reckoning.{AtReal, Reckons}
-use Prim.Native.Nat.{◌-◌}
 use Rattle.run_reals.proofs.reckon.Given as goal
 
 abbrev pub invariant-loop-left : goal.invariant-loop-left
