@@ -1,7 +1,7 @@
 -- The operand is the sum of its two bytes.
 use native.Mathlib.Omega.{arith}
 use Rattle.model.specs.File.{operand}
-use Rattle.audit_places.proofs.operand.Goals as goal
+use Rattle.audit_places.proofs.Passed.operand.Goals as goal
 
 pub returns : goal.returns
 unfolding operand
