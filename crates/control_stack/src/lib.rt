@@ -31,7 +31,7 @@ const FRAME: usize = 3;
 const OUTER: usize = 4;
 
 // A frame's record.
-#[derive(Clone, Copy)]
+#[derive(Clone, Copy, PartialEq, Eq)]
 pub struct Frame {
     pub main_base: usize,
     pub ptr_base: usize,
@@ -41,7 +41,7 @@ pub struct Frame {
 }
 
 // A handler's record.
-#[derive(Clone, Copy)]
+#[derive(Clone, Copy, PartialEq, Eq)]
 pub struct Handler {
     pub opened: usize, // the place of its 160
     pub main_top: usize, // the tops then
