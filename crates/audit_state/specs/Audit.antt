@@ -1,8 +1,7 @@
 -- The audit in parts: the tests of the registers, the records, and the words of the three stacks are `sound?`.
-use Rattle.std.specs.Prelude.{ℕ, ◌*◌, ◌/◌, ◌≤◌, Bool, List, [], ◌∷◌, ◌≡◌, eqb, length}
+use Rattle.std.specs.Prelude.{ℕ, ◌*◌, ◌/◌, Bool, List, [], ◌∷◌, ◌≡◌, eqb, length}
 use Rattle.std.proofs.Math.Bool.{true, false}
-use native.Mathlib.Omega.{arith}
-use Rattle.model.specs.Choice.{when◌then◌else◌, Test, same, at_most, yes?, all, all_true}
+use Rattle.model.specs.Choice.{when◌then◌else◌, Test, same, at_most, yes?, all}
 use Rattle.model.specs.File.{results_main, results_ptr}
 use Rattle.model.specs.Control.{Machine, record_words, down, records}
 use Rattle.model.specs.Sound.{main_at, ptr_at, stack?, stack_tests, topmost, running_tests, finished_tests, sound?}
@@ -20,13 +19,8 @@ module _ (map : List ℕ) (r : Regs) (n : ℕ) where
       ∷ at_most (ptr_at map r.place) r.ptop
       ∷ []
 
-  unfoldable pub tops_ok : Bool
+  abbrev pub tops_ok : Bool
   tops_ok = all tops_tests
-
-  -- the control stack has room for the records
-  pub tops-room : tops_ok ≡ true → record_words * (r.ctop / record_words) ≤ n
-  unfolding tops_ok
-  tops-room e = let a = all_true tops_tests e in let b = a.1.0 in let c = a.1.1.0 in omega arith
 
 -- finished, with main and pointer results as many as m and p
 module _ (m p : ℕ) (r : Regs) where
@@ -40,7 +34,7 @@ module _ (m p : ℕ) (r : Regs) where
       ∷ same r.ptop p
       ∷ []
 
-  unfoldable pub done_ok : Bool
+  abbrev pub done_ok : Bool
   done_ok = all done_tests
 
 abbrev records_ok : List ℕ → List ℕ → Machine → Bool
@@ -53,7 +47,7 @@ module _ (f map : List ℕ) (m : Machine) where
       ≡ (when eqb m.regs.state 1
       then (when done_ok (results_main f 0) (results_ptr f 0) m.regs then all (stack_tests m) else false)
       else (when tops_ok map m.regs (length m.ctl) then (when records_ok f map m then all (stack_tests m) else false) else false))
-  unfolding sound? running_tests finished_tests tops_ok done_ok
+  unfolding sound? running_tests finished_tests
   sound-is = go (eqb m.regs.state 1)
     where
       go : (t : Bool) →

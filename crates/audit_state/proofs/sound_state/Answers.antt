@@ -4,9 +4,9 @@ use Rattle.std.proofs.lemmas.Bool.Decides.{nat_tests}
 use Rattle.model.specs.Control.{Machine, down, records}
 use Rattle.model.specs.Sound.{stack?}
 use Rattle.audit_places.specs.Places.{some-proc}
-use Rattle.audit_state.specs.Audit.{tops-room, sound-is}
+use Rattle.audit_state.specs.Audit.{sound-is}
 use Rattle.audit_state.proofs.sound_state.Goals as goal
-use Rattle.audit_state.proofs.sound_state.Goals.{Start, Else-regs-eq1}
+use Rattle.audit_state.proofs.sound_state.Goals.{Start}
 
 -- the state, with a heap
 abbrev state : Start → List ℕ → Machine
@@ -30,7 +30,7 @@ returns-else-done_right c =
     λ heap K. grind (arith, nat_tests, sound-is p.file.now p.map.now (state (goal.at.returns-else-done_right c).Start heap), h.r_is, h.s_is)
 
 pub records_right-requires : goal.records_right-requires
-records_right-requires c = tops-room _ _ _ (sym c.tops_right.ensures ∙ c.if-tops_right.true)
+records_right-requires c = let t = sym c.tops_right.ensures ∙ c.if-tops_right.true in grind (arith, nat_tests, t)
 
 pub returns-then-records_right : goal.returns-then-records_right
 returns-then-records_right c =
