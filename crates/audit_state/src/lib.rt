@@ -53,14 +53,14 @@ fn words_right(audited: &Audited, marks: &[bool], regs: Regs) -> bool
 }
 
 // The registers of a running state: the tops fit the records and the map.
-fn tops_right(passed: &Passed, regs: Regs, room: usize) -> bool
+fn tops_right(audited: &Audited, regs: Regs) -> bool
     requires { RegsWords regs }
-    ensures { result ≡ tops_ok passed.now.map.now regs room }
+    ensures { result ≡ tops_ok audited.now.passed.map.now regs (length audited.now.ctl.now) }
 {
-    let here = passed.at(regs.place);
+    let here = audited.passed.at(regs.place);
     regs.state == 0
         && regs.ctop % RECORD == 0
-        && regs.ctop <= room
+        && regs.ctop <= audited.ctl.len()
         && here.main <= regs.mtop
         && here.ptr <= regs.ptop
 }
@@ -114,7 +114,7 @@ pub fn sound_state(audited: &Audited, marks: &[bool], regs: Regs) -> bool
         return done_right(head, regs) && words_right(audited, marks, regs);
     }
     let top = top_frame(&audited.passed, regs);
-    tops_right(&audited.passed, regs, audited.ctl.len())
+    tops_right(audited, regs)
         && records_right(audited, regs.ctop / RECORD, top)
         && words_right(audited, marks, regs)
 }
