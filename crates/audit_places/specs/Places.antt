@@ -5,11 +5,13 @@ use Rattle.std.proofs.Math.Bool.{true, false, not}
 use Rattle.std.proofs.Common.{true≢false, sym, ◌∙◌, arith}
 use Rattle.std.proofs.Math.Path.{refl, ap}
 use Rattle.std.proofs.Math.Dec.{eqb}
+use Rattle.std.proofs.Props.{props}
+use mathlib.Core.HLevel.{Σ_prop_path}
 use borrow.Author.Tests.{lt-ltb, le-ltb, eq-eqb, ne_eqb, eqb-true}
 use Rattle.model.specs.Choice.{Mem, member}
-use Rattle.model.specs.File.{instructions, procs, head_of, proc_at, records_of, starts, params_main, params_ptr, results_main, results_ptr, greatest_main, greatest_ptr}
+use Rattle.model.specs.File.{instructions, procs, head_of, proc_at, records_of, starts, starts_in, params_main, params_ptr, results_main, results_ptr, greatest_main, greatest_ptr}
 use Rattle.model.specs.Checker.{none, State}
-use Rattle.model.specs.Sound.{main_at, is_ins}
+use Rattle.model.specs.Sound.{main_at, ptr_at, inner_at, is_ins}
 use Rattle.model.specs.Calls.{pass, verdict_of}
 use Rattle.model.specs.Claim.{Bytes}
 use Rattle.laws.specs.Members.{member-in, in-member}
@@ -19,6 +21,8 @@ use Rattle.theory_checker.proofs.Exact.{passed-as, passed-shape, passed-rest}
 use Rattle.code_file.specs.declared.Head.{Head}
 use Rattle.code_file.specs.Heads.{HeadIs, proc_head, head-of}
 use Rattle.check_scan.specs.Heading.{Placed}
+use Rattle.numbers.specs.Small.{Small}
+use Rattle.audit_places.specs.declared.Shown.{Shown}
 
 -- a file whose records are whole, with the table of its k heads
 pub record Tabled (f table : List ℕ) (k : ℕ) : Type 0 where
@@ -34,6 +38,25 @@ MapShows f map = (p : ℕ) → p < length f → eqb (main_at map p) none ≡ not
 pub record AuditReady (f map table : List ℕ) (k : ℕ) : Type 0 where
   pub heads : Tabled f table k
   pub shows : MapShows f map
+
+module _ (f table : List ℕ) (k : ℕ) where
+  -- the rest about the list of places
+  abbrev Whole : List ℕ → Type 0
+  Whole ps = (records_of f ≡ starts ps) × Placed f table k
+
+  whole_prop : (ps : List ℕ) → IsProp (Whole ps)
+  whole_prop ps = hlevel props
+
+  -- there is one list of places
+  tabled_prop : IsProp (Tabled f table k)
+  tabled_prop x y =
+      let e = Σ_prop_path {B = Whole} whole_prop {u = (x.places, (x.records, x.placed))} {v = (y.places, (y.records, y.placed))}
+      (ap starts_in (sym x.records ∙ y.records)) in
+      ap (λ (w : (ps : List ℕ) × Whole ps). record { places = w.0; records = w.1.0; placed = w.1.1 }) e
+
+-- so that a type can have this fact
+pub ready_prop : (f map table : List ℕ) (k : ℕ) → IsProp (AuditReady f map table k)
+ready_prop f map table k = hlevel (tabled_prop f table k, props)
 
 -- a file that passed is ready, with the finished map
 pub passed-ready : (f map₀ map table : List ℕ) (k : ℕ) → Bytes f → verdict_of f map₀ ≡ pass map → Placed f table k → AuditReady f map table k
@@ -54,6 +77,12 @@ passed-ready f map₀ map table k B e P =
         let n : Mem p (instructions f) → ⊥ = λ m. true≢false (sym (in-member p (instructions f) m) ∙ w) in
         let s = ap (λ (x : State). x.main) (passed-rest f map₀ B map e p l n) in
         rw w (eq-eqb (main_at map p) none s)
+
+-- the map's three numbers at a place
+pub record ShownAt (map : List ℕ) (p : ℕ) (s : Shown) : Type 0 where
+  pub main : Small 65536 (main_at map p) s.main
+  pub ptr : Small 65536 (ptr_at map p) s.ptr
+  pub inner : Small 65536 (inner_at map p) s.inner
 
 -- an instruction of procedure n starts at p
 unfoldable pub in_proc : List ℕ → ℕ → ℕ → Bool

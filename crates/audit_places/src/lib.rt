@@ -4,103 +4,93 @@
 
 ghost use Rattle.std.specs.Prelude.{◌≡◌, ◌+◌, ◌*◌, ◌<◌, get_or};
 ghost use Rattle.model.specs.File.{byte_at, operand};
-ghost use Rattle.model.specs.Sound.{main_at, ptr_at, inner_at};
 ghost use Rattle.numbers.specs.Small.{Small};
-ghost use Rattle.check_scan.specs.Heading.{Placed};
 ghost use Rattle.laws_file.specs.Procedures.{end_of};
-ghost use Rattle.audit_places.specs.Places.{Tabled, AuditReady, in_proc, HeadFor};
+ghost use Rattle.audit_places.specs.Places.{AuditReady, ready_prop, ShownAt, in_proc, HeadFor};
 ghost use Rattle.model.specs.Checker.{none};
 
 use code_file::Head;
 use model::{NONE_OPEN, PROCS_MOST};
 
-// A byte of the file; past its end 0.
-pub fn byte_at(file: &[u8], p: usize) -> usize
-    ensures { Small 256 (byte_at file.now p) result }
-{
-    if p < file.len() {
-        numbers::byte(file[p])
-    } else {
-        0
+// What the map has at a place: the depths there, and the innermost open handler.
+#[derive(Clone, Copy)]
+pub struct Shown {
+    pub main: usize,
+    pub ptr: usize,
+    pub inner: usize,
+}
+
+// A file that passed, with its finished map and the table of its `count` heads.
+#[derive(Clone, Copy)]
+pub struct Passed<'a> {
+    pub file: &'a [u8],
+    pub map: &'a [u16],
+    pub heads: &'a [usize; PROCS_MOST],
+    pub count: usize,
+    pub ghost ready: { AuditReady file.now map.now heads.now count } by { ready_prop file.now map.now heads.now count },
+}
+
+impl Passed<'_> {
+    // A byte of the file; past its end 0.
+    pub fn byte_at(&self, p: usize) -> usize
+        ensures { Small 256 (byte_at self.now.file.now p) result }
+    {
+        self.file.get(p).map_or(0, |&b| b as usize)
     }
-}
 
-// The operand of the call at `p`, which may be no instruction.
-pub fn operand(file: &[u8], p: usize) -> usize
-    requires { p < 4294967296 }
-    ensures { result ≡ operand file.now p }
-{
-    byte_at(file, p + 1) * 256 + byte_at(file, p + 2)
-}
-
-// A number of the map; past its end 65,535.
-fn number(map: &[u16], i: usize) -> usize
-    ensures { Small 65536 (get_or map.now i none) result }
-{
-    if i < map.len() {
-        map[i] as usize
-    } else {
-        NONE_OPEN
+    // The operand of the call at `p`, which may be no instruction.
+    pub fn operand(&self, p: usize) -> usize
+        requires { p < 4294967296 }
+        ensures { result ≡ operand self.now.file.now p }
+    {
+        self.byte_at(p + 1) * 256 + self.byte_at(p + 2)
     }
-}
 
-pub fn main_at(map: &[u16], p: usize) -> usize
-    requires { p < 4294967296 }
-    ensures { Small 65536 (main_at map.now p) result }
-{
-    number(map, 3 * p)
-}
-
-pub fn ptr_at(map: &[u16], p: usize) -> usize
-    requires { p < 4294967296 }
-    ensures { Small 65536 (ptr_at map.now p) result }
-{
-    number(map, 3 * p + 1)
-}
-
-pub fn inner_at(map: &[u16], p: usize) -> usize
-    requires { p < 4294967296 }
-    ensures { Small 65536 (inner_at map.now p) result }
-{
-    number(map, 3 * p + 2)
-}
-
-// Where procedure `n` ends: at the next head, or with the file.
-fn end_of(file: &[u8], table: &[usize; PROCS_MOST], k: usize, n: usize) -> usize
-    requires { Placed file.now table.now k × (n < k) }
-    ensures { result ≡ end_of file.now (n + 1) }
-{
-    let next = n + 1;
-    if next < k { table[next] } else { file.len() }
-}
-
-// An instruction of procedure `n` starts at `p`.
-pub fn within(
-    file: &[u8],
-    map: &[u16],
-    table: &[usize; PROCS_MOST],
-    k: usize,
-    n: usize,
-    p: usize,
-) -> bool
-    requires { AuditReady file.now map.now table.now k × (p < 4294967296) }
-    ensures { result ≡ in_proc file.now n p }
-{
-    if k <= n {
-        return false;
+    // A number of the map; past its end 65,535.
+    fn number(&self, i: usize) -> usize
+        ensures { Small 65536 (get_or self.now.map.now i none) result }
+    {
+        self.map.get(i).map_or(NONE_OPEN, |&n| n as usize)
     }
-    if p <= table[n] {
-        return false;
-    }
-    if end_of(file, table, k, n) <= p {
-        return false;
-    }
-    main_at(map, p) != NONE_OPEN
-}
 
-pub fn head_of(file: &[u8], table: &[usize; PROCS_MOST], k: usize, n: usize) -> Head
-    requires { Tabled file.now table.now k × (n < k) }
-    ensures { HeadFor file.now n result }
-{
-    code_file::head_at(file, table[n])
+    // The map's numbers at a place; past its end 65,535.
+    pub fn at(&self, p: usize) -> Shown
+        requires { p < 4294967296 }
+        ensures { ShownAt self.now.map.now p result }
+    {
+        Shown {
+            main: self.number(3 * p),
+            ptr: self.number(3 * p + 1),
+            inner: self.number(3 * p + 2),
+        }
+    }
+
+    // Where procedure `n` ends: at the next head, or with the file.
+    fn end_of(&self, n: usize) -> usize
+        requires { n < self.now.count }
+        ensures { result ≡ end_of self.now.file.now (n + 1) }
+    {
+        let next = n + 1;
+        if next < self.count {
+            self.heads[next]
+        } else {
+            self.file.len()
+        }
+    }
+
+    // An instruction of procedure `n` starts at `p`.
+    pub fn within(&self, n: usize, p: usize) -> bool
+        requires { p < 4294967296 }
+        ensures { result ≡ in_proc self.now.file.now n p }
+    {
+        n < self.count && self.heads[n] < p && p < self.end_of(n) && self.at(p).main != NONE_OPEN
+    }
+
+    // The head of procedure `n`.
+    pub fn head_of(&self, n: usize) -> Head
+        requires { n < self.now.count }
+        ensures { HeadFor self.now.file.now n result }
+    {
+        code_file::head_at(self.file, self.heads[n])
+    }
 }

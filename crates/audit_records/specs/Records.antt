@@ -2,7 +2,7 @@
 -- one record leaves of `stack?` to the records below.
 use Rattle.std.specs.Prelude.{ℕ, ◌<◌, ◌≤◌, Bool, not, ◌&&◌, List, ◌∷◌, ◌≡◌}
 use Rattle.std.proofs.Math.Bool.{true, false}
-use Rattle.std.proofs.Common.{true≢false, sym, ◌∙◌, arith}
+use Rattle.std.proofs.Common.{true≢false, sym, ◌∙◌, arith, ControlFlow, Continue, Break}
 use Rattle.std.proofs.Math.Path.{refl, ap}
 use Rattle.std.proofs.Math.Decide.{dec_lt}
 use Rattle.std.proofs.Math.Dec.{eqb}
@@ -17,8 +17,6 @@ use Rattle.control_stack.specs.declared.Frame.{Frame as FrameRead}
 use Rattle.control_stack.specs.declared.Handler.{Handler as HandlerRead}
 use Rattle.control_stack.specs.Layout.{the_frame, the_handler}
 use Rattle.audit_records.specs.declared.Look.{Look as LookRead}
-use Rattle.audit_records.specs.declared.Below.{Below}
-use Rattle.audit_records.specs.declared.Below.TheVariants.{End, On}
 use Rattle.laws.specs.Tests.{fails-at}
 use Rattle.code_file.specs.declared.Head.{Head}
 use Rattle.audit_places.specs.Places.{MapShows, in_proc, HeadFor}
@@ -35,20 +33,6 @@ the_look s =
       main_base = s.main_base;
       ptr_base = s.ptr_base;
     }
-
--- what indexes the map, or is added to, is a word
-pub record Near (s : LookRead) : Type 0 where
-  pub inner : s.inner < 4294967296
-  pub place : s.place < 4294967296
-  pub main : s.main_base < 4294967296
-  pub ptr : s.ptr_base < 4294967296
-
--- what is known where a record is read: the lengths of the main and the pointer stack are in range
-pub record Reads (lm lp left : ℕ) (s : LookRead) : Type 0 where
-  pub near : Near s
-  pub main : lm ≤ main_most
-  pub ptr : lp ≤ ptr_most
-  pub few : left < 4294967296
 
 -- the bases of a frame that lies in the lists
 pub record BasesFit (w : FrameRead) : Type 0 where
@@ -95,10 +79,6 @@ module _ (f : List ℕ) (c : ℕ) where
       go true false w e = absurd (true≢false (sym e))
       go false u w e = absurd (true≢false (sym e))
 
-pub call_below : (f : List ℕ) (q : ℕ) → call_before f q ≤ q
-unfolding call_before
-call_below f q = omega arith
-
 -- the head's parameters are what is popped
 abbrev pub PopsParams : Effect → Head → Type 0
 PopsParams e h = (e.pop_main ≡ h.a) × (e.pop_ptr ≡ h.b)
@@ -133,18 +113,14 @@ module _ (f map : List ℕ) (lm lp : ℕ) (w : FrameRead) (rs : List Rec) (s : L
   unfolding in_proc
   frame-proc e = let h = all_true tests (sym e) in rw h.0 (eq-eqb w.proc (proc_at f s.place) h.1.1.1.1.0)
 
-abbrev pub tells : Below → (LookRead → Bool) → Bool
-tells (End t) k = t
-tells (On s) k = k s
-
-abbrev pub NearBelow : Below → Type 0
-NearBelow (End t) = Unit {0}
-NearBelow (On s) = Near s
+-- the verdict, or what the records below come to
+abbrev pub tells : ControlFlow Bool LookRead → (LookRead → Bool) → Bool
+tells (Break t) k = t
+tells (Continue s) k = k s
 
 -- what a record tells, on top of rs
-pub record RecordTells (f map : List ℕ) (lm lp : ℕ) (w : Rec) (rs : List Rec) (s : LookRead) (r : Below) : Type 0 where
+pub record RecordTells (f map : List ℕ) (lm lp : ℕ) (w : Rec) (rs : List Rec) (s : LookRead) (r : ControlFlow Bool LookRead) : Type 0 where
   pub is : stack? f map lm lp (w ∷ rs) (the_look s) ≡ tells r (λ (t : LookRead). stack? f map lm lp rs (the_look t))
-  pub near : NearBelow r
 
 module _ (f map : List ℕ) (lm lp : ℕ) (rs : List Rec) (s : LookRead) where
   module _ (v : Rec) (w : FrameRead) (v-is : the_frame w ≡ as_frame v) (bare : s.inner ≡ none) where
@@ -169,13 +145,13 @@ module _ (f map : List ℕ) (lm lp : ℕ) (rs : List Rec) (s : LookRead) where
         ∙ rw (eq-eqb s.inner none bare) (ap (λ (b : Bool). when b then rest (call_before f w.returns) else false) (sym e))
 
     pub told-frame : false ≡ all (frame_tests f map lm lp (the_frame w) rs (the_look s)) →
-        RecordTells f map lm lp v rs s (End false)
-    told-frame e = record { is = stack-frame false e; near = tt }
+        RecordTells f map lm lp v rs s (Break false)
+    told-frame e = record { is = stack-frame false e }
 
     module _ (e : true ≡ all (frame_tests f map lm lp (the_frame w) rs (the_look s))) where
       pub told-first : (r : Bool) → s.frame ≡ 1 → r ≡ all (first_tests f map lm lp (the_frame w) (the_look s)) →
-          RecordTells f map lm lp v rs s (End r)
-      told-first r h d = record { is = stack-frame true e ∙ rw (eq-eqb s.frame 1 h) (sym d); near = tt }
+          RecordTells f map lm lp v rs s (Break r)
+      told-first r h d = record { is = stack-frame true e ∙ rw (eq-eqb s.frame 1 h) (sym d) }
 
       module _ (later : s.frame ≡ 1 → ⊥) (c : ℕ) (c-is : c ≡ call_before f w.returns) where
         later-frame : (t : Bool) → t ≡ all (caller_tests f map lm lp (the_frame w) c (pops c)) →
@@ -188,13 +164,13 @@ module _ (f map : List ℕ) (lm lp : ℕ) (rs : List Rec) (s : LookRead) where
             (ap (λ (b : Bool). when b then stack? f map lm lp rs (caller f map lm lp (the_frame w) (the_look s) c (pops c)) else false) (sym d))
 
         pub told-call : false ≡ all (caller_tests f map lm lp (the_frame w) c (pops c)) →
-            RecordTells f map lm lp v rs s (End false)
-        told-call d = record { is = later-frame false d; near = tt }
+            RecordTells f map lm lp v rs s (Break false)
+        told-call d = record { is = later-frame false d }
 
         pub told-caller : (t : LookRead) → true ≡ all (caller_tests f map lm lp (the_frame w) c (pops c)) →
-            the_look t ≡ caller f map lm lp (the_frame w) (the_look s) c (pops c) → Near t →
-            RecordTells f map lm lp v rs s (On t)
-        told-caller t d t-is near = record { is = later-frame true d ∙ ap (stack? f map lm lp rs) (sym t-is); near = near }
+            the_look t ≡ caller f map lm lp (the_frame w) (the_look s) c (pops c) →
+            RecordTells f map lm lp v rs s (Continue t)
+        told-caller t d t-is = record { is = later-frame true d ∙ ap (stack? f map lm lp rs) (sym t-is) }
 
   module _ (v : Rec) (w : HandlerRead) (v-is : the_handler w ≡ as_handler v) (held : s.inner ≡ none → ⊥) where
     stack-handler : (t : Bool) → t ≡ all (handler_tests f map lm lp (the_handler w) rs (the_look s)) →
@@ -207,10 +183,10 @@ module _ (f map : List ℕ) (lm lp : ℕ) (rs : List Rec) (s : LookRead) where
         (ap (λ (b : Bool). when b then stack? f map lm lp rs (outside f map lm lp (the_handler w) (the_look s)) else false) (sym e))
 
     pub told-handler : false ≡ all (handler_tests f map lm lp (the_handler w) rs (the_look s)) →
-        RecordTells f map lm lp v rs s (End false)
-    told-handler e = record { is = stack-handler false e; near = tt }
+        RecordTells f map lm lp v rs s (Break false)
+    told-handler e = record { is = stack-handler false e }
 
     pub told-outside : (t : LookRead) → true ≡ all (handler_tests f map lm lp (the_handler w) rs (the_look s)) →
-        the_look t ≡ outside f map lm lp (the_handler w) (the_look s) → Near t →
-        RecordTells f map lm lp v rs s (On t)
-    told-outside t e t-is near = record { is = stack-handler true e ∙ ap (stack? f map lm lp rs) (sym t-is); near = near }
+        the_look t ≡ outside f map lm lp (the_handler w) (the_look s) →
+        RecordTells f map lm lp v rs s (Continue t)
+    told-outside t e t-is = record { is = stack-handler true e ∙ ap (stack? f map lm lp rs) (sym t-is) }

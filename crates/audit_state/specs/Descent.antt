@@ -2,14 +2,12 @@
 use Prim.Native.Nat.{ℕ, suc, ◌-◌, ◌<◌, ◌≤◌}
 use Rattle.std.specs.Prelude.{Bool, false, List, ◌≡◌}
 use Rattle.std.proofs.Math.Path.{ap, sym}
-use Rattle.std.proofs.Common.{◌∙◌}
+use Rattle.std.proofs.Common.{◌∙◌, ControlFlow, Continue, Break}
 use native.Mathlib.Omega.{arith}
 use Rattle.model.specs.Control.{rec_at, down}
 use Rattle.model.specs.Sound.{stack?}
 use Rattle.audit_records.specs.declared.Look.{Look}
-use Rattle.audit_records.specs.declared.Below.{Below}
-use Rattle.audit_records.specs.declared.Below.TheVariants.{End, On}
-use Rattle.audit_records.specs.Records.{the_look, Near, RecordTells, tells}
+use Rattle.audit_records.specs.Records.{the_look, RecordTells, tells}
 
 module _ (f map : List ℕ) (lm lp : ℕ) (l : List ℕ) where
   -- the n lowest records, with what those above tell
@@ -21,13 +19,13 @@ module _ (f map : List ℕ) (lm lp : ℕ) (l : List ℕ) where
     unfolding lowest stack?
     read_none h = let e : left ≡ 0 = omega arith in sym (so_far ∙ ap (λ (n : ℕ). lowest n s) e)
 
-    module _ (r : Below) (some : 0 < left) (reading : RecordTells f map lm lp (rec_at l (left - 1)) (down l (left - 1)) s r) where
+    module _ (r : ControlFlow Bool Look) (some : 0 < left) (reading : RecordTells f map lm lp (rec_at l (left - 1)) (down l (left - 1)) s r) where
       read : lowest count top ≡ tells r (lowest (left - 1))
       unfolding lowest
       read = let e : left ≡ suc (left - 1) = omega arith in so_far ∙ ap (λ (n : ℕ). lowest n s) e ∙ reading.is
 
-      pub read-end : (t : Bool) → r ≡ End t → t ≡ lowest count top
-      read-end t e = sym (read ∙ ap (λ (b : Below). tells b (lowest (left - 1))) e)
+      pub read-end : (t : Bool) → r ≡ Break t → t ≡ lowest count top
+      read-end t e = sym (read ∙ ap (λ (b : ControlFlow Bool Look). tells b (lowest (left - 1))) e)
 
-      pub read-on : (s' : Look) → r ≡ On s' → Near s' × (lowest count top ≡ lowest (left - 1) s')
-      read-on s' e = (rw e at reading.near, read ∙ ap (λ (b : Below). tells b (lowest (left - 1))) e)
+      pub read-on : (s' : Look) → r ≡ Continue s' → lowest count top ≡ lowest (left - 1) s'
+      read-on s' e = read ∙ ap (λ (b : ControlFlow Bool Look). tells b (lowest (left - 1))) e

@@ -2,49 +2,33 @@
 // Manual 6.10 to 6.12. The records are read from the top downwards, each once.
 #![tactic(auto)]
 
-ghost use Rattle.std.specs.Prelude.{◌≡◌, List, ℕ, ◌*◌, ◌<◌, ◌≤◌, length, drop};
+ghost use Rattle.std.specs.Prelude.{◌≡◌, List, ℕ, ◌*◌, ◌≤◌, length, drop};
 ghost use Rattle.model.specs.Heap.{objects_of};
 ghost use Rattle.model.specs.Choice.{all};
 ghost use Rattle.model.specs.Control.{Machine, set_regs, down, record_words};
 ghost use Rattle.model.specs.Sound.{zeros, stack?, stack_tests, topmost, sound?};
 ghost use Rattle.audit_words.specs.Table.{Marks};
 ghost use Rattle.registers.specs.Registers.{RegsWords};
-ghost use Rattle.audit_places.specs.Places.{AuditReady};
-ghost use Rattle.audit_records.specs.Records.{the_look, Near};
+ghost use Rattle.audit_records.specs.Records.{the_look};
 ghost use Rattle.audit_state.specs.Audit.{tops_ok, done_ok};
-ghost use Rattle.model.specs.Calls.{main_most, ptr_most};
 
-use audit_records::{Below, Look};
+use audit_places::Passed;
+use audit_records::{Audited, Look};
 use code_file::Head;
-use model::{PROCS_MOST, RECORD, Regs};
+use model::{RECORD, Regs};
+use std::ops::ControlFlow;
 
 // The topmost `count` records, from the top downwards.
-fn records_right(
-    file: &[u8],
-    map: &[u16],
-    table: &[usize; PROCS_MOST],
-    k: usize,
-    lm: usize,
-    lp: usize,
-    ctl: &[u32],
-    count: usize,
-    top: Look,
-) -> bool
-    requires { AuditReady file.now map.now table.now k × Near top × (record_words * count ≤ length ctl.now) × (count < 4294967296) × (lm ≤ main_most) × (lp ≤ ptr_most) }
-    ensures { result ≡ stack? file.now map.now lm lp (down ctl.now count) (the_look top) }
+fn records_right(audited: &Audited, count: usize, top: Look) -> bool
+    requires { record_words * count ≤ length audited.now.ctl.now }
+    ensures { result ≡ stack? audited.now.passed.file.now audited.now.passed.map.now (length audited.now.main.now) (length audited.now.ptr.now)
+        (down audited.now.ctl.now count) (the_look top) }
 {
-    let mut left = count;
-    let mut s = top;
-    while 0 < left {
-        left -= 1;
-        let found = audit_records::read_record(file, map, table, k, lm, lp, ctl, left, s);
-        match found {
-            Below::End(right) => {
-                return right;
-            }
-            Below::On(next) => {
-                s = next;
-            }
+    let mut look = top;
+    for left in (0..count).rev() {
+        match audited.read_record(left, look) {
+            ControlFlow::Break(right) => return right,
+            ControlFlow::Continue(next) => look = next,
         }
     }
     false
@@ -58,109 +42,79 @@ fn zeros_from(words: &[u32], top: usize) -> bool
 }
 
 // The words of the stacks: 0 above the tops, pointers on the pointer stack.
-fn words_right(main: &[u32], ptr: &[u32], ctl: &[u32], marks: &[bool], regs: Regs) -> bool
+fn words_right(audited: &Audited, marks: &[bool], regs: Regs) -> bool
     ensures { (heap : List ℕ) → Marks (objects_of heap) marks.now →
-        result ≡ all (stack_tests (record { regs = regs; main = main.now; ptr = ptr.now; ctl = ctl.now; heap = heap })) }
+        result ≡ all (stack_tests (record { regs = regs; main = audited.now.main.now; ptr = audited.now.ptr.now; ctl = audited.now.ctl.now; heap = heap })) }
 {
-    if !zeros_from(main, regs.mtop) {
-        return false;
-    }
-    if !zeros_from(ptr, regs.ptop) {
-        return false;
-    }
-    if !zeros_from(ctl, regs.ctop) {
-        return false;
-    }
-    audit_words::audit_pointers(ptr, regs.ptop, marks)
+    zeros_from(audited.main, regs.mtop)
+        && zeros_from(audited.ptr, regs.ptop)
+        && zeros_from(audited.ctl, regs.ctop)
+        && audit_words::audit_pointers(audited.ptr, regs.ptop, marks)
 }
 
 // The registers of a running state: the tops fit the records and the map.
-fn tops_right(map: &[u16], regs: Regs, room: usize) -> bool
+fn tops_right(audited: &Audited, regs: Regs) -> bool
     requires { RegsWords regs }
-    ensures { result ≡ tops_ok map.now regs room }
+    ensures { result ≡ tops_ok audited.now.passed.map.now regs (length audited.now.ctl.now) }
 {
-    if regs.state != 0 {
-        return false;
-    }
-    if regs.ctop != RECORD * (regs.ctop / RECORD) {
-        return false;
-    }
-    if room < regs.ctop {
-        return false;
-    }
-    if regs.mtop < audit_places::main_at(map, regs.place) {
-        return false;
-    }
-    audit_places::ptr_at(map, regs.place) <= regs.ptop
+    let here = audited.passed.at(regs.place);
+    regs.state == 0
+        && regs.ctop % RECORD == 0
+        && regs.ctop <= audited.ctl.len()
+        && here.main <= regs.mtop
+        && here.ptr <= regs.ptop
 }
 
 // The registers of a finished state; `head` is procedure 0's.
 fn done_right(head: Head, regs: Regs) -> bool
     ensures { result ≡ done_ok head.r head.s regs }
 {
-    if regs.place != 0 {
-        return false;
-    }
-    if regs.frame != 0 {
-        return false;
-    }
-    if regs.handler != 0 {
-        return false;
-    }
-    if regs.ctop != 0 {
-        return false;
-    }
-    if regs.mtop != head.r {
-        return false;
-    }
-    regs.ptop == head.s
+    let done = Regs {
+        place: 0,
+        frame: 0,
+        handler: 0,
+        mtop: head.r,
+        ptop: head.s,
+        ctop: 0,
+        ..regs
+    };
+    regs == done
 }
 
 // What the registers tell of the topmost frame.
-fn top_frame(map: &[u16], regs: Regs) -> Look
+fn top_frame(passed: &Passed, regs: Regs) -> Look
     requires { RegsWords regs }
-    ensures { ((m : Machine) → the_look result ≡ topmost map.now (set_regs regs m)) × Near result }
+    ensures { (m : Machine) → the_look result ≡ topmost passed.now.map.now (set_regs regs m) }
 {
+    let here = passed.at(regs.place);
     Look {
-        inner: audit_places::inner_at(map, regs.place),
+        inner: here.inner,
         place: regs.place,
         frame: regs.frame,
         handler: regs.handler,
-        main_base: audit_records::less(regs.mtop, audit_places::main_at(map, regs.place)),
-        ptr_base: audit_records::less(regs.ptop, audit_places::ptr_at(map, regs.place)),
+        main_base: regs.mtop.saturating_sub(here.main),
+        ptr_base: regs.ptop.saturating_sub(here.ptr),
     }
 }
 
 // The state is sound, beside the heap whose objects are marked.
-pub fn sound_state(
-    file: &[u8],
-    map: &[u16],
-    table: &[usize; PROCS_MOST],
-    k: usize,
-    main: &[u32],
-    ptr: &[u32],
-    ctl: &[u32],
-    marks: &[bool],
-    regs: Regs,
-) -> bool
-    requires { AuditReady file.now map.now table.now k × RegsWords regs × (length main.now ≤ main_most) × (length ptr.now ≤ ptr_most) }
+pub fn sound_state(audited: &Audited, marks: &[bool], regs: Regs) -> bool
+    requires { RegsWords regs }
     ensures { (heap : List ℕ) → Marks (objects_of heap) marks.now →
-        result ≡ sound? file.now map.now (record { regs = regs; main = main.now; ptr = ptr.now; ctl = ctl.now; heap = heap }) }
+        result ≡ sound? audited.now.passed.file.now audited.now.passed.map.now (record {
+          regs = regs;
+          main = audited.now.main.now;
+          ptr = audited.now.ptr.now;
+          ctl = audited.now.ctl.now;
+          heap = heap;
+        }) }
 {
     if regs.state == 1 {
-        let head = audit_places::head_of(file, table, k, 0);
-        if done_right(head, regs) {
-            return words_right(main, ptr, ctl, marks, regs);
-        }
-        return false;
+        let head = audited.passed.head_of(0);
+        return done_right(head, regs) && words_right(audited, marks, regs);
     }
-    if !tops_right(map, regs, ctl.len()) {
-        return false;
-    }
-    let count = regs.ctop / RECORD;
-    let top = top_frame(map, regs);
-    if !records_right(file, map, table, k, main.len(), ptr.len(), ctl, count, top) {
-        return false;
-    }
-    words_right(main, ptr, ctl, marks, regs)
+    let top = top_frame(&audited.passed, regs);
+    tops_right(audited, regs)
+        && records_right(audited, regs.ctop / RECORD, top)
+        && words_right(audited, marks, regs)
 }

@@ -9,7 +9,7 @@ ghost use Rattle.control_stack.specs.Layout.{the_frame, the_handler, rec_of, IsF
 use model::RECORD;
 
 // A frame's record.
-#[derive(Clone, Copy)]
+#[derive(Clone, Copy, PartialEq, Eq)]
 pub struct Frame {
     pub main_base: usize,
     pub ptr_base: usize,
@@ -19,7 +19,7 @@ pub struct Frame {
 }
 
 // A handler's record.
-#[derive(Clone, Copy)]
+#[derive(Clone, Copy, PartialEq, Eq)]
 pub struct Handler {
     pub opened: usize, // the place of its 160
     pub main_top: usize, // the tops then

@@ -1,13 +1,12 @@
 -- The invariant: what all the records come to is what those that are left come to.
-use Prim.Native.Nat.{◌≤◌}
-use mathlib.Core.Path.{◌≡◌}
-use Rattle.audit_records.specs.Records.{Near}
+use Rattle.std.proofs.Common.{◌≡◌, length}
 use Rattle.audit_state.specs.Descent.{lowest}
 use Rattle.audit_state.proofs.records_right.Given as goal
 
 abbrev pub invariant-loop-left : goal.invariant-loop-left
 invariant-loop-left l =
-    (l.left ≤ l.count) × Near l.s × (lowest l.file l.map l.lm l.lp l.ctl l.count l.initial.s ≡ lowest l.file l.map l.lm l.lp l.ctl l.left l.s)
-
-abbrev pub decreases-loop-left : goal.decreases-loop-left
-decreases-loop-left l = l.left
+    let f = l.audited.passed.file.now in
+    let map = l.audited.passed.map.now in
+    let lm = length l.audited.main.now in
+    let lp = length l.audited.ptr.now in
+    lowest f map lm lp l.audited.ctl.now l.count l.fn.top ≡ lowest f map lm lp l.audited.ctl.now l.left l.look
