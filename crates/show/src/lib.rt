@@ -5,10 +5,10 @@ mod line;
 
 ghost use Rattle.std.specs.Prelude.{◌≡◌};
 ghost use Rattle.model.specs.Calls.{answers, start_of, run_of};
+ghost use Rattle.show.specs.Calls.{lent, begin_of, main_words};
 
 pub use line::Line;
 use model::{Answer, FILE_MOST, REGISTER_BYTES};
-use std::io;
 
 // The lists that start and run work on (Manual 6.1), but for the file.
 #[derive(Drop)]
@@ -23,24 +23,7 @@ pub struct Lists<'a> {
 
 impl Lists<'_> {
     pub fn start(&mut self, file: &[u8]) -> Answer
-        ensures { answers result (record {
-          file = file.now;
-          map = self.new.map.now;
-          main = self.new.main.now;
-          ptr = self.new.ptr.now;
-          ctl = self.new.ctl.now;
-          heap = self.new.heap.now;
-          bytes = self.new.registers.now;
-        })
-            ≡ start_of (record {
-              file = file.now;
-              map = self.old.map.now;
-              main = self.old.main.now;
-              ptr = self.old.ptr.now;
-              ctl = self.old.ctl.now;
-              heap = self.old.heap.now;
-              bytes = self.old.registers.now;
-            }) }
+        ensures { answers result (lent file.now self.new) ≡ start_of (lent file.now self.old) }
     {
         calls::start(
             file,
@@ -48,30 +31,13 @@ impl Lists<'_> {
             self.main,
             self.ptr,
             self.ctl,
-            self.heap,
+            &mut *self.heap,
             self.registers,
         )
     }
 
     pub fn run(&mut self, file: &[u8], budget: u32) -> Answer
-        ensures { answers result (record {
-          file = file.now;
-          map = self.new.map.now;
-          main = self.new.main.now;
-          ptr = self.new.ptr.now;
-          ctl = self.new.ctl.now;
-          heap = self.new.heap.now;
-          bytes = self.new.registers.now;
-        })
-            ≡ run_of budget (record {
-              file = file.now;
-              map = self.old.map.now;
-              main = self.old.main.now;
-              ptr = self.old.ptr.now;
-              ctl = self.old.ctl.now;
-              heap = self.old.heap.now;
-              bytes = self.old.registers.now;
-            }) }
+        ensures { answers result (lent file.now self.new) ≡ run_of budget (lent file.now self.old) }
     {
         calls::run(
             file,
@@ -86,19 +52,25 @@ impl Lists<'_> {
     }
 
     // Starts, and runs if that was ready.
-    pub fn begin(&mut self, file: &[u8], budget: u32) -> Answer {
+    pub fn begin(&mut self, file: &[u8], budget: u32) -> Answer
+        ensures { answers result (lent file.now self.new) ≡ begin_of budget (lent file.now self.old) }
+    {
         match self.start(file) {
             Answer::Ready => self.run(file, budget),
             answer => answer,
         }
     }
 
-    // The line for an answer: beside it, the words below the main top, none where the registers have another length.
-    pub fn line(&self, answer: Answer) -> Line<'_> {
-        let mut top = 0;
-        if self.registers.len() == REGISTER_BYTES {
-            top = registers::regs_from(self.registers).mtop;
-        }
+    // The line for an answer, with the words below the main top; with none where the registers have another length.
+    pub fn line(&self, answer: Answer) -> Line<'_>
+        ensures told { result.answer ≡ answer }
+        ensures words { result.main.now ≡ main_words self.now }
+    {
+        let top = if self.registers.len() == REGISTER_BYTES {
+            registers::regs_from(self.registers).mtop
+        } else {
+            0
+        };
         Line {
             answer,
             main: &self.main[..top.min(self.main.len())],
@@ -106,18 +78,18 @@ impl Lists<'_> {
     }
 }
 
-// The bench's line for a file: stacks of 256, 256 and 250 words, an empty heap of 1,024, a budget of 1,000.
-pub fn bench(rt: &impl Print, file: &[u8]) -> io::Result<()> {
-    let mut heap = [0; 1024];
-    heap[0] = 2;
+// Works on the bench's lists (Manual 7.3): stacks of 256, 256 and 250 words, and an empty heap of 1,024.
+pub fn on_bench<R, F: FnOnce(&mut Lists) -> R>(work: F) -> R
+    requires { F.IsAlwaysCallable work }
+{
     let mut lists = Lists {
         map: &mut [0; 3 * FILE_MOST],
         main: &mut [0; 256],
         ptr: &mut [0; 256],
         ctl: &mut [0; 250],
-        heap: &mut heap,
+        heap: &mut [0; 1024],
         registers: &mut [0; REGISTER_BYTES],
     };
-    let answer = lists.begin(file, 1000);
-    println!(rt; "{}", lists.line(answer))
+    lists.heap[0] = 2;
+    work(&mut lists)
 }

@@ -3,6 +3,7 @@ use model::Answer;
 use std::fmt;
 
 // Words as signed numbers, with commas.
+#[derive(Clone, Copy)]
 struct Words<'a>(&'a [u32]);
 
 impl fmt::Display for Words<'_> {
