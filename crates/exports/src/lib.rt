@@ -3,43 +3,55 @@
 #![tactic(auto)]
 
 ghost use Rattle.std.specs.Prelude.{◌≡◌};
-ghost use Rattle.model.specs.Calls.{told, told_of, check_of, start_of, run_of};
-ghost use Rattle.exports.specs.Replies.{as_told, replies, replies_to, checks, checks_to};
+ghost use Rattle.model.specs.Calls.{check_of, start_of, run_of};
+ghost use Rattle.exports.specs.Replies.{replies, replies_to, checks, checks_to};
 
 use model::Answer;
 
+// Which answer it is (Manual 7.1); a reply has it as a number, the same as the enum of c/yalgovim.h.
+#[derive(Clone, Copy, Debug, PartialEq, Eq)]
+enum Kind {
+    Passed = 0,
+    Ready = 1,
+    Finished = 2,
+    Spent = 3,
+    Uncaught = 4,
+    Refused = 5,
+}
+
+// Four numbers, since an enum with fields cannot be handed to C.
 #[repr(C)]
-#[derive(Clone, Copy)]
+#[derive(Clone, Copy, Debug, Default, PartialEq, Eq)]
 pub struct Reply {
-    pub kind: u32, // 0 passed, 1 ready, 2 finished, 3 spent, 4 uncaught, 5 refused
+    pub kind: u32, // a Kind
     pub number: u32, // the number of a refusal, the code of an uncaught exception, else 0
     pub place: usize, // the place of either, else 0
     pub steps: u32, // the steps done, of an answer to run that is no refusal, else 0
 }
 
-fn numbers(kind: u32, number: u32, place: usize, steps: u32) -> Reply
-    ensures { as_told result ≡ told kind number place steps }
-{
-    Reply {
-        kind,
-        number,
-        place,
-        steps,
-    }
-}
-
 // An answer in numbers (Manual 7.1).
-#[tactic(auto, unfolding(model::specs::Calls::told_of))]
-fn told(answer: Answer) -> Reply
-    ensures { as_told result ≡ told_of answer }
-{
-    match answer {
-        Answer::Passed => numbers(0, 0, 0, 0),
-        Answer::Ready => numbers(1, 0, 0, 0),
-        Answer::Finished(steps) => numbers(2, 0, 0, steps),
-        Answer::Spent(steps) => numbers(3, 0, 0, steps),
-        Answer::Uncaught(code, place, steps) => numbers(4, code, place, steps),
-        Answer::Refused(number, place) => numbers(5, number, place, 0),
+impl From<Answer> for Reply {
+    ghost use Rattle.model.specs.Calls.{told_of};
+    ghost use Rattle.exports.specs.Replies.{as_told};
+
+    ghost from_gives = { λ answer reply. as_told reply ≡ told_of answer };
+
+    #[tactic(auto, unfolding(model::specs::Calls::told_of))]
+    fn from(answer: Answer) -> Reply {
+        let (kind, number, place, steps) = match answer {
+            Answer::Passed => (Kind::Passed, 0, 0, 0),
+            Answer::Ready => (Kind::Ready, 0, 0, 0),
+            Answer::Finished(steps) => (Kind::Finished, 0, 0, steps),
+            Answer::Spent(steps) => (Kind::Spent, 0, 0, steps),
+            Answer::Uncaught(code, place, steps) => (Kind::Uncaught, code, place, steps),
+            Answer::Refused(number, place) => (Kind::Refused, number, place, 0),
+        };
+        Reply {
+            kind: kind as u32,
+            number,
+            place,
+            steps,
+        }
     }
 }
 
@@ -47,7 +59,7 @@ pub fn yalgovim_check(file: &[u8], map: &mut [u16]) -> Reply
     ensures { checks result map.new
         ≡ checks_to (check_of file.now map.old) }
 {
-    told(checker::check(file, map))
+    checker::check(file, map).into()
 }
 
 pub fn yalgovim_start(
@@ -78,7 +90,7 @@ pub fn yalgovim_start(
           bytes = registers.old;
         })) }
 {
-    told(calls::start(file, map, main, ptr, ctl, heap, registers))
+    calls::start(file, map, main, ptr, ctl, heap, registers).into()
 }
 
 pub fn yalgovim_run(
@@ -110,5 +122,5 @@ pub fn yalgovim_run(
           bytes = registers.old;
         })) }
 {
-    told(calls::run(file, map, main, ptr, ctl, heap, registers, budget))
+    calls::run(file, map, main, ptr, ctl, heap, registers, budget).into()
 }
