@@ -1,25 +1,24 @@
 -- All that run tests, 1 to 13: behind what start tests too, with the sums, the state is sound or refused as 12. What the code finds decides what the
 -- model's `tested_for_run` comes to, whatever follows.
-use Rattle.std.specs.Prelude.{ℕ, ◌≤◌, Bool, true, false, List, ◌≡◌, length}
+use Rattle.std.specs.Prelude.{ℕ, ◌≤◌, Bool, true, false, List, ◌≡◌, length, Result, Ok, Err}
 use Rattle.std.proofs.Common.{ap, sym, ◌∙◌, arith}
 use Rattle.model.specs.Heap.{objects_of}
 use Rattle.model.specs.Control.{regs_from}
 use Rattle.model.specs.Sound.{sound?}
 use Rattle.model.specs.Claim.{Bytes}
 use Rattle.model.specs.Calls.{Lent, with_map, machine_of, After, answers, length_tests, belong_tests, sound_tests, demand, tested_for_run, main_most, ptr_most}
-use Rattle.check_flow.specs.declared.Verdict.{Verdict}
-use Rattle.check_flow.specs.declared.Verdict.TheVariants.{Pass, Refuse}
 use Rattle.audit_words.specs.Table.{Marks}
 use Rattle.audit_places.specs.Places.{AuditReady, passed-ready}
 use Rattle.call_tests.specs.Admit.{AdmitShows, AdmittedMarks, tested-refused, tested-on}
-use Rattle.call_tests.specs.declared.Tested.{Tested}
-use Rattle.call_tests.specs.declared.Tested.TheVariants.{Sound, Unfit}
+use Rattle.model.specs.Refusals.{refused_as}
+use Rattle.model.specs.declared.Refusal.TheVariants.{State}
+use Rattle.model.specs.declared.RefusedAt.{RefusedAt}
+use Rattle.call_tests.specs.declared.Sound.{Sound}
 use Rattle.model.specs.declared.Regs.{Regs}
-use Rattle.model.specs.declared.Answer.TheVariants.{Refused}
 
-abbrev pub judged_for : Tested → (Lent → After) → Lent → After
-judged_for (Sound k r) rest l = rest l
-judged_for (Unfit n p) rest l = answers (Refused n p) l
+abbrev pub judged_for : Result Sound RefusedAt → (Lent → After) → Lent → After
+judged_for (Ok s) rest l = rest l
+judged_for (Err e) rest l = answers (refused_as e) l
 
 -- a state that was let through: the file has k procedures, and these are the registers
 pub record Through (l : Lent) (map table : List ℕ) (k : ℕ) (r : Regs) : Type 0 where
@@ -27,23 +26,23 @@ pub record Through (l : Lent) (map table : List ℕ) (k : ℕ) (r : Regs) : Type
   pub regs_are : r ≡ regs_from l.bytes
   pub sound : sound? l.file map (machine_of (with_map map l)) ≡ true
 
-pub record TestedAs (l : Lent) (map table : List ℕ) (t : Tested) : Type 0 where
+pub record TestedAs (l : Lent) (map table : List ℕ) (t : Result Sound RefusedAt) : Type 0 where
   pub is : (rest : Lent → After) → tested_for_run l rest ≡ judged_for t rest (with_map map l)
-  pub through : (k : ℕ) (r : Regs) → t ≡ Sound k r → Through l map table k r
+  pub through : (s : Sound) → t ≡ Ok s → Through l map table s.procedures s.regs
 
-unfit-sound : {A : Type 0} (n p k : ℕ) (r : Regs) → Unfit n p ≡ Sound k r → A
-unfit-sound n p k r e = let y : ◌≡◌ {A = ℕ} 0 1 = cc in absurd (omega arith)
+unfit-sound : {A : Type 0} (e : RefusedAt) (s : Sound) → Err e ≡ Ok s → A
+unfit-sound e s z = let y : ◌≡◌ {A = ℕ} 0 1 = cc in absurd (omega arith)
 
 -- the tests on the state, then the rest
 abbrev then : (Lent → After) → Lent → After
 then rest l = demand (sound_tests l) 12 l (rest l)
 
-module _ {l : Lent} {map table : List ℕ} {marks : List Bool} {v : Verdict} (A : AdmittedMarks (belong_tests l) l map table marks v) where
-  pub test-refused : {n p : ℕ} → v ≡ Refuse n p → TestedAs l map table (Unfit n p)
-  test-refused {n = n} {p = p} e =
-      record { is = λ rest. sym (tested-refused (belong_tests l) l map table v A.found (then rest) n p e); through = λ k r z. unfit-sound n p k r z }
+module _ {l : Lent} {map table : List ℕ} {marks : List Bool} {v : Result ℕ RefusedAt} (A : AdmittedMarks (belong_tests l) l map table marks v) where
+  pub test-refused : {r : RefusedAt} → v ≡ Err r → TestedAs l map table (Err r)
+  test-refused {r = r} e =
+      record { is = λ rest. sym (tested-refused (belong_tests l) l map table v A.found (then rest) r e); through = λ s z. unfit-sound r s z }
 
-  module _ {k : ℕ} (e : v ≡ Pass k) where
+  module _ {k : ℕ} (e : v ≡ Ok k) where
     S : AdmitShows (belong_tests l) l map table k
     S = A.found.shown k e
 
@@ -60,30 +59,31 @@ module _ {l : Lent} {map table : List ℕ} {marks : List Bool} {v : Verdict} (A 
       sound-is : t ≡ sound? l.file map (machine_of (with_map map l))
       sound-is = t-is l.heap (A.marks_are k e) ∙ rw r_is
 
-      pub test-unsound : t ≡ false → TestedAs l map table (Unfit 12 0)
+      pub test-unsound : t ≡ false → TestedAs l map table (Err (record { refusal = State; place = 0 }))
       test-unsound w =
           record {
             is = λ rest. sym (tested-on (belong_tests l) l map table v A.found (then rest) k e) ∙ rw (sym sound-is ∙ w);
-            through = λ j s z. unfit-sound 12 0 j s z;
+            through = λ s z. unfit-sound (record { refusal = State; place = 0 }) s z;
           }
 
-      pub test-sound : t ≡ true → TestedAs l map table (Sound k r)
+      pub test-sound : t ≡ true → TestedAs l map table (Ok (record { procedures = k; regs = r }))
       test-sound w =
           record {
             is = λ rest. sym (tested-on (belong_tests l) l map table v A.found (then rest) k e) ∙ rw (sym sound-is ∙ w);
-            through = λ j s z. go j s z;
+            through = λ s z. go s z;
           }
         where
-          go : (j : ℕ) (s : Regs) → Sound k r ≡ Sound j s → Through l map table j s
-          go j s z =
-              let a : k ≡ j = cc in
-              let b : r ≡ s = cc in
+          go : (s : Sound) → Ok (record { procedures = k; regs = r }) ≡ Ok s → Through l map table s.procedures s.regs
+          go s z =
+              let e : record { procedures = k; regs = r } ≡ s = cc in
+              let a : k ≡ s.procedures = ap (λ (x : Sound). x.procedures) e in
+              let b : r ≡ s.regs = ap (λ (x : Sound). x.regs) e in
               record { shown = rw a at S; regs_are = sym b ∙ r_is; sound = sym sound-is ∙ w }
 
 -- what a call comes to that begins with these tests
-module _ (l : Lent) (map table : List ℕ) (t : Tested) (T : TestedAs l map table t) (rest : Lent → After) where
-  pub for-run-refused : (n p : ℕ) → t ≡ Unfit n p → answers (Refused n p) (with_map map l) ≡ tested_for_run l rest
-  for-run-refused n p e = sym (T.is rest ∙ ap (λ (x : Tested). judged_for x rest (with_map map l)) e)
+module _ (l : Lent) (map table : List ℕ) (t : Result Sound RefusedAt) (T : TestedAs l map table t) (rest : Lent → After) where
+  pub for-run-refused : (r : RefusedAt) → t ≡ Err r → answers (refused_as r) (with_map map l) ≡ tested_for_run l rest
+  for-run-refused r e = sym (T.is rest ∙ ap (λ (x : Result Sound RefusedAt). judged_for x rest (with_map map l)) e)
 
-  pub for-run-on : (k : ℕ) (r : Regs) → t ≡ Sound k r → rest (with_map map l) ≡ tested_for_run l rest
-  for-run-on k r e = sym (T.is rest ∙ ap (λ (x : Tested). judged_for x rest (with_map map l)) e)
+  pub for-run-on : (s : Sound) → t ≡ Ok s → rest (with_map map l) ≡ tested_for_run l rest
+  for-run-on s e = sym (T.is rest ∙ ap (λ (x : Result Sound RefusedAt). judged_for x rest (with_map map l)) e)

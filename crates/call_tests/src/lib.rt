@@ -8,9 +8,9 @@ ghost use Rattle.call_lists.specs.Lists.{belong_list};
 ghost use Rattle.call_tests.specs.Admit.{Asks, Tables, Started, AdmittedMarks};
 ghost use Rattle.call_tests.specs.Tested.{TestedAs};
 
-use audit_heap::HeapAudit;
-use check_flow::Verdict;
-use model::{HEAP_MOST, PROCS_MOST, REGISTER_BYTES, Regs};
+use audit_places::Passed;
+use audit_records::Audited;
+use model::{HEAP_MOST, PROCS_MOST, REGISTER_BYTES, RefusedAt, Refusal, Regs};
 
 // A heap of so many words at most is short.
 const FEW: usize = 2048;
@@ -31,7 +31,7 @@ fn admit_with(
     ptr: &[u32],
     ctl: &[u32],
     heap: &[u32],
-) -> Verdict
+) -> Result<usize, RefusedAt>
     requires { Tables table.old marks.old heap.now }
     ensures { (ts : List Test) (bytes : List ℕ) → Asks ts file.now its → AdmittedMarks ts (record {
       file = file.now;
@@ -43,23 +43,22 @@ fn admit_with(
       bytes = bytes;
     }) map.new table.new marks.new result }
 {
-    let v = checker::check_with(file, map, table);
-    let Verdict::Pass(k) = v else {
-        return v;
-    };
+    let procedures = checker::check_with(file, map, table)?;
     if !its {
-        return Verdict::Refuse(13, 0);
+        return Err(RefusedAt {
+            refusal: Refusal::OtherFile,
+            place: 0,
+        });
     }
     let head = code_file::head_at(file, 0);
-    if call_lists::lengths_right(head, main.len(), ptr.len(), ctl.len(), heap.len()) {
-        let audit = audit_heap::audit_heap(heap, marks);
-        match audit {
-            HeapAudit::Fault(q) => Verdict::Refuse(11, q),
-            HeapAudit::Clean => Verdict::Pass(k),
-        }
-    } else {
-        Verdict::Refuse(10, 0)
+    if !call_lists::lengths_right(head, main.len(), ptr.len(), ctl.len(), heap.len()) {
+        return Err(RefusedAt {
+            refusal: Refusal::ListLengths,
+            place: 0,
+        });
     }
+    audit_heap::audit_heap(heap, marks)?;
+    Ok(procedures)
 }
 
 // The same for start, with marks of its own. A short heap is given a short table: to clear the long one takes longer than to test a short
@@ -73,7 +72,7 @@ pub fn admit(
     ctl: &[u32],
     heap: &[u32],
     bytes: &[u8],
-) -> Verdict
+) -> Result<usize, RefusedAt>
     requires { table.old ≡ replicate procs_most 0 }
     ensures { Started (record {
       file = file.now;
@@ -94,11 +93,11 @@ pub fn admit(
     admit_with(its, file, map, table, &mut marks, main, ptr, ctl, heap)
 }
 
-// What the tests of a run find: a sound state of a file with so many procedures, and its registers; or a refusal, its number and its place.
+// What the tests of a run find where there is no refusal: the registers of a sound state, and how many procedures its file has.
 #[derive(Clone, Copy)]
-pub enum Tested {
-    Sound(usize, Regs),
-    Unfit(u32, usize),
+pub struct Sound {
+    pub procedures: usize,
+    pub regs: Regs,
 }
 
 // All that run tests; `its` says whether its tests for 13 hold.
@@ -113,7 +112,7 @@ fn test_with(
     ctl: &[u32],
     heap: &[u32],
     bytes: &[u8],
-) -> Tested
+) -> Result<Sound, RefusedAt>
     requires { Tables table.old marks.old heap.now × Asks (belong_list file.now bytes.now) file.now its }
     ensures { TestedAs (record {
       file = file.now;
@@ -125,16 +124,27 @@ fn test_with(
       bytes = bytes.now;
     }) map.new table.new result }
 {
-    let v = admit_with(its, file, map, table, marks, main, ptr, ctl, heap);
-    match v {
-        Verdict::Refuse(n, p) => Tested::Unfit(n, p),
-        Verdict::Pass(k) => {
-            let regs = registers::regs_from(bytes);
-            if audit_state::sound_state(file, map, table, k, main, ptr, ctl, marks, regs) {
-                return Tested::Sound(k, regs);
-            }
-            Tested::Unfit(12, 0)
-        }
+    let procedures = admit_with(its, file, map, table, marks, main, ptr, ctl, heap)?;
+    let regs = registers::regs_from(bytes);
+    let passed = Passed {
+        file,
+        map,
+        heads: table,
+        count: procedures,
+    };
+    let audited = Audited {
+        passed,
+        main,
+        ptr,
+        ctl,
+    };
+    if audit_state::sound_state(&audited, marks, regs) {
+        Ok(Sound { procedures, regs })
+    } else {
+        Err(RefusedAt {
+            refusal: Refusal::State,
+            place: 0,
+        })
     }
 }
 
@@ -148,7 +158,7 @@ pub fn test_for_run(
     ctl: &[u32],
     heap: &[u32],
     bytes: &[u8],
-) -> Tested
+) -> Result<Sound, RefusedAt>
     requires { table.old ≡ replicate procs_most 0 }
     ensures { TestedAs (record {
       file = file.now;

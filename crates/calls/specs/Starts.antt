@@ -1,5 +1,5 @@
 -- Start: a refusal is the model's, and zeroed stacks with the first registers and the file's sums are the state that it begins with.
-use Rattle.std.specs.Prelude.{ℕ, List, ◌≡◌, refl, set}
+use Rattle.std.specs.Prelude.{ℕ, List, ◌≡◌, refl, set, Result, Ok, Err}
 use Rattle.std.proofs.Common.{ap, sym, ◌∙◌, arith}
 use Rattle.std.proofs.lemmas.List.{set-get_or}
 use Rattle.model.specs.Words.{cut}
@@ -9,11 +9,11 @@ use Rattle.model.specs.Sums.{sums_of}
 use Rattle.model.specs.Control.{frame_rec, put_rec, word_from, regs_from, reg_bytes}
 use Rattle.model.specs.Calls.{Lent, with_map, answers, register_tests, first_frame, started, start_of, leaving}
 use Rattle.call_tests.specs.Admit.{Started, tested-refused, tested-on, first-whole}
-use Rattle.check_flow.specs.declared.Verdict.{Verdict}
-use Rattle.check_flow.specs.declared.Verdict.TheVariants.{Pass, Refuse}
+use Rattle.model.specs.Refusals.{refused_as}
+use Rattle.model.specs.declared.RefusedAt.{RefusedAt}
 use Rattle.model.specs.declared.Regs.{Regs}
 use Rattle.model.specs.declared.Sums.{Sums}
-use Rattle.model.specs.declared.Answer.TheVariants.{Ready, Refused}
+use Rattle.model.specs.declared.Answer.TheVariants.{Ready}
 
 -- the first frame's record is five zeros, as the stack is already
 zeroed : (l : List ℕ) (i : ℕ) → set (cut 0 l) i 0 ≡ cut 0 l
@@ -32,13 +32,13 @@ first_back : (s : Sums) → regs_from (reg_bytes s first_regs) ≡ first_regs
 unfolding regs_from reg_bytes word_from
 first_back s = refl
 
-module _ (l : Lent) (map table : List ℕ) (v : Verdict) (A : Started l map table v) where
-  pub start-refused : (n p : ℕ) → v ≡ Refuse n p → answers (Refused n p) (with_map map l) ≡ start_of l
+module _ (l : Lent) (map table : List ℕ) (v : Result ℕ RefusedAt) (A : Started l map table v) where
+  pub start-refused : (r : RefusedAt) → v ≡ Err r → answers (refused_as r) (with_map map l) ≡ start_of l
   unfolding start_of
-  start-refused n p e = tested-refused (register_tests l) l map table v A (λ l'. answers Ready (leaving (sums_of l'.file) l' (started l'))) n p e
+  start-refused r e = tested-refused (register_tests l) l map table v A (λ l'. answers Ready (leaving (sums_of l'.file) l' (started l'))) r e
 
   -- the registers are put first, then the sums
-  pub start-ready : (k : ℕ) → v ≡ Pass k → (main ptr ctl put bytes : List ℕ) (s t : Sums) → main ≡ cut 0 l.main →
+  pub start-ready : (k : ℕ) → v ≡ Ok k → (main ptr ctl put bytes : List ℕ) (s t : Sums) → main ≡ cut 0 l.main →
       ptr ≡ cut 0 l.ptr → ctl ≡ cut 0 l.ctl → put ≡ reg_bytes s first_regs → t ≡ sums_of l.file → bytes ≡ reg_bytes t (regs_from put) →
       answers Ready
       (record { file = l.file; map = map; main = main; ptr = ptr; ctl = ctl; heap = l.heap; bytes = bytes }) ≡ start_of l

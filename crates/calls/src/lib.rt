@@ -2,36 +2,20 @@
 #![tactic(auto)]
 
 ghost use Rattle.std.specs.Prelude.{◌≡◌};
-ghost use Rattle.model.specs.Words.{cut};
 ghost use Rattle.model.specs.Calls.{answers, start_of, run_of};
-ghost use Rattle.calls.specs.Starts.{first_regs};
 
-use call_tests::Tested;
-use check_flow::Verdict;
 use model::{Answer, HEAD_SIZE, PROCS_MOST, RECORD, Regs};
 
-// Every word is 0.
-fn clear(l: &mut [u32])
-    ensures { l.new ≡ cut 0 l.old }
-{
-    let all = l.len();
-    apply_words::cut_to(l, 0, all);
-}
-
 // At the first instruction of procedure 0, in its frame, with empty stacks.
-fn first() -> Regs
-    ensures { result ≡ first_regs }
-{
-    Regs {
-        place: HEAD_SIZE,
-        frame: 1,
-        handler: 0,
-        mtop: 0,
-        ptop: 0,
-        ctop: RECORD,
-        state: 0,
-    }
-}
+const FIRST: Regs = Regs {
+    place: HEAD_SIZE,
+    frame: 1,
+    handler: 0,
+    mtop: 0,
+    ptop: 0,
+    ctop: RECORD,
+    state: 0,
+};
 
 // Start's tests, then the state at the first instruction of procedure 0, with the file's sums.
 pub fn start(
@@ -63,19 +47,15 @@ pub fn start(
         }) }
 {
     let mut table = [0usize; PROCS_MOST];
-    let v = call_tests::admit(file, map, &mut table, main, ptr, ctl, heap, bytes);
-    match v {
-        Verdict::Refuse(n, p) => Answer::Refused(n, p),
-        Verdict::Pass(_) => {
-            clear(main);
-            clear(ptr);
-            clear(ctl);
-            registers::put_regs(bytes, first());
-            let sums = file_sums::sums_of(file);
-            registers::put_sums(bytes, sums);
-            Answer::Ready
-        }
+    if let Err(refused) = call_tests::admit(file, map, &mut table, main, ptr, ctl, heap, bytes) {
+        return refused.into();
     }
+    main.fill(0);
+    ptr.fill(0);
+    ctl.fill(0);
+    registers::put_regs(bytes, FIRST);
+    registers::put_sums(bytes, file_sums::sums_of(file));
+    Answer::Ready
 }
 
 // Run's tests, then the run. The sums stay in the registers' bytes: no step has to do with them.
@@ -109,14 +89,14 @@ pub fn run(
         }) }
 {
     let mut table = [0usize; PROCS_MOST];
-    let t = call_tests::test_for_run(file, map, &mut table, main, ptr, ctl, heap, bytes);
-    match t {
-        Tested::Unfit(n, p) => Answer::Refused(n, p),
-        Tested::Sound(_, regs) => {
-            let out = run::run_on(file, &table, main, ptr, ctl, heap, regs, budget);
-            let left = out.regs;
-            registers::put_regs(bytes, left);
-            out.answer
+    match call_tests::test_for_run(file, map, &mut table, main, ptr, ctl, heap, bytes) {
+        Err(refused) => refused.into(),
+        Ok(sound) => {
+            let ended = run::run_on(
+                file, &table, main, ptr, ctl, heap, sound.regs, budget,
+            );
+            registers::put_regs(bytes, ended.regs);
+            ended.answer
         }
     }
 }

@@ -1,5 +1,8 @@
 -- Manual 5.14, 6.5: the refusals by their numbers.
 use Rattle.std.specs.Prelude.{ℕ, Result, Ok, Err}
+use Rattle.model.specs.declared.Answer.{Answer}
+use Rattle.model.specs.declared.Answer.TheVariants.{Refused}
+use Rattle.model.specs.declared.RefusedAt.{RefusedAt}
 use Rattle.model.specs.declared.Refusal.{Refusal}
 use Rattle.model.specs.declared.Refusal.TheVariants.{FileLength, MapLength, Records, Heads, Target, Reach, Depths, Handlers, Meeting, ListLengths, Heap, State, OtherFile}
 
@@ -22,3 +25,7 @@ number_of OtherFile = 13
 abbrev pub fault_of : {A : Type 0} → Result A Refusal → ℕ
 fault_of (Ok _) = 0
 fault_of (Err r) = number_of r
+
+-- a refusal as an answer
+abbrev pub refused_as : RefusedAt → Answer
+refused_as e = Refused (number_of e.refusal) e.place
