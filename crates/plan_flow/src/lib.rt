@@ -19,28 +19,14 @@ pub fn jumps(file: &[u8], regs: Regs, kind: u8) -> Plan
     requires { Body file.now regs.place 2 × ((kind ≡ 1) ⊎ (kind ≡ 3)) }
     ensures { (m : Machine) → result ≡ planned file.now (set_regs regs m) 3 kind }
 {
-    let place = regs.place;
-    match kind {
-        1 => writes(
-            Into::Nothing,
-            code_file::forwards(file, place),
-            regs.mtop,
-            regs.ptop,
-            0,
-            0,
-        ),
-        _ => writes(
-            Into::Nothing,
-            code_file::backwards(file, place),
-            regs.mtop,
-            regs.ptop,
-            0,
-            0,
-        ),
-    }
+    let target = match kind {
+        1 => code_file::forwards(file, regs.place),
+        _ => code_file::backwards(file, regs.place),
+    };
+    writes(Into::Nothing, target, regs.mtop, regs.ptop, 0, 0)
 }
 
-// 2 and 5: forwards where the word is false; 5 keeps it then.
+// 2 and 5: forwards where the word is false; 5 keeps it then. One function with `on_true` would ask for the code three times.
 pub fn on_false(file: &[u8], main: &[u32], regs: Regs, kind: u8) -> Plan
     requires { Body file.now regs.place 2 × TopWithin main.now regs.mtop × (1 ≤ regs.mtop) × ((kind ≡ 2) ⊎ (kind ≡ 5)) }
     ensures { (m : Machine) → result ≡ planned file.now (set_regs regs (set_main main.now m)) 3 kind }
@@ -68,22 +54,14 @@ pub fn on_true(file: &[u8], main: &[u32], regs: Regs, kind: u8) -> Plan
         return writes(Into::Pop, place + 3, top, regs.ptop, 0, 0);
     }
     match kind {
-        4 => writes(
-            Into::Pop,
-            code_file::backwards(file, place),
-            top,
-            regs.ptop,
-            0,
-            0,
-        ),
-        _ => writes(
-            Into::Nothing,
-            code_file::forwards(file, place),
-            regs.mtop,
-            regs.ptop,
-            0,
-            0,
-        ),
+        4 => {
+            let target = code_file::backwards(file, place);
+            writes(Into::Pop, target, top, regs.ptop, 0, 0)
+        }
+        _ => {
+            let target = code_file::forwards(file, place);
+            writes(Into::Nothing, target, regs.mtop, regs.ptop, 0, 0)
+        }
     }
 }
 

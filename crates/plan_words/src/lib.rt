@@ -8,7 +8,6 @@ ghost use Rattle.model.specs.Control.{Machine, frame_of, set_regs, set_main, set
 ghost use Rattle.plan_meaning.specs.Planned.{write, plan_value, planned};
 ghost use Rattle.plan_meaning.specs.Asked.{Body, TopWithin};
 ghost use Rattle.control_stack.specs.Layout.{Numbered};
-ghost use Rattle.plan_words.specs.Given.{Binary};
 ghost use Rattle.model.specs.File.{file_most};
 ghost use Rattle.model.specs.Calls.{main_most};
 
@@ -100,19 +99,6 @@ fn result(into: Into, value: Option<u32>, place: usize, mtop: usize, ptop: usize
     }
 }
 
-fn compare(kind: u8, a: u32, b: u32) -> u32
-    requires { (kind ≡ 130) ⊎ ((kind ≡ 195) ⊎ ((kind ≡ 198) ⊎ ((kind ≡ 201) ⊎ (kind ≡ 204)))) }
-    ensures { Binary kind a b (Some result) }
-{
-    match kind {
-        130 => arithmetic::eq_w(a, b),
-        195 => arithmetic::lt(a, b),
-        198 => arithmetic::le(a, b),
-        201 => arithmetic::gt(a, b),
-        _ => arithmetic::ge(a, b),
-    }
-}
-
 // 130, 195, 198, 201 and 204.
 pub fn compares(main: &[u32], regs: Regs, kind: u8) -> Plan
     requires { (regs.place < file_most) × TopWithin main.now regs.mtop × (2 ≤ regs.mtop)
@@ -121,7 +107,15 @@ pub fn compares(main: &[u32], regs: Regs, kind: u8) -> Plan
 {
     let top = regs.mtop - 1;
     let at = regs.mtop - 2;
-    let word = compare(kind, main[at], main[top]);
+    let a = main[at];
+    let b = main[top];
+    let word = match kind {
+        130 => arithmetic::eq_w(a, b),
+        195 => arithmetic::lt(a, b),
+        198 => arithmetic::le(a, b),
+        201 => arithmetic::gt(a, b),
+        _ => arithmetic::ge(a, b),
+    };
     writes(Into::Main, regs.place + 1, top, regs.ptop, at, word)
 }
 

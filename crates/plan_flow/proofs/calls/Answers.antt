@@ -15,24 +15,15 @@ head_read : (c : After-head_at-head) →
     Numbers a.file.now (operand a.file.now a.regs.place) (get_or a.table.now c.operand-s.result 0) c.head_at-head.result
 head_read c = numbers _ c.requires.4 c.operand-s.ensures.is c.head_at-head.ensures
 
-pub head_at-head-requires : goal.head_at-head-requires
-head_at-head-requires c = rw c.operand-s.ensures.is (omega (arith, c.requires.4))
-
 pub overflow_sub-m : goal.overflow_sub-m
 overflow_sub-m c = omega (arith, head_read (goal.at.overflow_sub-m c).After-head_at-head, c.requires.4)
 
 pub overflow_sub-q : goal.overflow_sub-q
 overflow_sub-q c = omega (arith, head_read (goal.at.overflow_sub-q c).After-head_at-head, c.requires.4)
 
-pub overflow_add-m : goal.overflow_add-m
-overflow_add-m c = omega (arith, c.head_at-head.ensures, c.requires)
-
 pub returns-then-main-m : goal.returns-then-main-m
 unfolding planned ins_of
 returns-then-main-m c = λ m. no_main (head_read (goal.at.returns-then-main-m c).After-head_at-head) (set_regs _ (set_main _ (set_ptr _ (set_ctl _ m)))) _ c.if-main-m.true
-
-pub overflow_add-q : goal.overflow_add-q
-overflow_add-q c = omega (arith, c.head_at-head.ensures, c.requires)
 
 pub returns-then-ptr-q : goal.returns-then-ptr-q
 unfolding planned ins_of
@@ -40,20 +31,11 @@ returns-then-ptr-q c =
     let H = head_read (goal.at.returns-then-ptr-q c).After-head_at-head in
     λ m. no-ptr H (set_regs _ (set_main _ (set_ptr _ (set_ctl _ m)))) _ c.if-main-m.false c.if-ptr-q.true
 
-pub overflow_add-regs : goal.overflow_add-regs
-overflow_add-regs c = omega (arith, c.requires)
-
 pub returns-then-ctl-regs : goal.returns-then-ctl-regs
 unfolding planned ins_of
 returns-then-ctl-regs c =
     let H = head_read (goal.at.returns-then-ctl-regs c).After-head_at-head in
     λ m. no-ctl H (set_regs _ (set_main _ (set_ptr _ (set_ctl _ m)))) _ c.if-main-m.false c.if-ptr-q.false c.if-ctl-regs.true
-
-pub overflow_add-h : goal.overflow_add-h
-overflow_add-h c = omega (arith, head_read (goal.at.overflow_add-h c).After-head_at-head, c.requires)
-
-pub overflow_cast-q : goal.overflow_cast-q
-overflow_cast-q c = omega (arith, c.requires)
 
 pub returns : goal.returns
 unfolding planned ins_of

@@ -1,16 +1,18 @@
 -- `plan_flow::jumps`: at each of the two codes the definition computes.
+use mathlib.Core.Path.{◌≡◌}
+use native.Mathlib.Omega.{arith}
 use Rattle.model.specs.File.{ins_of}
 use Rattle.plan_meaning.specs.Planned.{plan_of, planned}
-use Rattle.laws_file.specs.Kinds.{other}
 use Rattle.plan_flow.proofs.jumps.Goals as goal
+use Rattle.plan_flow.proofs.jumps.Goals.{in-1, in_default}
 
-pub returns-in-1 : goal.returns-in-1
+pub returns : goal.returns
 unfolding planned plan_of ins_of
-returns-in-1 c = λ m. rw (c.writes.ensures, c.in-1.is, c.forwards.ensures.is)
-
-pub returns-in_default : goal.returns-in_default
-unfolding planned plan_of ins_of
-returns-in_default c =
+returns c =
     λ m.
-    let e = other c.requires.1 c.in_default.in_default-own.rest.1 in
-    rw (c.writes-in_default.ensures, e, c.backwards.ensures.is)
+    elim c.match-kind.branch [
+      | in-1 w ↦ rw (c.writes.ensures, w.target-is, w.in-1.is, w.forwards-target.ensures.is)
+      | in_default w ↦
+          let e : c.args.kind ≡ 3 = omega arith in
+          rw (c.writes.ensures, w.target-is, e, w.backwards-target.ensures.is)
+    ]

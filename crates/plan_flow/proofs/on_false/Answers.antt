@@ -1,8 +1,9 @@
 -- `plan_flow::on_false`: at each of the two codes the definition computes, but for its test of the word, which the code makes too.
 use mathlib.Core.Logic.{⊎_elim}
+use mathlib.Core.Path.{◌≡◌}
+use native.Mathlib.Omega.{arith}
 use Rattle.model.specs.File.{ins_of}
 use Rattle.plan_meaning.specs.Planned.{plan_of, planned}
-use Rattle.laws_file.specs.Kinds.{other}
 use Rattle.plan_flow.specs.Given.{is_true, is_false}
 use Rattle.plan_flow.proofs.on_false.Goals as goal
 
@@ -21,5 +22,5 @@ pub returns-in_default : goal.returns-in_default
 unfolding planned plan_of ins_of
 returns-in_default c =
     λ m.
-    let e = other c.requires.3 c.in_default.in_default-own.rest.1 in
+    let e : c.args.kind ≡ 5 = omega arith in
     rw (c.writes-in_default.ensures, e, is_false _ c.if-main-top-ne0.false, c.forwards-target.ensures.is)

@@ -2,7 +2,7 @@
 use mathlib.Core.Logic.{⊎_elim}
 use mathlib.Core.Path.{◌≡◌, ◌∙◌, sym}
 use native.Mathlib.Omega.{arith}
-use borrow.Author.Tests.{eq-eqb, ne_eqb, not-true, not-false}
+use borrow.Author.Tests.{eq-eqb, ne_eqb}
 use Rattle.model.specs.File.{ins_of}
 use Rattle.heap.specs.Stores.{in-plain}
 use Rattle.plan_meaning.specs.Planned.{basic_plan, plan_of, planned}
@@ -16,13 +16,13 @@ returns-then-object-eq0 c =
     ⊎_elim (λ e. rw e (rw z)) (λ e. rw e (rw z)) c.requires.6
 
 pub bounds-heap-at : goal.bounds-heap-at
-bounds-heap-at c = omega (arith, in-plain _ _ _ (sym c.in_plain.ensures ∙ not-false _ c.if-not-in_plain.false-raw))
+bounds-heap-at c = omega (arith, in-plain _ _ _ (sym c.in_plain.ensures ∙ c.if-not-in_plain.false))
 
 pub returns-then-not-in_plain : goal.returns-then-not-in_plain
 unfolding planned plan_of basic_plan ins_of
 returns-then-not-in_plain c =
     λ m.
-    let t = sym c.in_plain.ensures ∙ not-true _ c.if-not-in_plain.true-raw in
+    let t = sym c.in_plain.ensures ∙ c.if-not-in_plain.true in
     rw (c.in-30.is, ne_eqb _ 0 c.if-object-eq0.false, ← c.operand-s.ensures.is, t)
 
 pub returns-then-not-may_set_plain : goal.returns-then-not-may_set_plain
@@ -30,14 +30,14 @@ unfolding planned plan_of basic_plan ins_of
 returns-then-not-may_set_plain c =
     λ m.
     let e : c.args.kind ≡ 32 = omega arith in
-    let t = sym c.may_set_plain.ensures ∙ not-true _ c.if-not-may_set_plain.true-raw in
+    let t = sym c.may_set_plain.ensures ∙ c.if-not-may_set_plain.true in
     rw (e, ne_eqb _ 0 c.if-object-eq0.false, ← c.operand-s.ensures.is, t)
 
 pub returns-else-not-in_plain : goal.returns-else-not-in_plain
 unfolding planned plan_of basic_plan ins_of
 returns-else-not-in_plain c =
     λ m.
-    let t = sym c.in_plain.ensures ∙ not-false _ c.if-not-in_plain.false-raw in
+    let t = sym c.in_plain.ensures ∙ c.if-not-in_plain.false in
     rw (c.writes.ensures, c.in-30.is, ne_eqb _ 0 c.if-object-eq0.false, ← c.operand-s.ensures.is, t)
 
 pub returns-else-not-may_set_plain : goal.returns-else-not-may_set_plain
@@ -45,5 +45,5 @@ unfolding planned plan_of basic_plan ins_of
 returns-else-not-may_set_plain c =
     λ m.
     let e : c.args.kind ≡ 32 = omega arith in
-    let t = sym c.may_set_plain.ensures ∙ not-false _ c.if-not-may_set_plain.false-raw in
+    let t = sym c.may_set_plain.ensures ∙ c.if-not-may_set_plain.false in
     rw (c.writes-in_default.ensures, e, ne_eqb _ 0 c.if-object-eq0.false, ← c.operand-s.ensures.is, t)

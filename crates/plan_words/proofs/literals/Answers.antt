@@ -1,8 +1,8 @@
 -- `plan_words::literals`: at each of the two codes the definition computes.
+use mathlib.Core.Path.{◌≡◌}
 use native.Mathlib.Omega.{arith}
 use Rattle.model.specs.File.{codes, bodies, body_of, ins_of}
 use Rattle.plan_meaning.specs.Planned.{basic_plan, plan_of, planned}
-use Rattle.laws_file.specs.Kinds.{other}
 use Rattle.plan_words.proofs.literals.Goals as goal
 
 pub bounds-file-at : goal.bounds-file-at
@@ -12,7 +12,7 @@ bounds-file-at c = let b = rw c.in-54.is at c.requires.0 in omega (arith, b.insi
 pub operand4-requires : goal.operand4-requires
 unfolding body_of bodies codes
 operand4-requires c =
-    let e = other c.requires.2 c.in_default.in_default-own.rest.1 in
+    let e : c.args.kind ≡ 56 = omega arith in
     let b = rw e at c.requires.0 in
     omega (arith, b.inside)
 
@@ -24,5 +24,5 @@ pub returns-in_default : goal.returns-in_default
 unfolding planned plan_of basic_plan ins_of body_of bodies codes
 returns-in_default c =
     λ m.
-    let e = other c.requires.2 c.in_default.in_default-own.rest.1 in
+    let e : c.args.kind ≡ 56 = omega arith in
     rw (c.writes-in_default.ensures, e, c.operand4.ensures.is)

@@ -1,10 +1,9 @@
 -- `plan_words::main_words`: at each of the four codes by what the function called ensures.
 use mathlib.Core.Logic.{inl, inr}
-use mathlib.Core.Path.{refl}
+use mathlib.Core.Path.{◌≡◌, refl}
 use native.Mathlib.Omega.{arith}
 use Rattle.model.specs.File.{codes, bodies, body_of}
 use Rattle.model.specs.Control.{set_main, set_ctl}
-use Rattle.laws_file.specs.Kinds.{other}
 use Rattle.plan_words.proofs.main_words.Goals as goal
 
 pub main_locals-requires : goal.main_locals-requires
@@ -18,18 +17,6 @@ unfolding body_of bodies codes
 main_locals-requires-in-22 c =
     let a = c.requires in
     (rw c.in-22.is at a.0, a.1, a.2, a.3 (inr c.in-22.is), inr refl)
-
-pub literals-requires : goal.literals-requires
-literals-requires c =
-    let a = c.requires in
-    (rw c.in-54.is at a.0, omega (arith, a.1.below, a.1.few), inl refl)
-
-pub literals-requires-in_default : goal.literals-requires-in_default
-literals-requires-in_default c =
-    let a = c.requires in
-    let n = c.in_default.in_default-own.rest in
-    let e = other (other (other a.4 n.0.0.1) n.0.1) n.1 in
-    (rw e at a.0, omega (arith, a.1.below, a.1.few), inr refl)
 
 pub returns-in-20 : goal.returns-in-20
 unfolding body_of bodies codes
@@ -45,7 +32,5 @@ returns-in-54 c = λ m. rw c.in-54.is (c.literals.ensures (set_main _ (set_ctl _
 pub returns-in_default : goal.returns-in_default
 returns-in_default c =
     λ m.
-    let a = c.requires in
-    let n = c.in_default.in_default-own.rest in
-    let e = other (other (other a.4 n.0.0.1) n.0.1) n.1 in
+    let e : c.args.kind ≡ 56 = omega arith in
     rw e (c.literals-in_default.ensures (set_main _ (set_ctl _ m)))
