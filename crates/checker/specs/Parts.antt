@@ -1,29 +1,32 @@
 -- The checker's answer and map from those of its passes: the part of the map that is the file's is overwritten, the rest is kept.
 use Prim.Native.Nat.{ℕ, zero, suc, ◌+◌, ◌*◌, ◌<◌, ◌≤◌}
-use Rattle.std.specs.Prelude.{Bool, ◌≡◌, drop}
+use Rattle.std.specs.Prelude.{Bool, Result, Ok, Err, ◌≡◌, take, drop}
+use Rattle.std.specs.Result.{is_err}
 use Rattle.std.proofs.Math.Bool.{true, false}
 use Rattle.std.proofs.Common.{true≢false, inl, sym, ◌∙◌, arith}
 use mathlib.Core.List.{List, ◌++◌}
 use Rattle.std.proofs.Math.Path.{refl, ap}
 use Rattle.std.proofs.Math.Dec.{eqb}
-use Rattle.std.proofs.Math.ListN.{length, get_or, replicate}
+use Rattle.std.proofs.Math.ListN.{length, get_or, get_or-eq_default, replicate}
+use Rattle.std.proofs.Math.Decide.{dec_lt}
+use Rattle.std.proofs.lemmas.List.{get_or-take, length-take-le}
 use borrow.Author.Tests.{eq-eqb, eqb-true, le-leb, lt-leb}
 use Rattle.model.specs.Choice.{when◌then◌else◌}
-use Rattle.model.specs.File.{byte_at, Records, records_of, starts_in, is_head, select, heads, wrong, right, heads_of, head_of, entry, procs, params_main}
+use Rattle.model.specs.File.{byte_at, Records, records_of, starts_in, is_head, select, heads, right, heads_of, head_of, entry, procs, params_main}
 use Rattle.model.specs.File.{params_ptr, head_tests, file_most, procs_most}
 use Rattle.model.specs.Checker.{none, Known, state_at, is_set, firsts, first, map_from}
 use Rattle.model.specs.Calls.{over_map, wiped, pass, refuse, scanned, verdict_of, checked, answered, check_of}
-use Rattle.laws_file.specs.Procedures.{DepthsWithin}
+use Rattle.laws_file.specs.Procedures.{DepthsWithin, head-none}
 use Rattle.laws_file.specs.Walk.{HeadsHold, heads-right, entry-proc, file-walk, walk-above, after-above}
 use Rattle.check_scan.specs.Marks.{PartShows, marked, marked-shows}
 use Rattle.check_scan.specs.Scanning.{Comes, Scanned, listed-count, listed-all}
-use Rattle.check_scan.specs.Heading.{ScanMarked, Placed}
+use Rattle.check_scan.specs.Heading.{ScanMarked, Placed, Headed}
 use Rattle.check_flow.specs.Alike.{Fit}
 use Rattle.check_flow.specs.Flowing.{Begun, Flowed, refuse-pass}
-use Rattle.check_scan.specs.declared.RecordsFound.{RecordsFound}
-use Rattle.check_scan.specs.declared.RecordsFound.TheVariants.{Broken, Whole}
-use Rattle.check_flow.specs.declared.Verdict.{Verdict}
-use Rattle.check_flow.specs.declared.Verdict.TheVariants.{Pass, Refuse}
+use Rattle.check_scan.specs.declared.Found.{Found}
+use Rattle.model.specs.Refusals.{number_of}
+use Rattle.model.specs.declared.Refusal.TheVariants.{FileLength, MapLength}
+use Rattle.model.specs.declared.RefusedAt.{RefusedAt}
 use Rattle.model.specs.declared.Answer.{Answer}
 use Rattle.model.specs.declared.Answer.TheVariants.{Passed, Refused}
 
@@ -36,35 +39,37 @@ pub record Lengths (f m table : List ℕ) : Type 0 where
   pub empty : table ≡ replicate procs_most 0
 
 -- what refusals 3 to 9 come to, whatever the map was
-abbrev pub Looked : List ℕ → List ℕ → List ℕ → Verdict → Type 0
-Looked f m table (Pass n) =
+abbrev pub Looked : List ℕ → List ℕ → List ℕ → Result ℕ RefusedAt → Type 0
+Looked f m table (Ok n) =
     (k : Known) × ((map : List ℕ) → scanned f map (records_of f) ≡ pass (over_map f map (map_from k (length f) 0))) × (m ≡ map_from k (length f) 0)
     × Placed f table n
-Looked f m table (Refuse n p) = (map : List ℕ) → scanned f map (records_of f) ≡ refuse n p (wiped f map)
+Looked f m table (Err r) = (map : List ℕ) → scanned f map (records_of f) ≡ refuse (number_of r.refusal) r.place (wiped f map)
 
 -- the answer that a verdict is
-abbrev pub answer_of : Verdict → Answer
-answer_of (Pass n) = Passed
-answer_of (Refuse n p) = Refused n p
+abbrev pub answer_of : Result ℕ RefusedAt → Answer
+answer_of (Ok n) = Passed
+answer_of (Err r) = Refused (number_of r.refusal) r.place
 
 -- the same, with the part filled where the file is refused
-pub record Filled (f m table : List ℕ) (v : Verdict) : Type 0 where
+pub record Filled (f m table : List ℕ) (v : Result ℕ RefusedAt) : Type 0 where
   pub is : (map : List ℕ) → answered (scanned f map (records_of f)) ≡ checked (answer_of v) (over_map f map m)
-  pub placed : (n : ℕ) → v ≡ Pass n → Placed f table n
+  pub placed : (n : ℕ) → v ≡ Ok n → Placed f table n
 
-pub record Checks (f map map' table : List ℕ) (v : Verdict) : Type 0 where
+pub record Checks (f map map' table : List ℕ) (v : Result ℕ RefusedAt) : Type 0 where
   pub is : checked (answer_of v) map' ≡ check_of f map
-  pub placed : (n : ℕ) → v ≡ Pass n → Placed f table n
+  pub placed : (n : ℕ) → v ≡ Ok n → Placed f table n
 
 -- refusal 3, and what the marked part shows
-module _ (f m m₁ m₂ table table₂ : List ℕ) (L : Lengths f m table) (one : m₁ ≡ replicate (length m) none) (r : RecordsFound) (S : Scanned f m₁ m₂ table₂ r) where
-  pub look-broken : (p : ℕ) → r ≡ Broken p → Looked f m₂ table₂ (Refuse 3 p)
-  look-broken p e map = let w : Comes f m₁ m₂ table₂ (Broken p) = rw e at S.comes in rw w
+module _ (f m m₁ m₂ table table₂ : List ℕ) (L : Lengths f m table) (one : m₁ ≡ replicate (length m) none) (r : Result Found RefusedAt) (S : Scanned f m₁ m₂ table₂ r) where
+  pub look-broken : (e : RefusedAt) → r ≡ Err e → Looked f m₂ table₂ (Err e)
+  look-broken e z map = let w : Comes f m₁ m₂ table₂ (Err e) = rw z at S.comes in rw (w.0, w.1)
 
-  pub look-whole : (n last : ℕ) → r ≡ Whole n last → ScanMarked f m₂ table₂ n last
+  pub look-whole : (found : Found) → r ≡ Ok found → ScanMarked f m₂ table₂ found.heads found.later
   unfolding procs head_of heads
-  look-whole n last e =
-      let C : Comes f m₁ m₂ table₂ (Whole n last) = rw e at S.comes in
+  look-whole found e =
+      let n = found.heads in
+      let last = found.later in
+      let C : Comes f m₁ m₂ table₂ (Ok found) = rw e at S.comes in
       let hs = select (is_head f) C.0 in
       let same : heads f ≡ hs = ap (λ (s : Records). select (is_head f) (starts_in s)) C.1 in
       let a : m₂ ≡ marked f (replicate (3 * length f) none) C.0 = C.2 ∙ ap (λ (x : List ℕ). marked f x C.0) (one ∙ ap (λ (k : ℕ). replicate k none) L.part) in
@@ -83,8 +88,8 @@ module _ (f m m₁ m₂ table table₂ : List ℕ) (L : Lengths f m table) (one 
 
 -- refusal 4, and what the flow begins with
 module _ (f m table : List ℕ) (n last : ℕ) (M : ScanMarked f m table n last) where
-  pub look-wrong : (m₁ : List ℕ) (p : ℕ) → heads_of f ≡ wrong p → Looked f m₁ table (Refuse 4 p)
-  look-wrong m₁ p e map = rw (M.whole, e)
+  pub look-wrong : (m₁ : List ℕ) (e : RefusedAt) → Headed f m₁ table (Err e) → Looked f m₁ table (Err e)
+  look-wrong m₁ e H map = rw (H.0, M.whole, H.1)
 
   -- the first states fit the map
   abbrev Small : Known → ℕ → Type 0
@@ -121,55 +126,70 @@ module _ (f m table : List ℕ) (n last : ℕ) (M : ScanMarked f m table n last)
           rw (eqb-true q (entry f n) e, entry-proc f M.places M.whole n (omega arith) w) (w.0, w.1.1.0)
       go false e z r = r z
 
-  pub look-begun : (m₁ : List ℕ) (k : ℕ) → (heads_of f ≡ right) × Placed f table k × PartShows f (firsts f k) m₁ → Begun f m₁ table k
-  look-begun m₁ k H =
-      record {
-        some = M.some;
-        few = M.few;
-        bytes = M.bytes;
-        places = M.places;
-        records = M.whole;
-        heads_hold = heads-right f H.0;
-        placed = H.1;
-        good = record { shows = H.2; within = λ q. firsts-within (heads-right f H.0) k q (let z = H.1.count in omega arith); fits = firsts-fit k };
-      }
+  -- the table cut to the file's heads
+  cut : (k : ℕ) → k ≤ length table → Placed f table k → Placed f (take k table) k
+  cut k l P = record { count = P.count; few = P.few; heads = λ n b. at n b (dec_lt n k) }
+    where
+      at : (n : ℕ) → n < 64 → Dec (n < k) → get_or (take k table) n 0 ≡ head_of f n
+      at n b (yes z) = get_or-take k table n 0 z ∙ P.heads n b
+      at n b (no z) =
+          let e = length-take-le k table l in
+          let c = P.count in
+          get_or-eq_default (take k table) 0 (omega arith) ∙ sym (head-none f M.places M.whole n (omega arith))
+
+  pub look-begun : (m₁ : List ℕ) (k : ℕ) → k ≤ length table → (heads_of f ≡ right) × Placed f table k × PartShows f (firsts f k) m₁ →
+      Begun f m₁ (take k table) (length (take k table))
+  look-begun m₁ k l H = rw (length-take-le k table l) begun
+    where
+      begun : Begun f m₁ (take k table) k
+      begun =
+          record {
+            some = M.some;
+            few = M.few;
+            bytes = M.bytes;
+            places = M.places;
+            records = M.whole;
+            heads_hold = heads-right f H.0;
+            placed = cut k l H.1;
+            good = record { shows = H.2; within = λ q. firsts-within (heads-right f H.0) k q (let z = H.1.count in omega arith); fits = firsts-fit k };
+          }
 
   -- the heads are right, and what the flow comes to decides
-  pub look-flow : (m₁ m₂ : List ℕ) (k : ℕ) (v : Verdict) → (heads_of f ≡ right) × Placed f table k × PartShows f (firsts f k) m₁ →
-      Flowed f m₂ k v → Looked f m₂ table v
-  look-flow m₁ m₂ k (Pass j) H F =
-      (F.1.0, (λ map. rw (M.whole, H.0, F.1.1)), F.1.2, rw F.0 H.1)
-  look-flow m₁ m₂ k (Refuse j p) H F = λ map. rw (M.whole, H.0, F)
+  pub look-flow : (m₁ m₂ : List ℕ) (k : ℕ) (v : Result ℕ RefusedAt) → k ≤ length table → (heads_of f ≡ right) × Placed f table k × PartShows f (firsts f k) m₁ →
+      Flowed f m₂ (length (take k table)) v → Looked f m₂ table v
+  look-flow m₁ m₂ k (Ok j) l H F =
+      (F.1.0, (λ map. rw (M.whole, H.0, F.1.1)), F.1.2, rw (F.0 ∙ length-take-le k table l) H.1)
+  look-flow m₁ m₂ k (Err r) l H F = λ map. rw (M.whole, H.0, F)
 
 -- a passed file keeps its part, a refused one has it filled
-pub fill-kept : (f m table : List ℕ) (v : Verdict) → ((n p : ℕ) → v ≡ Refuse n p → ⊥) → Looked f m table v → Filled f m table v
-fill-kept f m table (Pass n) h L =
+pub fill-kept : (f m table : List ℕ) (v : Result ℕ RefusedAt) → is_err v ≡ false → Looked f m table v → Filled f m table v
+fill-kept f m table (Ok n) h L =
     record { is = λ map. rw (L.1 map, ← L.2); placed = λ k e. let w : n ≡ k = cc in rw w at L.3 }
-fill-kept f m table (Refuse n p) h L = absurd (h n p refl)
+fill-kept f m table (Err r) h L = absurd (true≢false h)
 
-pub fill-refused : (f m m' table : List ℕ) (v : Verdict) (n p : ℕ) → v ≡ Refuse n p → Looked f m table v → m' ≡ replicate (length m) none →
-    length m ≡ 3 * length f → Filled f m' table (Refuse n p)
-fill-refused f m m' table v n p e L w l =
-    let R : Looked f m table (Refuse n p) = rw e at L in
-    record { is = λ map. rw (R map, w, l) (unfold wiped in refl); placed = λ k z. refuse-pass n p k z }
+pub fill-refused : (f m m' table : List ℕ) (v : Result ℕ RefusedAt) → is_err v ≡ true → Looked f m table v → m' ≡ replicate (length m) none →
+    length m ≡ 3 * length f → Filled f m' table v
+fill-refused f m m' table (Ok n) h L w l = absurd (true≢false (sym h))
+fill-refused f m m' table (Err r) h L w l =
+    record { is = λ map. rw (L map, w, l) (unfold wiped in refl); placed = λ k z. refuse-pass r k z }
 
 -- refusals 1 and 2 write nothing; the rest is the passes'
 module _ (f map table : List ℕ) where
-  pub check-none : length f < 1 → Checks f map map table (Refuse 1 0)
+  pub check-none : length f < 1 → Checks f map map table (Err (record { refusal = FileLength; place = 0 }))
   unfolding check_of verdict_of
-  check-none l = record { is = rw (lt-leb 1 (length f) l); placed = λ k z. refuse-pass 1 0 k z }
+  check-none l = record { is = rw (lt-leb 1 (length f) l); placed = λ k z. refuse-pass _ k z }
 
-  pub check-long : 1 ≤ length f → file_most < length f → Checks f map map table (Refuse 1 0)
+  pub check-long : 1 ≤ length f → file_most < length f → Checks f map map table (Err (record { refusal = FileLength; place = 0 }))
   unfolding check_of verdict_of
-  check-long a l = record { is = rw (le-leb 1 (length f) a, lt-leb (length f) file_most l); placed = λ k z. refuse-pass 1 0 k z }
+  check-long a l = record { is = rw (le-leb 1 (length f) a, lt-leb (length f) file_most l); placed = λ k z. refuse-pass _ k z }
 
   module _ (a : 1 ≤ length f) (b : length f ≤ file_most) where
-    pub check-map : length map < 3 * length f → Checks f map map table (Refuse 2 0)
+    pub check-map : length map < 3 * length f → Checks f map map table (Err (record { refusal = MapLength; place = 0 }))
     unfolding check_of verdict_of
     check-map l =
-        record { is = rw (le-leb 1 (length f) a, le-leb (length f) file_most b, lt-leb (3 * length f) (length map) l); placed = λ k z. refuse-pass 2 0 k z }
+        record { is = rw (le-leb 1 (length f) a, le-leb (length f) file_most b, lt-leb (3 * length f) (length map) l); placed = λ k z. refuse-pass _ k z }
 
-    pub check-rest : (m map' : List ℕ) (r : Verdict) → 3 * length f ≤ length map → Filled f m table r → map' ≡ m ++ drop (3 * length f) map → Checks f map map' table r
+    pub check-rest : (m map' : List ℕ) (r : Result ℕ RefusedAt) → 3 * length f ≤ length map → Filled f m table r → map' ≡ m ++ drop (3 * length f) map → Checks f map map' table r
     unfolding check_of verdict_of
     check-rest m map' r l F e =
         record {
