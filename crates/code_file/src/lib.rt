@@ -279,21 +279,20 @@ pub fn body(bodies: &[u8; 256], kind: u8) -> usize
     requires { bodies.now ≡ lengths }
     ensures { Small 256 (model.body_of kind) result }
 {
-    let i = numbers::byte(kind);
-    numbers::byte(bodies[i])
+    bodies[kind as usize] as usize
 }
 
 // The 16-bit operand of the instruction at p, most significant byte first.
+#[tactic(auto, unfolding(model::specs::File::operand))]
 pub fn operand(file: &[u8], p: usize) -> usize
     requires { p + 2 < length file.now }
     ensures { Small 65536 (model.operand file.now p) result }
 {
-    let high = numbers::byte(file[p + 1]);
-    let low = numbers::byte(file[p + 2]);
-    high * 256 + low
+    u16::from_be_bytes([file[p + 1], file[p + 2]]) as usize
 }
 
 // The second 16-bit operand.
+#[tactic(auto, unfolding(model::specs::File::operand2))]
 pub fn operand2(file: &[u8], p: usize) -> usize
     requires { p + 4 < length file.now }
     ensures { Small 65536 (model.operand2 file.now p) result }
@@ -302,16 +301,16 @@ pub fn operand2(file: &[u8], p: usize) -> usize
 }
 
 // The four bytes behind p as a word.
+#[tactic(auto, unfolding(model::specs::File::operand, model::specs::File::operand2, model::specs::File::operand4))]
 pub fn operand4(file: &[u8], p: usize) -> u32
     requires { p + 4 < length file.now }
     ensures { Small 4294967296 (model.operand4 file.now p) result }
 {
-    let high = operand(file, p);
-    let low = operand2(file, p);
-    (high as u32) * 65536 + (low as u32)
+    u32::from_be_bytes([file[p + 1], file[p + 2], file[p + 3], file[p + 4]])
 }
 
 // The four bytes behind those as a word: the low word of 53.
+#[tactic(auto, unfolding(model::specs::File::operand_low))]
 pub fn operand_low(file: &[u8], p: usize) -> u32
     requires { p + 8 < length file.now }
     ensures { Small 4294967296 (model.operand_low file.now p) result }
@@ -320,17 +319,15 @@ pub fn operand_low(file: &[u8], p: usize) -> u32
 }
 
 // A signed byte as a word.
+#[tactic(auto, unfolding(model::specs::File::signed_byte))]
 pub fn signed_byte(b: u8) -> u32
     ensures { Small 4294967296 (model.signed_byte b) result }
 {
-    if b < 128 {
-        b as u32
-    } else {
-        b as u32 + 4294967040
-    }
+    i32::from(b.cast_signed()).cast_unsigned()
 }
 
 // Where the jump at p leads, forwards.
+#[tactic(auto, unfolding(model::specs::File::forwards))]
 pub fn forwards(file: &[u8], p: usize) -> usize
     requires { p + 2 < length file.now }
     ensures { Small (p + 65539) (model.forwards file.now p) result }
@@ -339,13 +336,12 @@ pub fn forwards(file: &[u8], p: usize) -> usize
 }
 
 // Where the jump at p leads, backwards; 0 if that is before the file's first byte.
+#[tactic(auto, unfolding(model::specs::File::backwards))]
 pub fn backwards(file: &[u8], p: usize) -> usize
     requires { p + 2 < length file.now }
     ensures { Small (p + 4) (model.backwards file.now p) result }
 {
-    let from = p + 3;
-    let s = operand(file, p);
-    if s <= from { from - s } else { 0 }
+    (p + 3).saturating_sub(operand(file, p))
 }
 
 // A procedure head's six bytes.
@@ -359,15 +355,17 @@ pub struct Head {
     pub y: usize, // greatest pointer depth
 }
 
+#[tactic(auto, unfolding(crate::specs::Heads::head_bytes))]
 pub fn head_at(file: &[u8], h: usize) -> Head
     requires { h + 6 < length file.now }
     ensures { HeadIs file.now h result }
 {
-    let a = numbers::byte(file[h + 1]);
-    let b = numbers::byte(file[h + 2]);
-    let r = numbers::byte(file[h + 3]);
-    let s = numbers::byte(file[h + 4]);
-    let x = numbers::byte(file[h + 5]);
-    let y = numbers::byte(file[h + 6]);
-    Head { a, b, r, s, x, y }
+    Head {
+        a: file[h + 1] as usize,
+        b: file[h + 2] as usize,
+        r: file[h + 3] as usize,
+        s: file[h + 4] as usize,
+        x: file[h + 5] as usize,
+        y: file[h + 6] as usize,
+    }
 }
