@@ -4,7 +4,6 @@
 ghost use Rattle.std.specs.Prelude.{◌≡◌};
 ghost use Rattle.model.specs.Step.{ran, run_on};
 ghost use Rattle.run_steps.specs.Going.{Runs};
-ghost use Rattle.run.specs.Endings.{ended_with};
 
 use model::{Answer, PROCS_MOST, Regs};
 
@@ -13,12 +12,6 @@ use model::{Answer, PROCS_MOST, Regs};
 pub struct Ended {
     pub answer: Answer,
     pub regs: Regs,
-}
-
-fn answered(answer: Answer, regs: Regs) -> Ended
-    ensures { result ≡ ended_with answer regs }
-{
-    Ended { answer, regs }
 }
 
 // The table has the heads of the file's procedures. What a run pauses with is one variable, and registers are passed where they stand: in variables of their
@@ -44,7 +37,10 @@ pub fn run_on(
         }) }
 {
     if regs.state == 1 {
-        return answered(Answer::Finished(0), regs);
+        return Ended {
+            answer: Answer::Finished(0),
+            regs,
+        };
     }
     let mut pause = run_steps::go_on(file, table, main, ptr, ctl, heap, regs, budget);
     if run_reals::at_real(pause) {
@@ -52,20 +48,32 @@ pub fn run_on(
     }
     while 0 < pause.left {
         let after = pause.left - 1;
-        let plan = pause.plan;
-        let out = apply::step_with(file, table, main, ptr, ctl, heap, pause.regs, plan);
-        if !out.on {
-            let done = budget - pause.left;
-            return answered(Answer::Uncaught(out.code, out.regs.place, done), out.regs);
-        }
-        if out.regs.state == 1 {
+        let next = match apply::step_with(
+            file, table, main, ptr, ctl, heap, pause.regs, pause.plan,
+        ) {
+            Ok(next) => next,
+            Err(exception) => {
+                let done = budget - pause.left;
+                return Ended {
+                    answer: Answer::Uncaught(exception.code, pause.regs.place, done),
+                    regs: pause.regs,
+                };
+            }
+        };
+        if next.state == 1 {
             let done = budget - after;
-            return answered(Answer::Finished(done), out.regs);
+            return Ended {
+                answer: Answer::Finished(done),
+                regs: next,
+            };
         }
-        pause = run_steps::go_on(file, table, main, ptr, ctl, heap, out.regs, after);
+        pause = run_steps::go_on(file, table, main, ptr, ctl, heap, next, after);
         if run_reals::at_real(pause) {
             pause = run_reals::go_on(file, table, main, ptr, ctl, heap, pause);
         }
     }
-    answered(Answer::Spent(budget), pause.regs)
+    Ended {
+        answer: Answer::Spent(budget),
+        regs: pause.regs,
+    }
 }
