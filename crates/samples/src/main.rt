@@ -3,8 +3,6 @@
 // bytes in decimal; behind a slash the two budgets of a run cut in two. A line that starts with # is a comment.
 #![tactic(auto)]
 
-ghost use Rattle.std.specs.Prelude.{◌≡◌, ◌≤◌, length, take};
-
 use model::REGISTER_BYTES;
 use show::{Line, Lists};
 use std::io;
@@ -46,37 +44,24 @@ fn cut(rt: &impl Print, name: &[u8], file: &[u8], n: u32, m: u32) -> io::Result<
     })
 }
 
-// Writes a number of 0 to 255 at n, where there is room.
-fn end(out: &mut [u8], n: usize, value: Option<u32>) -> usize
-    requires { n ≤ length out.old }
-    ensures { result ≤ length out.new }
-{
-    let byte = value.and_then(|value| u8::try_from(value).ok());
-    if let Some(byte) = byte
-        && n < out.len()
-    {
-        out[n] = byte;
-        return n + 1;
-    }
-    n
-}
-
-// Reads numbers of 0 to 255, each with a byte behind it that is no digit; answers how many it wrote. Of a number that
-// grows too large, the digits that follow are put behind its remainder by 256.
-fn numbers(text: &[u8], out: &mut [u8]) -> usize
-    ensures bound { result ≤ length out.new }
-    ensures front { result ≡ length (take result out.new) }
-{
+// The numbers of 0 to 255 in a text, each with a byte behind it that is no digit, as far as there is room in `out`. Of a
+// number that grows too large, the digits that follow are put behind its remainder by 256.
+fn numbers<'a>(text: &[u8], out: &'a mut [u8]) -> &'a [u8] {
     let mut n = 0;
     let mut value: Option<u32> = None;
     for c in text {
         let digit = char::from(*c).to_digit(10);
-        if digit.is_none() {
-            n = end(out, n, value);
+        if digit.is_none()
+            && let Some(number) = value
+            && let Ok(byte) = u8::try_from(number)
+            && n < out.len()
+        {
+            out[n] = byte;
+            n += 1;
         }
         value = digit.map(|digit| value.unwrap_or(0) % 256 * 10 + digit);
     }
-    n
+    &out[..n]
 }
 
 // A file for the bench, or, with two budgets, a cut run.
@@ -99,11 +84,9 @@ fn line(rt: &impl Print, text: &[u8]) -> io::Result<()> {
     }
     let slash = rest.iter().position(|c| *c == b'/').unwrap_or(rest.len());
     let (bytes, budgets) = rest.split_at(slash);
-    let mut file = [0; 256];
-    let n = numbers(bytes, &mut file);
-    let mut cuts = [0; 2];
-    let k = numbers(budgets, &mut cuts);
-    play(rt, name, &file[..n], &cuts[..k])
+    let file = &mut [0; 256];
+    let cuts = &mut [0; 2];
+    play(rt, name, numbers(bytes, file), numbers(budgets, cuts))
 }
 
 // Each line of the text that has an end.

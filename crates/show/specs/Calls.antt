@@ -1,6 +1,7 @@
 -- What the calls do with lists that are lent together, and which words the bench's line shows.
-use Rattle.std.specs.Prelude.{ℕ, List, length, take, min, ◌==◌, if◌then◌else◌}
+use Rattle.std.specs.Prelude.{◌≡◌, ℕ, ◌*◌, List, length, take, replicate, slice_set, min, ◌==◌, if◌then◌else◌}
 use Rattle.model.specs.Calls.{Lent, After, answers, start_of, run_of}
+use Rattle.model.specs.File.{file_most}
 use Rattle.model.specs.Control.{regs_from, register_bytes}
 use Rattle.model.specs.declared.Answer.{Answer}
 use Rattle.model.specs.declared.Answer.TheVariants.{Passed, Ready, Finished, Spent, Uncaught, Refused}
@@ -36,3 +37,12 @@ main_top bytes = if length bytes == register_bytes then (regs_from bytes).mtop e
 
 abbrev pub main_words : Lists → List ℕ
 main_words l = take (min (main_top l.registers.now) (length l.main.now)) l.main.now
+
+-- Manual 7.3: what the bench lends with a file
+pub record IsBench (l : Lists) : Type 0 where
+  pub map : l.map.now ≡ replicate (3 * file_most) 0
+  pub main : l.main.now ≡ replicate 256 0
+  pub ptr : l.ptr.now ≡ replicate 256 0
+  pub ctl : l.ctl.now ≡ replicate 250 0
+  pub heap : l.heap.now ≡ slice_set (replicate 1024 0) 0 2
+  pub registers : l.registers.now ≡ replicate register_bytes 0

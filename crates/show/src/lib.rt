@@ -5,7 +5,9 @@ mod line;
 
 ghost use Rattle.std.specs.Prelude.{◌≡◌};
 ghost use Rattle.model.specs.Calls.{answers, start_of, run_of};
-ghost use Rattle.show.specs.Calls.{lent, begin_of, main_words};
+ghost use Rattle.std.specs.Fn.{FnOnceReturnsAtMut};
+ghost use Rattle.show.specs.declared.Lists.{Lists};
+ghost use Rattle.show.specs.Calls.{IsBench, lent, begin_of, main_words};
 
 pub use line::Line;
 use model::{Answer, FILE_MOST, REGISTER_BYTES};
@@ -81,6 +83,7 @@ impl Lists<'_> {
 // Works on the bench's lists (Manual 7.3): stacks of 256, 256 and 250 words, and an empty heap of 1,024.
 pub fn on_bench<R, F: FnOnce(&mut Lists) -> R>(work: F) -> R
     requires { F.IsAlwaysCallable work }
+    ensures { (given : Lists) × (left : Lists) × IsBench given × FnOnceReturnsAtMut F.FnOnce work given result left }
 {
     let mut lists = Lists {
         map: &mut [0; 3 * FILE_MOST],
