@@ -125,7 +125,7 @@ refused r p e =
     record { found = record { is = e; shown = λ j z. err-ok at j z }; marks_are = λ j z. err-ok at j z }
 
 pub admit-foreign : {ts : List Test} {l : Lent} {map table : List ℕ} {marks : List Bool} {v : Result ℕ RefusedAt} {k : ℕ} {its? : Bool} →
-    Checks l.file l.map map table v → v ≡ Ok k → Asks ts l.file its? → its? ≡ false → 
+    Checks l.file l.map map table v → v ≡ Ok k → Asks ts l.file its? → its? ≡ false →
     AdmittedMarks ts l map table marks (Err (record { refusal = OtherFile; place = 0 }))
 admit-foreign {l = l} {map = map} C z t w =
     let p = admit-passes C z in
@@ -169,7 +169,7 @@ module _ {ts : List Test} {l : Lent} {map table : List ℕ} {k : ℕ} {right? : 
       let T = all_true (length_tests (with_map map l)) (right w) in
       (T.1.1.1.1.1.1.0, T.1.1.1.1.1.1.1.0)
 
-  pub admit-lengths : {marks : List Bool} → right? ≡ false → 
+  pub admit-lengths : {marks : List Bool} → right? ≡ false →
       AdmittedMarks ts l map table marks (Err (record { refusal = ListLengths; place = 0 }))
   admit-lengths w = refused ListLengths 0 (λ rest. go-on rest ∙ rw (sym M.tests ∙ w))
 

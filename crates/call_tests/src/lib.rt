@@ -10,7 +10,7 @@ ghost use Rattle.call_tests.specs.Tested.{TestedAs};
 
 use audit_places::Passed;
 use audit_records::Audited;
-use model::{HEAP_MOST, PROCS_MOST, REGISTER_BYTES, RefusedAt, Refusal, Regs};
+use model::{HEAP_MOST, PROCS_MOST, REGISTER_BYTES, Refusal, RefusedAt, Regs};
 
 // A heap of so many words at most is short.
 const FEW: usize = 2048;
@@ -45,17 +45,11 @@ fn admit_with(
 {
     let procedures = checker::check_with(file, map, table)?;
     if !its {
-        return Err(RefusedAt {
-            refusal: Refusal::OtherFile,
-            place: 0,
-        });
+        return Err(Refusal::OtherFile.at(0));
     }
     let head = code_file::head_at(file, 0);
     if !call_lists::lengths_right(head, main.len(), ptr.len(), ctl.len(), heap.len()) {
-        return Err(RefusedAt {
-            refusal: Refusal::ListLengths,
-            place: 0,
-        });
+        return Err(Refusal::ListLengths.at(0));
     }
     audit_heap::audit_heap(heap, marks)?;
     Ok(procedures)
@@ -141,10 +135,7 @@ fn test_with(
     if audit_state::sound_state(&audited, marks, regs) {
         Ok(Sound { procedures, regs })
     } else {
-        Err(RefusedAt {
-            refusal: Refusal::State,
-            place: 0,
-        })
+        Err(Refusal::State.at(0))
     }
 }
 
