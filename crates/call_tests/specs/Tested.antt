@@ -73,9 +73,9 @@ module _ {l : Lent} {map table : List ℕ} {marks : List Bool} {v : Result ℕ R
             through = λ s z. go s z;
           }
         where
-          go : (s : Sound) → Ok (record { procedures = k; regs = r }) ≡ Ok s → Through l map table s.procedures s.regs
+          go : (s : Sound) → ◌≡◌ {A = Result Sound RefusedAt} (Ok (record { procedures = k; regs = r })) (Ok s) → Through l map table s.procedures s.regs
           go s z =
-              let e : record { procedures = k; regs = r } ≡ s = cc in
+              let e : ◌≡◌ {A = Sound} (record { procedures = k; regs = r }) s = cc in
               let a : k ≡ s.procedures = ap (λ (x : Sound). x.procedures) e in
               let b : r ≡ s.regs = ap (λ (x : Sound). x.regs) e in
               record { shown = rw a at S; regs_are = sym b ∙ r_is; sound = sym sound-is ∙ w }

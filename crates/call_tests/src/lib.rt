@@ -95,15 +95,15 @@ pub struct Sound {
 }
 
 // All that run tests; `its` says whether its tests for 13 hold.
-fn test_with(
+fn test_with<'a>(
     its: bool,
-    file: &[u8],
+    file: &'a [u8],
     map: &mut [u16],
     table: &mut [usize; PROCS_MOST],
     marks: &mut [bool],
-    main: &[u32],
-    ptr: &[u32],
-    ctl: &[u32],
+    main: &'a [u32],
+    ptr: &'a [u32],
+    ctl: &'a [u32],
     heap: &[u32],
     bytes: &[u8],
 ) -> Result<Sound, RefusedAt>
