@@ -33,6 +33,7 @@ pub fn narrow(z: i64) -> Option<u32>
     Some(word(z as i32))
 }
 
+// 64 bits hold every sum, difference and product of two words' whole numbers.
 pub fn plus(a: u32, b: u32) -> i64
     ensures { result ≡ signed a +ℤ signed b }
 {
