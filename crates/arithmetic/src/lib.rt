@@ -13,13 +13,6 @@ fn whole(w: u32) -> i32
     w.cast_signed()
 }
 
-// the same in 64 bits, which hold every sum, difference and product of two
-fn wide(w: u32) -> i64
-    ensures { result ≡ signed w }
-{
-    i64::from(whole(w))
-}
-
 // the word of a whole number
 fn word(z: i32) -> u32
     ensures { result ≡ to_word z }
@@ -40,16 +33,17 @@ pub fn narrow(z: i64) -> Option<u32>
     Some(word(z as i32))
 }
 
+// 64 bits hold every sum, difference and product of two words' whole numbers.
 pub fn plus(a: u32, b: u32) -> i64
     ensures { result ≡ signed a +ℤ signed b }
 {
-    wide(a) + wide(b)
+    i64::from(whole(a)) + i64::from(whole(b))
 }
 
 pub fn minus(a: u32, b: u32) -> i64
     ensures { result ≡ signed a -ℤ signed b }
 {
-    wide(a) - wide(b)
+    i64::from(whole(a)) - i64::from(whole(b))
 }
 
 // whether an index lies below a lower bound
@@ -70,7 +64,7 @@ pub fn distance(index: u32, bound: u32) -> usize
 pub fn times(a: u32, b: u32) -> i64
     ensures { result ≡ signed a *ℤ signed b }
 {
-    wide(a) * wide(b)
+    i64::from(whole(a)) * i64::from(whole(b))
 }
 
 // rounded towards zero; -2^31 by -1 is the one quotient outside the range
