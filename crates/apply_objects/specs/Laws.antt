@@ -1,30 +1,17 @@
 -- What the code leaves of the heap where an object is made is what the model says: header, size and mark first, then the words of its parts.
-use Rattle.std.specs.Prelude.{ℕ, suc, ◌+◌, ◌-◌, ◌<◌, ◌≤◌, ◌≡◌, refl, zero, List, [], ◌∷◌, ◌++◌, length, set, replicate}
+use Rattle.std.specs.Prelude.{ℕ, suc, ◌+◌, ◌<◌, ◌≡◌, refl, zero, List, [], ◌∷◌, ◌++◌, length, set, replicate}
 use Rattle.std.proofs.Common.{ap, sym, ◌∙◌, arith}
-use Rattle.std.proofs.lemmas.List.{length-replicate}
-use Rattle.std.proofs.lemmas.List.Edits.{sets, sets-eq, length-between}
-use Rattle.std.specs.List.{between}
-use borrow.Rule.Slice.PartMut.{put_mid}
-use Rattle.std.proofs.lemmas.Slice.{put_mid-paste}
-use Rattle.std.proofs.Math.Seq.{take-length}
+use Rattle.std.proofs.lemmas.List.{length-replicate, replicate-append-replicate}
+use Rattle.std.proofs.lemmas.List.Edits.{sets}
 use Rattle.model.specs.Heap.{mark_of, made}
 use Rattle.laws.specs.Stores.{sets-append}
 use Rattle.apply_objects.specs.Asks.{begun}
 
--- a part of the heap written as a whole
-part-set : (h ys : List ℕ) (from n : ℕ) → length ys ≡ n → from + n ≤ length h → put_mid from n h ys ≡ sets h from ys
-part-set h ys from n e l = put_mid-paste from n h ys ys n refl refl (sym e) ∙ rw (← e, take-length ys) (sym (sets-eq ys h from (rw e l)))
-
--- n words from `from` on, copied; and filled with one
-pub part-copied : (h ys words : List ℕ) (from n : ℕ) → ys ≡ words → length words ≡ n → from + n ≤ length h →
-    put_mid from (from + n - from) h ys ≡ sets h from words
-part-copied h ys words from n f e l = let z : from + n - from ≡ n = omega arith in rw (f, z) (part-set h words from n e l)
-
-pub part-filled : (h ys : List ℕ) (from n w : ℕ) → ys ≡ replicate (length (between from (from + n) h)) w → from + n ≤ length h →
-    put_mid from (from + n - from) h ys ≡ sets h from (replicate n w)
-part-filled h ys from n w e l =
-    let z : from + n - from ≡ n = omega arith in
-    rw (e, length-between h from (from + n) l, z) (part-set h (replicate n w) from n (length-replicate n w) l)
+-- one word more is filled
+pub fill_more : (h : List ℕ) (from i n w : ℕ) → i ≡ from + n → set (sets h from (replicate n w)) i w ≡ sets h from (replicate (n + 1) w)
+fill_more h from i n w e =
+    let l : from + length (replicate n w) ≡ i = ap (λ (k : ℕ). from + k) (length-replicate n w) ∙ sym e in
+    sym (ap (sets h from) (sym (replicate-append-replicate n 1 w)) ∙ rw (sets-append (replicate n w) (w ∷ []) h from, l) refl)
 
 -- a store behind word 0, and one in it
 set-swap : (l : List ℕ) (i v w : ℕ) → 0 < i → set (set l 0 v) i w ≡ set (set l i w) 0 v

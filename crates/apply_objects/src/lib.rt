@@ -2,7 +2,8 @@
 // writes the mark.
 #![tactic(auto)]
 
-ghost use Rattle.std.specs.Prelude.{◌≡◌, List, [], ◌∷◌, ℕ, ◌+◌, ◌-◌, length, replicate};
+ghost use Rattle.std.specs.Prelude.{◌≡◌, List, [], ◌∷◌, ℕ, ◌+◌, ◌-◌, ◌≤◌, length, replicate};
+ghost use Rattle.std.proofs.lemmas.List.Edits.{sets};
 ghost use Rattle.std.proofs.Math.Seq.{slice};
 ghost use Rattle.model.specs.Words.{word_at};
 ghost use Rattle.model.specs.Heap.{mark_of, view_kind, word_vector_kind, ptr_vector_kind, made};
@@ -12,6 +13,26 @@ ghost use Rattle.apply_objects.specs.Asks.{Begins, Room, WordsRoom, PointersRoom
 
 use model::{ObjectKind, Regs};
 use plan_meaning::{Into, Put};
+
+// The words, copied to a place of the heap. With `copy_from_slice`, a call of memmove, a small view takes up to a third longer.
+fn copy(heap: &mut [u32], to: usize, words: &[u32])
+    requires { to + length words.now ≤ length heap.old }
+    ensures { heap.new ≡ sets heap.old to words.now }
+{
+    for (i, word) in words.iter().enumerate() {
+        heap[to + i] = *word;
+    }
+}
+
+// The same word, count times, from a place of the heap on. With `fill`, which writes the last word apart, a vector takes up to a fifth longer.
+fn fill(heap: &mut [u32], from: usize, count: usize, word: u32)
+    requires { from + count ≤ length heap.old }
+    ensures { heap.new ≡ sets heap.old from (replicate count word) }
+{
+    for i in from..from + count {
+        heap[i] = word;
+    }
+}
 
 // A new object at the mark, which rises: its header and its size; the index of the word behind them.
 fn begin(heap: &mut [u32], kind: ObjectKind, pointers: usize, words: usize) -> usize
@@ -39,12 +60,12 @@ fn form(main: &[u32], ptr: &[u32], heap: &mut [u32], regs: Regs, put: Put)
     let pointers = regs.ptop - at;
     let words = regs.mtop - low;
     let first = begin(heap, ObjectKind::View, pointers, words);
-    let plain = first + pointers;
-    heap[first..plain].copy_from_slice(&ptr[at..regs.ptop]);
-    heap[plain..plain + words].copy_from_slice(&main[low..regs.mtop]);
+    copy(heap, first, &ptr[at..regs.ptop]);
+    copy(heap, first + pointers, &main[low..regs.mtop]);
 }
 
-// 80: a vector of words: the lower bound, then the elements. From the top: the initial value, the length, the lower bound.
+// 80: a vector of words: the lower bound, then the elements. From the top: the initial value, the length, the lower bound. A vector of pointers
+// has a function of its own: its operands and its parts lie otherwise, and what both share is `begin` and `fill`.
 fn word_vector(main: &[u32], heap: &mut [u32], regs: Regs)
     requires { WordsRoom main.now heap.old regs }
     ensures { heap.new ≡ made word_vector_kind [] (word_at main.now (regs.mtop - 3)
@@ -56,7 +77,7 @@ fn word_vector(main: &[u32], heap: &mut [u32], regs: Regs)
     let bound = main[top - 3];
     let first = begin(heap, ObjectKind::WordVector, 0, 1 + count);
     heap[first] = bound;
-    heap[first + 1..first + 1 + count].fill(value);
+    fill(heap, first + 1, count, value);
 }
 
 // 81: a vector of pointers: the elements, then the lower bound. The initial value is the topmost pointer; from the top of the main stack the
@@ -72,8 +93,8 @@ fn ptr_vector(main: &[u32], ptr: &[u32], heap: &mut [u32], regs: Regs)
     let count = main[top - 1] as usize;
     let bound = main[top - 2];
     let first = begin(heap, ObjectKind::PtrVector, count, 1);
+    fill(heap, first, count, value);
     let last = first + count;
-    heap[first..last].fill(value);
     heap[last] = bound;
 }
 

@@ -1,19 +1,29 @@
 -- The object is begun, and pointers and plain words are copied behind its size.
-use Rattle.std.proofs.Common.{◌-◌, length, sym, ap, ◌∙◌, arith}
-use lib.Seq.{slice, length-slice, length-sets}
+use Rattle.std.proofs.Common.{sym, ap, ◌∙◌, arith}
+use Rattle.std.proofs.lemmas.List.Edits.{sets, length-between}
 use Rattle.std.proofs.lemmas.Slice.{between_is}
-use Rattle.apply_objects.specs.Laws.{part-copied, both-copied}
+use lib.Seq.{length-slice}
+use Rattle.apply_objects.specs.Laws.{both-copied}
 use Rattle.apply_objects.proofs.form.Goals as goal
+
+pub copy-requires : goal.copy-requires
+copy-requires c =
+    let B = c.begin-first in
+    let P = c.requires in
+    omega (arith, P.free, B.ensures.first, B.auto.heap, length-between c.args.ptr.now c.args.put.at c.args.regs.ptop P.ptr_fits)
+
+pub copy-requires-2 : goal.copy-requires-2
+copy-requires-2 c =
+    let B = c.begin-first in
+    let P = c.requires in
+    omega (arith, P.free, B.ensures.first, B.auto.heap, c.copy.auto.heap, length-between c.args.main.now c.args.put.mtop c.args.regs.mtop P.main_fits)
 
 pub returns : goal.returns
 returns c =
     let B = c.begin-first in
     let P = c.requires in
-    let p = length-slice c.args.put.at c.args.regs.ptop c.args.ptr.now P.ptr_fits in
-    let w = length-slice c.args.put.mtop c.args.regs.mtop c.args.main.now P.main_fits in
-    let first = part-copied B.new.heap _ (slice c.args.put.at c.args.regs.ptop c.args.ptr.now) B.result (c.args.regs.ptop - c.args.put.at) (c.copy_from_slice.ensures.after ∙ between_is c.args.ptr.now c.args.put.at c.args.regs.ptop) p
-    (omega (arith, P.free, B.ensures.first, B.auto.heap)) in
-    let long = ap length first ∙ length-sets B.new.heap B.result (slice c.args.put.at c.args.regs.ptop c.args.ptr.now) in
-    both-copied _ _ _ _ B.ensures.first B.ensures.begun _ _ (sym p) (sym w) first
-    (part-copied _ _ (slice c.args.put.mtop c.args.regs.mtop c.args.main.now) _ (c.args.regs.mtop - c.args.put.mtop) (c.copy_from_slice-2.ensures.after ∙ between_is c.args.main.now c.args.put.mtop c.args.regs.mtop) w
-    (omega (arith, P.free, B.ensures.first, B.auto.heap, long)))
+    let A = c.args in
+    both-copied _ _ _ _ B.ensures.first B.ensures.begun _ _ (sym (length-slice A.put.at A.regs.ptop A.ptr.now P.ptr_fits))
+    (sym (length-slice A.put.mtop A.regs.mtop A.main.now P.main_fits))
+    (c.copy.ensures ∙ ap (sets _ _) (between_is A.ptr.now A.put.at A.regs.ptop))
+    (c.copy-2.ensures ∙ ap (sets _ _) (between_is A.main.now A.put.mtop A.regs.mtop))
