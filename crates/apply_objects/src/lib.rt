@@ -7,52 +7,45 @@ ghost use Rattle.std.proofs.lemmas.List.Edits.{sets};
 ghost use Rattle.std.proofs.Math.Seq.{slice};
 ghost use Rattle.model.specs.Words.{word_at};
 ghost use Rattle.model.specs.Heap.{mark_of, view_kind, word_vector_kind, ptr_vector_kind, made};
+ghost use Rattle.model.specs.ObjectKinds.{kind_number};
 ghost use Rattle.plan_meaning.specs.Settled.{applied};
 ghost use Rattle.apply_objects.specs.Asks.{Begins, Room, WordsRoom, PointersRoom, Making, begun};
 
-use model::{PTR_VECTOR_KIND, Regs, VIEW_KIND, WORD_VECTOR_KIND};
+use model::{ObjectKind, Regs};
 use plan_meaning::{Into, Put};
 
-// The words from start to end, copied to a place of the heap.
-fn copy(heap: &mut [u32], to: usize, from: &[u32], start: usize, end: usize)
-    requires { (start ≤ end) × (end ≤ length from.now) × (to + (end - start) ≤ length heap.old) }
-    ensures { heap.new ≡ sets heap.old to (slice start end from.now) }
+// The words, copied to a place of the heap. With `copy_from_slice`, a call of memmove, a small view takes up to a third longer.
+fn copy(heap: &mut [u32], to: usize, words: &[u32])
+    requires { to + length words.now ≤ length heap.old }
+    ensures { heap.new ≡ sets heap.old to words.now }
 {
-    let mut i = start;
-    let mut j = to;
-    while i < end {
-        heap[j] = from[i];
-        i += 1;
-        j += 1;
+    for (i, word) in words.iter().enumerate() {
+        heap[to + i] = *word;
     }
 }
 
-// The same word, count times, from a place of the heap on.
+// The same word, count times, from a place of the heap on. With `fill`, which writes the last word apart, a vector takes up to a fifth longer.
 fn fill(heap: &mut [u32], from: usize, count: usize, word: u32)
     requires { from + count ≤ length heap.old }
     ensures { heap.new ≡ sets heap.old from (replicate count word) }
 {
-    let end = from + count;
-    let mut i = from;
-    while i < end {
+    for i in from..from + count {
         heap[i] = word;
-        i += 1;
     }
 }
 
 // A new object at the mark, which rises: its header and its size; the index of the word behind them.
-fn begin(heap: &mut [u32], kind: usize, pointers: usize, words: usize) -> usize
-    requires { Begins heap.old kind pointers words }
+fn begin(heap: &mut [u32], kind: ObjectKind, pointers: usize, words: usize) -> usize
+    requires { Begins heap.old (kind_number kind) pointers words }
     ensures first { result ≡ mark_of heap.old + 2 }
-    ensures begun { heap.new ≡ begun kind pointers words heap.old }
+    ensures begun { heap.new ≡ begun (kind_number kind) pointers words heap.old }
 {
-    let mark = numbers::word(heap[0]);
-    let next = mark + 1;
+    let mark = heap[0] as usize;
     let size = 2 + (pointers + words);
     let end = mark + size;
-    let head = kind * 16777216 + pointers;
+    let head = kind as usize * 16777216 + pointers;
     heap[mark] = head as u32;
-    heap[next] = size as u32;
+    heap[mark + 1] = size as u32;
     heap[0] = end as u32;
     mark + 2
 }
@@ -66,12 +59,13 @@ fn form(main: &[u32], ptr: &[u32], heap: &mut [u32], regs: Regs, put: Put)
     let low = put.mtop;
     let pointers = regs.ptop - at;
     let words = regs.mtop - low;
-    let first = begin(heap, VIEW_KIND, pointers, words);
-    copy(heap, first, ptr, at, regs.ptop);
-    copy(heap, first + pointers, main, low, regs.mtop);
+    let first = begin(heap, ObjectKind::View, pointers, words);
+    copy(heap, first, &ptr[at..regs.ptop]);
+    copy(heap, first + pointers, &main[low..regs.mtop]);
 }
 
-// 80: a vector of words: the lower bound, then the elements. From the top: the initial value, the length, the lower bound.
+// 80: a vector of words: the lower bound, then the elements. From the top: the initial value, the length, the lower bound. A vector of pointers
+// has a function of its own: its operands and its parts lie otherwise, and what both share is `begin` and `fill`.
 fn word_vector(main: &[u32], heap: &mut [u32], regs: Regs)
     requires { WordsRoom main.now heap.old regs }
     ensures { heap.new ≡ made word_vector_kind [] (word_at main.now (regs.mtop - 3)
@@ -79,9 +73,9 @@ fn word_vector(main: &[u32], heap: &mut [u32], regs: Regs)
 {
     let top = regs.mtop;
     let value = main[top - 1];
-    let count = numbers::word(main[top - 2]);
+    let count = main[top - 2] as usize;
     let bound = main[top - 3];
-    let first = begin(heap, WORD_VECTOR_KIND, 0, 1 + count);
+    let first = begin(heap, ObjectKind::WordVector, 0, 1 + count);
     heap[first] = bound;
     fill(heap, first + 1, count, value);
 }
@@ -96,9 +90,9 @@ fn ptr_vector(main: &[u32], ptr: &[u32], heap: &mut [u32], regs: Regs)
     let top = regs.mtop;
     let above = regs.ptop - 1;
     let value = ptr[above];
-    let count = numbers::word(main[top - 1]);
+    let count = main[top - 1] as usize;
     let bound = main[top - 2];
-    let first = begin(heap, PTR_VECTOR_KIND, count, 1);
+    let first = begin(heap, ObjectKind::PtrVector, count, 1);
     fill(heap, first, count, value);
     let last = first + count;
     heap[last] = bound;

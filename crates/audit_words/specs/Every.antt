@@ -107,10 +107,6 @@ join-flag any w = go (ℕ_discrete any 0) (ℕ_discrete w 0)
     go (yes e) (no f) = rw (eq-eqb any 0 e, ne_eqb w 0 f, ne_eqb (bit_or any w) 0 (λ z. f (omega (arith, or_add_and any w, and_le_l any w))))
     go (no e) f = rw (ne_eqb any 0 e, ne_eqb (bit_or any w) 0 (λ z. e (omega (arith, or_add_and any w, and_le_r any w))))
 
-pub all-fold : (Q : ℕ → Bool) (b : Bool) (l : List ℕ) → fold (λ all w. all && Q w) b l ≡ b && list_all Q l
-all-fold Q b [] = sym (and-true b)
-all-fold Q b (w ∷ l) = all-fold Q (b && Q w) l ∙ and_assoc b (Q w) (list_all Q l)
-
 pub joined : (any : ℕ) (l : List ℕ) → eqb (fold bit_or any l) 0 ≡ eqb any 0 && list_all (λ w. eqb w 0) l
 joined any [] = sym (and-true (eqb any 0))
 joined any (w ∷ l) = joined (bit_or any w) l ∙ ap (λ t. t && list_all (λ w. eqb w 0) l) (sym (join-flag any w)) ∙ and_assoc (eqb any 0) (eqb w 0) (list_all (λ w. eqb w 0) l)

@@ -14,13 +14,15 @@ pub fn is_pointer(marks: &[bool], word: u32) -> bool
     marks.get(word as usize) == Some(&true)
 }
 
-// Every word is a pointer. All are looked at, so that no branch hangs on a mark: which words are nil no processor foresees.
+// Every word is a pointer. All are looked at, and no branch hangs on a mark: which words are nil no processor foresees.
 pub fn all_pointers(words: &[u32], marks: &[bool]) -> bool
     ensures { Every (marked_at marks.now words.now) 0 (length words.now) result }
 {
-    words
-        .iter()
-        .fold(true, |all, word| all & is_pointer(marks, *word))
+    let mut all = true;
+    for word in words {
+        all &= is_pointer(marks, *word);
+    }
+    all
 }
 
 // Every word from `from` up to `end` is 0; `from` may lie behind `end`. The words are joined without a test of each, so that the compiler

@@ -1,16 +1,18 @@
--- `apply_objects::begin` meets its contract: the three stores are those of `begun`, the mark being read first.
-use mathlib.Core.Path.{refl}
-use native.Mathlib.Omega.{arith}
-use lib.ListN.{length-set}
+-- The three stores are those of `begun`; a kind's number is one more than its place among the kinds.
+use Rattle.std.proofs.Common.{◌+◌, ◌≡◌, refl}
+use denote.Enum.Declared.{tag_of}
+use Rattle.model.specs.contracts.ObjectKind as made
+use Rattle.model.specs.declared.ObjectKind.{ObjectKind}
+use Rattle.model.specs.declared.ObjectKind.TheVariants.{View, WordVector, PtrVector}
+use Rattle.model.specs.ObjectKinds.{kind_number}
 use Rattle.apply_objects.specs.Asks.{begun}
 use Rattle.apply_objects.proofs.begin.Goals as goal
 
-pub bounds-heap-next : goal.bounds-heap-next
-bounds-heap-next c = rw length-set (omega (arith, c.word-mark.ensures.is))
+numbered : (kind : ObjectKind) → tag_of made.the_type kind + 1 ≡ kind_number kind
+numbered View = refl
+numbered WordVector = refl
+numbered PtrVector = refl
 
-pub bounds-heap-0-2 : goal.bounds-heap-0-2
-bounds-heap-0-2 c = simp length-set (omega arith)
-
-pub returns : goal.returns
+pub returns-clause-begun : goal.returns-clause-begun
 unfolding begun
-returns c = record { first = rw c.word-mark.ensures.is; begun = rw c.word-mark.ensures.is }
+returns-clause-begun c = rw (numbered c.args.kind)

@@ -1,41 +1,29 @@
--- `apply_objects::form` meets its contract: the object is begun, and pointers and plain words are copied behind its size.
-use mathlib.Core.Path.{sym}
-use native.Mathlib.Omega.{arith}
+-- The object is begun, and pointers and plain words are copied behind its size.
+use Rattle.std.proofs.Common.{sym, ap, ◌∙◌, arith}
+use Rattle.std.proofs.lemmas.List.Edits.{sets, length-between}
+use Rattle.std.proofs.lemmas.Slice.{between_is}
 use lib.Seq.{length-slice}
 use Rattle.apply_objects.specs.Laws.{both-copied}
 use Rattle.apply_objects.proofs.form.Goals as goal
-
-pub begin-first-requires : goal.begin-first-requires
-begin-first-requires c =
-    let P = c.requires in
-    record { known = omega arith; free = P.free; heap_at_most = P.heap_at_most }
 
 pub copy-requires : goal.copy-requires
 copy-requires c =
     let B = c.begin-first in
     let P = c.requires in
-    (P.pointers, P.ptr_fits, omega (arith, P.free, B.ensures.first, B.auto.heap))
-
-pub overflow_add-first : goal.overflow_add-first
-overflow_add-first c =
-    let B = c.begin-first in
-    let P = c.requires in
-    omega (arith, P.free, B.ensures.first, P.heap_at_most)
+    omega (arith, P.free, B.ensures.first, B.auto.heap, length-between c.args.ptr.now c.args.put.at c.args.regs.ptop P.ptr_fits)
 
 pub copy-requires-2 : goal.copy-requires-2
 copy-requires-2 c =
     let B = c.begin-first in
     let P = c.requires in
-    (P.words, P.main_fits, omega (arith, P.free, B.ensures.first, B.auto.heap, c.copy.auto.heap))
-
-pub shape_of-heap : goal.shape_of-heap
-shape_of-heap c =
-    omega (arith, c.copy-2.auto.heap, c.copy.auto.heap, c.begin-first.auto.heap)
+    omega (arith, P.free, B.ensures.first, B.auto.heap, c.copy.auto.heap, length-between c.args.main.now c.args.put.mtop c.args.regs.mtop P.main_fits)
 
 pub returns : goal.returns
 returns c =
     let B = c.begin-first in
     let P = c.requires in
-    both-copied _ _ _ _ B.ensures.first B.ensures.begun _ _ (sym (length-slice c.args.put.at c.args.regs.ptop c.args.ptr.now P.ptr_fits))
-    (sym (length-slice c.args.put.mtop c.args.regs.mtop c.args.main.now P.main_fits)) c.copy.ensures
-    c.copy-2.ensures
+    let A = c.args in
+    both-copied _ _ _ _ B.ensures.first B.ensures.begun _ _ (sym (length-slice A.put.at A.regs.ptop A.ptr.now P.ptr_fits))
+    (sym (length-slice A.put.mtop A.regs.mtop A.main.now P.main_fits))
+    (c.copy.ensures ∙ ap (sets _ _) (between_is A.ptr.now A.put.at A.regs.ptop))
+    (c.copy-2.ensures ∙ ap (sets _ _) (between_is A.main.now A.put.mtop A.regs.mtop))

@@ -1,4 +1,4 @@
--- `apply_objects::ptr_vector` meets its contract: the object is begun, its pointer words are filled, and the word behind them is the bound.
+-- The object is begun, its pointer words are filled, and the word behind them is the bound.
 use mathlib.Core.Path.{refl}
 use native.Mathlib.Omega.{arith}
 use lib.ListN.{length-set}
@@ -12,4 +12,4 @@ shape_of-heap c =
 pub returns : goal.returns
 returns c =
     let B = c.begin-first in
-    pointers-filled _ _ _ _ B.ensures.first B.ensures.begun _ _ c.word-count.ensures.is refl refl c.fill.ensures
+    pointers-filled _ _ _ _ B.ensures.first B.ensures.begun _ _ refl refl refl c.fill.ensures

@@ -1,4 +1,4 @@
--- `apply_objects::word_vector` meets its contract: the object is begun, its first plain word is the bound, and the others are filled.
+-- The object is begun, its first plain word is the bound, and the others are filled.
 use mathlib.Core.Path.{refl}
 use native.Mathlib.Omega.{arith}
 use lib.ListN.{length-set}
@@ -9,7 +9,7 @@ pub fill-requires : goal.fill-requires
 fill-requires c =
     let B = c.begin-first in
     let P = c.requires in
-    simp length-set (omega (arith, P.2.free, B.ensures.first, B.auto.heap, c.word-count.ensures.is))
+    simp length-set (omega (arith, P.2.free, B.ensures.first, B.auto.heap))
 
 pub shape_of-heap : goal.shape_of-heap
 shape_of-heap c =
@@ -18,4 +18,4 @@ shape_of-heap c =
 pub returns : goal.returns
 returns c =
     let B = c.begin-first in
-    plain-filled _ _ _ _ B.ensures.first B.ensures.begun _ _ c.word-count.ensures.is refl refl c.fill.ensures
+    plain-filled _ _ _ _ B.ensures.first B.ensures.begun _ _ refl refl refl c.fill.ensures
