@@ -28,7 +28,7 @@ use Rattle.check_ways.specs.Faults.{take_ans, HandlerIn}
 use Rattle.check_ways.specs.Ways.{Here}
 use Rattle.check_flow.specs.Own.{own-alike}
 use Rattle.check_flow.specs.Alike.{Good, SameWay, take-alike, in-set, in-unset, outer-alike}
-use Rattle.check_ways.specs.Numbered.{number-some}
+use Rattle.check_flow.specs.Numbered.{number-some}
 use Rattle.model.specs.Refusals.{number_of}
 use Rattle.model.specs.declared.Refusal.{Refusal}
 use Rattle.model.specs.declared.RefusedAt.{RefusedAt}

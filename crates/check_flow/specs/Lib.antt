@@ -1,3 +1,4 @@
+pub mod Numbered
 pub mod Own
 pub mod Alike
 pub mod Flowing

@@ -69,7 +69,7 @@ fn procedure_of(file: &[u8], head: usize, end: usize) -> Procedure
     }
 }
 
-// The instructions in file order. The number of procedures.
+// The instructions in file order, record by record. The number of procedures.
 pub fn flow(file: &[u8], m: &mut [u16], heads: &[usize]) -> Result<usize, RefusedAt>
     requires { Begun file.now m.old heads.now (length heads.now) }
     ensures { Flowed file.now m.new (length heads.now) result }

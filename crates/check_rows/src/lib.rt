@@ -16,7 +16,8 @@ ghost use Rattle.check_scan.specs.Marks.{unreached};
 use check_scan::UNREACHED_DEPTH;
 use model::Refusal;
 
-// The depths before an instruction, and the place of the innermost open 160 or 65,535.
+// The depths before an instruction, and the place of the innermost open 160 or 65,535: as the map has it, so that nothing is taken apart
+// and put together again where a state passes on.
 #[derive(Clone, Copy, PartialEq, Eq)]
 pub struct State {
     pub main: usize,
@@ -230,7 +231,8 @@ impl Instruction {
     // 150 to 153, 155 and 156
     fn reals(self, kind: u8) -> Result<Onward, Refusal>
         requires { OneOf pops_reals kind }
-        ensures { (f : List ℕ) → result ≡ plainly (as_state self.state) (as_state self.outer) self.procedure (self.place + suc (model.body_of kind)) (shape_of f self.place (model.ins_of f self.place kind)) }
+        ensures { (f : List ℕ) → result
+            ≡ plainly (as_state self.state) (as_state self.outer) self.procedure (self.place + suc (model.body_of kind)) (shape_of f self.place (model.ins_of f self.place kind)) }
     {
         match kind {
             155 => self.step(1, 4, 0, 1, 0),

@@ -60,9 +60,9 @@ abbrev pub within : ℕ → ℕ → ℕ → Bool
 within a r x = when leb a x then leb r x else false
 
 -- the rules of a head, stack by stack
-pub by-stack : (h : Head) (k : ℕ) → head_ok h k ≡ (when within h.a h.r h.x then (when within h.b h.s h.y then number_ok h k else false) else false)
+pub head-stacks : (h : Head) (k : ℕ) → head_ok h k ≡ (when within h.a h.r h.x then (when within h.b h.s h.y then number_ok h k else false) else false)
 unfolding head_ok number_ok
-by-stack h k = go (leb h.a h.x) (leb h.r h.x) (leb h.b h.y) (leb h.s h.y) (all (number_list h k))
+head-stacks h k = go (leb h.a h.x) (leb h.r h.x) (leb h.b h.y) (leb h.s h.y) (all (number_list h k))
   where
     go : (a r b s n : Bool) →
         (when a then (when r then (when b then (when s then n else false) else false) else false) else false)

@@ -50,7 +50,8 @@ fn list(table: &mut [usize; PROCS_MOST], k: usize, last: usize, p: usize) -> usi
 
 // Refusal 3: the records in file order, the instructions among them marked, the heads listed. Each common length has a branch of its own:
 // the processor foresees where the next record starts, and does not wait for the length. The tests are mostly `<`: of equal tests the
-// compiler would make one jump by a table. Only the last record can be cut short, so that is asked once, behind the loop.
+// compiler would make one jump by a table. Only the last record can be cut short, so that is asked once, behind the loop. A `while`: it
+// steps by records.
 pub fn scan(file: &[u8], m: &mut [u16], table: &mut [usize; PROCS_MOST]) -> Result<Found, RefusedAt>
     requires { (1 ≤ length file.now) × (length file.now ≤ file_most) × (length m.old ≡ 3 * length file.now) × (table.old ≡ replicate procs_most 0) }
     ensures { Scanned file.now m.old m.new table.new result }
@@ -133,7 +134,7 @@ fn follows(m: &[u16], n: usize, q: usize) -> bool
     q < n && m[3 * q] != NONE
 }
 
-// The three numbers at q.
+// The three numbers at q, one by one: they are no list anywhere.
 pub fn put(m: &mut [u16], q: usize, main: u16, ptr: u16, inner: u16)
     requires { (3 * q + 2 < length m.old) × (q < file_most) }
     ensures { m.new ≡ put_in m.old q (state main ptr inner) }

@@ -1,16 +1,13 @@
 -- What the functions answer that read the map and pass a state on, and what they rest on.
-use Rattle.std.specs.Prelude.{ℕ, zero, suc, ◌+◌, ◌*◌, ◌<◌, ◌≤◌, Bool, true, false, List, [], ◌∷◌, ◌⊎◌, ◌&&◌, ◌≡◌, refl, eqb, length, get_or}
-use Rattle.std.proofs.Common.{ap, sym, ◌∙◌, arith, lt-ltb, le-ltb, eq-eqb, ne_eqb}
+use Rattle.std.specs.Prelude.{ℕ, zero, suc, ◌+◌, ◌*◌, ◌<◌, Bool, true, false, List, [], ◌∷◌, ◌⊎◌, ◌≡◌, refl, length, get_or}
+use Rattle.std.proofs.Common.{ap, ◌∙◌, arith}
 use Rattle.model.specs.Choice.{when◌then◌else◌}
-use Rattle.model.specs.Checker.{none, State, state, innermost, Taking, bad, good, meet, and_take}
+use Rattle.model.specs.Checker.{none, State, state, innermost, Taking, bad, good, and_take}
 use Rattle.check_rows.specs.declared.State.{State as Numbers}
 use Rattle.check_rows.specs.Tests.{as_state}
-use Rattle.check_scan.specs.Marks.{unreached, state_in, put_in}
+use Rattle.check_scan.specs.Marks.{state_in}
 use Rattle.laws.specs.Members.{get_d_any}
-use Rattle.model.specs.declared.Refusal.{Refusal}
-use Rattle.model.specs.Refusals.{number_of}
-use Rattle.check_ways.specs.Numbered.{number-some}
-use Rattle.check_ways.specs.Takes.{pass_one_in, pass_all_in}
+use Rattle.check_ways.specs.Takes.{pass_all_in}
 use Rattle.model.specs.File.{file_most}
 
 -- the number of a refusal, 0 for none
@@ -62,30 +59,6 @@ state_is m q a b c l ea eb ec =
     let e2 = ec ∙ get_d_any m (3 * q + 2) 0 none (omega arith) in
     λ i. state (e0 i) (e1 i) (e2 i)
 
-module _ (m : List ℕ) (s : State) where
-  pub none-innermost : s.inner ≡ none → state 0 0 none ≡ innermost (state_in m) s
-  none-innermost z = rw (eq-eqb s.inner none z)
-
-  pub outer-some : (u : State) → (s.inner ≡ none → ⊥) → u ≡ state_in m s.inner → u ≡ innermost (state_in m) s
-  outer-some u z e = rw (ne_eqb s.inner none z) e
-
-module _ (m : List ℕ) (q : ℕ) (t s : State) (is : t ≡ state_in m q) where
-  pub pass-new : (m' : List ℕ) → unreached ≤ t.main → m' ≡ put_in m q s → good m' ≡ pass_one_in m q s
-  pass-new m' l e = rw (← is, le-ltb t.main unreached l, e)
-
-  -- `same?` is what the test of the two states comes to
-  pub pass-met : (same? : Bool) → t.main < unreached → same? ≡ eqb t.main s.main && (eqb t.ptr s.ptr && eqb t.inner s.inner) →
-      (when same? then good m else bad 9) ≡ pass_one_in m q s
-  pass-met same? l e = rw (← is, lt-ltb t.main unreached l, regroup (eqb t.main s.main) (eqb t.ptr s.ptr) (eqb t.inner s.inner), ← e) (go same?)
-    where
-      regroup : (a b c : Bool) → (a && b && c) ≡ (a && (b && c))
-      regroup true b c = refl
-      regroup false b c = refl
-
-      go : (b : Bool) → (when b then good m else bad 9) ≡ meet true b m (put_in m q s)
-      go true = refl
-      go false = refl
-
 pub and-end : (s : Taking (List ℕ)) → and_take s (λ m. good m) ≡ s
 and-end (bad n) = refl
 and-end (good m) = refl
@@ -93,16 +66,3 @@ and-end (good m) = refl
 -- of two states passed on, the second by another name
 pub second-as : (m : List ℕ) (q t : ℕ) (s : State) {u v : State} → u ≡ v → pass_all_in ((q, s) ∷ (t, u) ∷ []) m ≡ pass_all_in ((q, s) ∷ (t, v) ∷ []) m
 second-as m q t s e = ap (λ (w : State). pass_all_in ((q, s) ∷ (t, w) ∷ []) m) e
-
--- two states passed on, one after the other
-module _ (m : List ℕ) (q t : ℕ) (s u : State) where
-  both_first : (n : ℕ) (m' : List ℕ) → (n ≡ 0 → ⊥) → take_ans n m' ≡ pass_one_in m q s → take_ans n m' ≡ pass_all_in ((q, s) ∷ (t, u) ∷ []) m
-  both_first zero m' z e = absurd (z refl)
-  both_first (suc n) m' z e = rw (← e)
-
-  pub both-refused : (r : Refusal) (m' : List ℕ) → take_ans (number_of r) m' ≡ pass_one_in m q s → take_ans (number_of r) m' ≡ pass_all_in ((q, s) ∷ (t, u) ∷ []) m
-  both-refused r m' = both_first (number_of r) m' (number-some r)
-
-  pub both-second : (n : ℕ) (m' m'' : List ℕ) → take_ans 0 m' ≡ pass_one_in m q s → take_ans n m'' ≡ pass_one_in m' t u →
-      take_ans n m'' ≡ pass_all_in ((q, s) ∷ (t, u) ∷ []) m
-  both-second n m' m'' e h = h ∙ sym (and-end (pass_one_in m' t u)) ∙ rw (← e)

@@ -1,4 +1,3 @@
 pub mod Takes
-pub mod Numbered
 pub mod Faults
 pub mod Ways

@@ -1,4 +1,5 @@
-// Refusals 5 to 9 for one instruction: what it leads to, a function for each way, in the part of the map that is the file's.
+// Refusals 5 to 9 for one instruction: what it leads to, a function for each way, in the part of the map that is the file's. The file and that
+// part stay parameters of their own: behind a struct each access would load the slice's address anew.
 #![tactic(auto)]
 
 ghost use Rattle.std.specs.Prelude.{◌≡◌, ◌+◌, ◌*◌, ◌<◌, ◌≤◌, ◌∷◌, [], length};

@@ -13,24 +13,10 @@ loop-p-init c =
     let L = c.procedure_of-procedure.ensures in
     (refl, rw (L.0, L.1) (flowing-start c.requires), rw L.0 L.2)
 
-pub bounds-file-p : goal.bounds-file-p
-bounds-file-p c = omega arith
-
-pub overflow_add-c : goal.overflow_add-c
-overflow_add-c c =
-    let placed = c.requires.placed in
-    omega (arith, c.loop-p.invariant.1.most_c, placed.count, placed.few)
-
 pub procedure_of-procedure-requires-then-kind : goal.procedure_of-procedure-requires-then-kind
 procedure_of-procedure-requires-then-kind c =
     let o = c.loop-p in
     omega (arith, flowing-inside c.requires o.invariant.1 (omega arith), after-head c.args.file.now o.p c.if-kind.true)
-
-pub overflow_add-p : goal.overflow_add-p
-overflow_add-p c = omega (arith, c.requires.few)
-
-pub loop-p-smaller-then-kind : goal.loop-p-smaller-then-kind
-loop-p-smaller-then-kind c = omega arith
 
 pub loop-p-preserved-then-kind : goal.loop-p-preserved-then-kind
 loop-p-preserved-then-kind c =

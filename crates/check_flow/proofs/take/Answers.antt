@@ -1,16 +1,14 @@
 -- `check_flow::take`: each family by its own function; a code with no arm leads to the next instruction alone, or nowhere.
 use Prim.Native.Nat.{suc}
-use mathlib.Core.Logic.{inl, inr}
 use mathlib.Core.Path.{◌∙◌, ap, refl}
 use native.Mathlib.Omega.{arith}
 use Rattle.model.specs.File.{codes, bodies, body_of, ins_of}
 use Rattle.model.specs.Checker.{handler_at}
 use Rattle.check_rows.specs.Shape.{Open, Close, Return, shape_of}
 use Rattle.check_rows.specs.Site.{body-room}
-use Rattle.check_rows.specs.Kinds.{NoJump, body-jumps}
+use Rattle.check_rows.specs.Kinds.{body-jumps}
 use Rattle.check_ways.specs.Ways.{leads_to, led, took}
 use Rattle.check_flow.proofs.take.Goals as goal
-use Rattle.check_flow.proofs.take.Goals.{in_default-via-then-kind-lt1, in_default-via-else-kind-lt1+else-kind-lt7}
 
 pub leave-requires : goal.leave-requires
 unfolding ins_of shape_of body_of bodies codes
@@ -30,16 +28,6 @@ pub close-requires : goal.close-requires
 unfolding ins_of shape_of body_of bodies codes
 close-requires c = led c.requires.1 161 1 (leads_to Close 0 0) c.in-161.is refl refl
 
-pub jumps-requires : goal.jumps-requires
-jumps-requires c =
-    (c.requires.1, omega arith, omega arith)
-
-pub plain-requires : goal.plain-requires
-plain-requires c =
-    let aside : NoJump c.args.kind = elim c.in_default.branch [ in_default-via-then-kind-lt1 w ↦ inl (omega arith) | in_default-via-else-kind-lt1+else-kind-lt7 w ↦ inr (omega arith) ] in
-    let r = c.in_default-1.rest in
-    (c.requires.0, c.requires.1, aside, ((((tt, c.requires.2), r.0.0.1), r.0.1), r.1))
-
 pub returns-in_ok-leave-in-73 : goal.returns-in_ok-leave-in-73
 unfolding body_of bodies codes
 returns-in_ok-leave-in-73 c = took c.requires.1 73 1 c.in-73.is refl c.in_ok-leave-in-73.ensures
@@ -55,6 +43,3 @@ returns-in_ok-close-in-161 c = took c.requires.1 161 1 c.in-161.is refl c.in_ok-
 pub returns-in_ok-jumps-in-1-to-6 : goal.returns-in_ok-jumps-in-1-to-6
 returns-in_ok-jumps-in-1-to-6 c =
     took c.requires.1 _ 3 refl (ap suc (body-jumps _ (omega arith) (omega arith))) c.in_ok-jumps-in-1-to-6.ensures
-
-pub returns-in_default : goal.returns-in_default
-returns-in_default c = c.plain.ensures

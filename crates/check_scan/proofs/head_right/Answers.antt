@@ -1,7 +1,7 @@
 -- `check_scan::head_right` meets its contract: the rules stack by stack, in the model's order.
 use mathlib.Core.Bool.{true≢false}
 use mathlib.Core.Path.{sym, ◌∙◌}
-use Rattle.check_scan.specs.Heading.{by-stack}
+use Rattle.check_scan.specs.Heading.{head-stacks}
 use Rattle.check_scan.proofs.head_right.Goals as goal
 use Rattle.check_scan.proofs.head_right.Goals.{then-within, else-within}
 
@@ -10,7 +10,7 @@ returns-then-within-2 c =
     elim c.if-within.branch [
       | then-within w ↦
           c.number_right.ensures
-          ∙ sym (by-stack c.args.head c.args.k ∙ rw (sym c.within.ensures ∙ w.if-within.true, sym w.within-then-within.ensures ∙ sym w.value-is ∙ c.if-within-2.true))
+          ∙ sym (head-stacks c.args.head c.args.k ∙ rw (sym c.within.ensures ∙ w.if-within.true, sym w.within-then-within.ensures ∙ sym w.value-is ∙ c.if-within-2.true))
       | else-within w ↦ absurd (true≢false (sym c.if-within-2.true ∙ w.value-is ∙ w.if-within.false))
     ]
 
@@ -19,6 +19,6 @@ returns-else-within-2 c =
     elim c.if-within.branch [
       | then-within w ↦
           c.if-within-2.false
-          ∙ sym (by-stack c.args.head c.args.k ∙ rw (sym c.within.ensures ∙ w.if-within.true, sym w.within-then-within.ensures ∙ sym w.value-is ∙ c.if-within-2.false))
-      | else-within w ↦ c.if-within-2.false ∙ sym (by-stack c.args.head c.args.k ∙ rw (sym c.within.ensures ∙ w.if-within.false))
+          ∙ sym (head-stacks c.args.head c.args.k ∙ rw (sym c.within.ensures ∙ w.if-within.true, sym w.within-then-within.ensures ∙ sym w.value-is ∙ c.if-within-2.false))
+      | else-within w ↦ c.if-within-2.false ∙ sym (head-stacks c.args.head c.args.k ∙ rw (sym c.within.ensures ∙ w.if-within.false))
     ]

@@ -1,25 +1,16 @@
 -- `check_ways::branch`: the tests in their order (`on_branch`), then the states passed on.
-use Prim.Native.Nat.{◌+◌, ◌-◌, ◌<◌}
+use Prim.Native.Nat.{◌+◌, ◌-◌}
 use mathlib.Core.Path.{sym, ◌∙◌}
-use native.Mathlib.Omega.{arith}
 use borrow.Author.Tests.{lt-ltb, le-ltb}
 use mathlib.Core.List.{[], ◌∷◌}
 use Rattle.model.specs.Choice.{when◌then◌else◌}
 use Rattle.model.specs.Checker.{state}
 use Rattle.check_rows.specs.Tests.{as_state, stacks-fit}
 use Rattle.check_ways.specs.Takes.{pass_all_in, take_in}
-use Rattle.check_ways.specs.Faults.{fitting, fits-either, second-as}
-use Rattle.check_ways.specs.Ways.{Judged, stops, test-passes, all-passed, own-place, next_place, here_place, ends_low, held-here, bounded-here, takes-branch, on_branch}
+use Rattle.check_ways.specs.Faults.{second-as}
+use Rattle.check_ways.specs.Ways.{Judged, stops, test-passes, all-passed, takes-branch, on_branch}
 use Rattle.check_ways.proofs.branch.Goals as goal
 use Rattle.check_ways.proofs.branch.Goals.{After-depths_ok}
-
-pub own-requires : goal.own-requires
-own-requires c =
-    ends_low c.requires.here
-
-pub state_in-s-requires : goal.state_in-s-requires
-state_in-s-requires c =
-    here_place c.requires.here
 
 pub returns-then-s-ge-UNREACHED_DEPTH : goal.returns-then-s-ge-UNREACHED_DEPTH
 returns-then-s-ge-UNREACHED_DEPTH c =
@@ -30,17 +21,6 @@ pub returns-then-procedure-next : goal.returns-then-procedure-next
 returns-then-procedure-next c =
     let J = test-passes (on_branch c.args.keep _ c.requires c.state_in-s.ensures) (sym c.own.ensures ∙ c.if-not-own.false) in
     stops (test-passes J (lt-ltb _ _ c.if-s-ge-UNREACHED_DEPTH.false)) (le-ltb _ _ c.if-procedure-next.true)
-
-pub outer_of-o-requires : goal.outer_of-o-requires
-outer_of-o-requires c =
-    held-here c.state_in-s.ensures c.requires.here
-
-pub invariant_of-at : goal.invariant_of-at
-invariant_of-at c =
-    record { low = (here_place c.requires.here).1; bounded = bounded-here c.state_in-s.ensures c.requires.here c.requires.bounds c.outer_of-o.ensures }
-
-pub depths_ok-requires : goal.depths_ok-requires
-depths_ok-requires c = rw c.effect.ensures ((omega arith, omega arith), c.if-s-ge-UNREACHED_DEPTH.false)
 
 -- behind the test of the depths: what is left of the tests, and what passes on
 left_at : (c : After-depths_ok) →
@@ -58,16 +38,6 @@ pub overflow_sub-then : goal.overflow_sub-then
 overflow_sub-then c =
     let w = (stacks-fit _ _ _ _ _ (sym c.depths_ok.ensures ∙ c.if-not-depths_ok.false)).main in
     rw c.effect.ensures at w
-
-pub pass_both-requires : goal.pass_both-requires
-pass_both-requires c =
-    let S = c.state_in-s.ensures in
-    let a = S.main_small in
-    let w = own-place c.requires.here _ (sym c.own.ensures ∙ c.if-not-own.false) in
-    let b : c.state_in-s.result.main - 1 < 65536 = omega (arith, a) in (
-      fitting (next_place c.requires.here _ c.if-procedure-next.false) b S.ptr_small S.inner_small,
-      rw c.at_target.ensures (fits-either c.args.keep (fitting w a S.ptr_small S.inner_small) (fitting w b S.ptr_small S.inner_small)),
-    )
 
 pub returns : goal.returns
 returns c =

@@ -3,13 +3,8 @@ use mathlib.Core.Bool.{not}
 use mathlib.Core.Path.{sym, ◌∙◌, ap}
 use borrow.Author.Tests.{lt-ltb, le-ltb, eq-eqb, ne_eqb}
 use Rattle.model.specs.Checker.{State}
-use Rattle.check_ways.specs.Faults.{fitting}
-use Rattle.check_ways.specs.Ways.{stops, test-passes, all-passed, here_place, next_place, held-here, on-close}
+use Rattle.check_ways.specs.Ways.{stops, test-passes, all-passed, on-close}
 use Rattle.check_ways.proofs.close.Goals as goal
-
-pub state_in-s-requires : goal.state_in-s-requires
-state_in-s-requires c =
-    here_place c.requires.here
 
 pub returns-then-s-ge-UNREACHED_DEPTH : goal.returns-then-s-ge-UNREACHED_DEPTH
 returns-then-s-ge-UNREACHED_DEPTH c =
@@ -23,15 +18,6 @@ pub returns-then-s-eq-NONE_OPEN : goal.returns-then-s-eq-NONE_OPEN
 returns-then-s-eq-NONE_OPEN c =
     let J = test-passes (on-close c.requires c.state_in-s.ensures) (lt-ltb _ _ c.if-s-ge-UNREACHED_DEPTH.false) in
     stops (test-passes J (lt-ltb _ _ c.if-procedure-next.false)) (ap not (eq-eqb _ _ c.if-s-eq-NONE_OPEN.true))
-
-pub outer_of-o-requires : goal.outer_of-o-requires
-outer_of-o-requires c =
-    held-here c.state_in-s.ensures c.requires.here
-
-pub pass_one-requires : goal.pass_one-requires
-pass_one-requires c =
-    let S = c.state_in-s.ensures in
-    fitting (next_place c.requires.here _ c.if-procedure-next.false) S.main_small S.ptr_small c.outer_of-o.ensures.inner_small
 
 pub returns : goal.returns
 returns c =

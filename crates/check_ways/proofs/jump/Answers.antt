@@ -1,26 +1,12 @@
 -- `check_ways::jump`: the tests in their order (`on-jump`), then the state passed to the target.
 use mathlib.Core.Path.{sym, ◌∙◌}
 use borrow.Author.Tests.{lt-ltb, le-ltb}
-use Rattle.check_ways.specs.Faults.{fitting}
-use Rattle.check_ways.specs.Ways.{stops, test-passes, all-passed, own-place, here_place, ends_low, takes-jump, on-jump}
+use Rattle.check_ways.specs.Ways.{stops, test-passes, all-passed, takes-jump, on-jump}
 use Rattle.check_ways.proofs.jump.Goals as goal
-
-pub own-requires : goal.own-requires
-own-requires c =
-    ends_low c.requires.here
-
-pub state_in-s-requires : goal.state_in-s-requires
-state_in-s-requires c =
-    here_place c.requires.here
 
 pub returns-then-s-ge-UNREACHED_DEPTH : goal.returns-then-s-ge-UNREACHED_DEPTH
 returns-then-s-ge-UNREACHED_DEPTH c =
     stops (test-passes (on-jump c.requires c.state_in-s.ensures) (sym c.own.ensures ∙ c.if-not-own.false)) (le-ltb _ _ c.if-s-ge-UNREACHED_DEPTH.true)
-
-pub pass_one-requires : goal.pass_one-requires
-pass_one-requires c =
-    let S = c.state_in-s.ensures in
-    fitting (own-place c.requires.here _ (sym c.own.ensures ∙ c.if-not-own.false)) S.main_small S.ptr_small S.inner_small
 
 pub returns : goal.returns
 returns c =

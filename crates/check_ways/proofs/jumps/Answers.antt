@@ -56,18 +56,3 @@ branch-file-requires-in_default c =
     (each_from (λ n. suc (body_of n) ≡ 3) 2 5 (refl, (refl, tt)) c.args.kind (omega (arith, not-four)) (omega arith))
     (each_from (λ n. shape_of f p (ins_of f p n) ≡ leads_to Keep 1 (forwards f p)) 2 5 (refl, (refl, tt)) c.args.kind (omega (arith, not-four)) (omega arith)
     ∙ ap (leads_to Keep 1) (sym c.forwards-in_default.ensures.is))
-
-pub returns-in-1 : goal.returns-in-1
-returns-in-1 c = c.jump.ensures
-
-pub returns-in-3 : goal.returns-in-3
-returns-in-3 c = c.jump-in-3.ensures
-
-pub returns-in-2 : goal.returns-in-2
-returns-in-2 c = c.branch-file.ensures
-
-pub returns-in-0 : goal.returns-in-0
-returns-in-0 c = c.branch-file-in-0.ensures
-
-pub returns-in_default : goal.returns-in_default
-returns-in_default c = c.branch-file-in_default.ensures

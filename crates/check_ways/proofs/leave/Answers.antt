@@ -1,14 +1,8 @@
 -- `check_ways::leave`: the tests in their order (`on_return`); nothing is passed on.
 use mathlib.Core.Path.{sym}
 use borrow.Author.Tests.{lt-ltb, le-ltb, eq-eqb, ne_eqb}
-use Rattle.check_ways.specs.Ways.{stops, test-passes, all-passed, here_place, on_return}
+use Rattle.check_ways.specs.Ways.{stops, test-passes, all-passed, on_return}
 use Rattle.check_ways.proofs.leave.Goals as goal
-
-pub head_at-h-requires : goal.head_at-h-requires
-head_at-h-requires c = c.requires.here.head_whole
-
-pub state_in-s-requires : goal.state_in-s-requires
-state_in-s-requires c = here_place c.requires.here
 
 pub returns-then-s-ge-UNREACHED_DEPTH : goal.returns-then-s-ge-UNREACHED_DEPTH
 returns-then-s-ge-UNREACHED_DEPTH c =

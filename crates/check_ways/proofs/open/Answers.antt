@@ -3,20 +3,13 @@ use Prim.Native.Nat.{suc}
 use mathlib.Core.Path.{sym, ◌∙◌}
 use native.Mathlib.Omega.{arith}
 use borrow.Author.Tests.{lt-ltb, le-ltb, lt-leb, le-leb}
-use Rattle.check_ways.specs.Ways.{stops, test-passes, all-passed, own-place, next_place, here_place, ends_low, takes-open, on-open}
+use Rattle.check_ways.specs.Ways.{stops, test-passes, all-passed, takes-open, on-open}
 use Rattle.check_ways.proofs.open.Goals as goal
-
-pub own-requires : goal.own-requires
-own-requires c = ends_low c.requires.here
 
 pub returns-then-target-p : goal.returns-then-target-p
 returns-then-target-p c =
     let J = takes-open _ _ _ _ c.args.procedure c.requires.here c.requires.bounds _ c.requires.shape_is in
     stops (test-passes J (sym c.own.ensures ∙ c.if-not-own.false)) (lt-leb (suc c.args.p) c.args.target (omega (arith, c.if-target-p.true)))
-
-pub state_in-s-requires : goal.state_in-s-requires
-state_in-s-requires c =
-    here_place c.requires.here
 
 pub returns-then-s-ge-UNREACHED_DEPTH : goal.returns-then-s-ge-UNREACHED_DEPTH
 returns-then-s-ge-UNREACHED_DEPTH c =
@@ -35,16 +28,6 @@ returns-then-procedure-s c =
     let K = test-passes (test-passes (test-passes J (le-leb (suc c.args.p) c.args.target (omega (arith, c.if-target-p.false))))
     (lt-ltb _ _ c.if-s-ge-UNREACHED_DEPTH.false)) (lt-ltb _ _ c.if-procedure-next.false) in
     stops K (lt-leb (suc c.state_in-s.result.main) c.args.procedure.x (omega (arith, c.if-procedure-s.true)))
-
-pub pass_both-requires : goal.pass_both-requires
-pass_both-requires c =
-    let S = c.state_in-s.ensures in
-    let a = here_place c.requires.here in
-    let v = next_place c.requires.here _ c.if-procedure-next.false in
-    let w = own-place c.requires.here _ (sym c.own.ensures ∙ c.if-not-own.false) in (
-      record { inside = v.0; low = v.1; main_small = S.main_small; ptr_small = S.ptr_small; inner_small = omega arith },
-      record { inside = w.0; low = w.1; main_small = omega arith; ptr_small = S.ptr_small; inner_small = S.inner_small },
-    )
 
 pub returns : goal.returns
 returns c =

@@ -2,25 +2,17 @@
 use native.Mathlib.Omega.{arith}
 use Rattle.std.proofs.lemmas.Result.{err_from_is_err_and}
 use Rattle.check_ways.specs.Faults.{fitting}
-use Rattle.check_ways.specs.Ways.{here_place, next_place, held-here, bounded-here, onwards-taken, onwards-on, onwards-stopped, onwards-passing, onwards-passed, took_not}
+use Rattle.check_ways.specs.Ways.{here_place, next_place, bounded-here, onwards-taken, onwards-on, onwards-stopped, onwards-passing, onwards-passed, took_not}
 use Rattle.check_ways.proofs.plain.Goals as goal
 
 pub state_in-s-requires : goal.state_in-s-requires
 state_in-s-requires c =
     here_place c.requires.1.here
 
-pub outer_of-o-requires : goal.outer_of-o-requires
-outer_of-o-requires c = held-here c.state_in-s.ensures c.requires.1.here
-
 pub invariant_of-at : goal.invariant_of-at
 invariant_of-at c =
     let A = c.requires.1 in
     record { low = (here_place A.here).1; bounded = bounded-here c.state_in-s.ensures A.here A.bounds c.outer_of-o.ensures }
-
-pub comes_to-requires : goal.comes_to-requires
-comes_to-requires c =
-    let A = c.requires.1 in
-    (c.requires.0, A.here.site, A.kind_is, c.requires.2, c.requires.3)
 
 pub pass_one-requires : goal.pass_one-requires
 pass_one-requires c =

@@ -1,7 +1,6 @@
 -- `check_rows::Instruction::moves`: each way out is one law; passed tests of the depths show that nothing goes below 0 (`stacks-fit`).
 use mathlib.Core.Path.{sym, ◌∙◌, refl}
 use borrow.Author.Tests.{lt-ltb}
-use native.Mathlib.Omega.{arith}
 use Rattle.check_rows.specs.Shape.{Next}
 use Rattle.check_rows.specs.Tests.{stacks-fit}
 use Rattle.check_rows.specs.Rows.{unreached-refused, past, deep, onward}
@@ -18,14 +17,6 @@ overflow_sub-main c = (stacks-fit _ _ _ _ _ (sym c.depths_ok.ensures ∙ c.if-de
 
 pub overflow_sub-ptr : goal.overflow_sub-ptr
 overflow_sub-ptr c = (stacks-fit _ _ _ _ _ (sym c.depths_ok.ensures ∙ c.if-depths_ok.true)).ptr
-
-pub overflow_add-main : goal.overflow_add-main
-overflow_add-main c =
-    omega (arith, (stacks-fit _ _ _ _ _ (sym c.depths_ok.ensures ∙ c.if-depths_ok.true)).main_within, c.args.self.bounded.x_byte)
-
-pub overflow_add-ptr : goal.overflow_add-ptr
-overflow_add-ptr c =
-    omega (arith, (stacks-fit _ _ _ _ _ (sym c.depths_ok.ensures ∙ c.if-depths_ok.true)).ptr_within, c.args.self.bounded.y_byte)
 
 pub returns-then-depths_ok : goal.returns-then-depths_ok
 returns-then-depths_ok c =
