@@ -292,7 +292,7 @@ pub fn operand(file: &[u8], p: usize) -> usize
     u16::from_be_bytes([file[p + 1], file[p + 2]]) as usize
 }
 
-// The second 16-bit operand.
+// The second 16-bit operand. It and `operand_low` stay beside `operand` and `operand4`: each is a definition's own name.
 #[tactic(auto, unfolding(model::specs::File::operand2))]
 pub fn operand2(file: &[u8], p: usize) -> usize
     requires { p + 4 < length file.now }
