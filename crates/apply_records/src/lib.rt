@@ -1,4 +1,5 @@
-// Records of the control stack, pushed and taken away.
+// Records of the control stack, pushed and taken away. The stack, the registers and the writes stay parameters of their own: this runs at each
+// step, and behind a struct each access would load the slice's address anew.
 #![tactic(auto)]
 
 ghost use Rattle.std.specs.Prelude.{◌≡◌, List, ℕ, ◌+◌, ◌*◌, ◌<◌, ◌≤◌, length};

@@ -267,7 +267,8 @@ const BODY: [u8; 256] = [
     255, // 255
 ];
 
-// A copy of the table. The compiler makes a constant array anew at each use: the scan takes one copy and reads that.
+// A copy of the table, which the scan takes and reads. Read in place its address is made anew for each record: in a file whose bodies all have
+// two bytes the scan then took 1.3 to 1.45 times as long.
 pub fn bodies() -> [u8; 256]
     ensures { result ≡ lengths }
 {
@@ -291,7 +292,7 @@ pub fn operand(file: &[u8], p: usize) -> usize
     u16::from_be_bytes([file[p + 1], file[p + 2]]) as usize
 }
 
-// The second 16-bit operand.
+// The second 16-bit operand. It and `operand_low` stay beside `operand` and `operand4`: each is a definition's own name.
 #[tactic(auto, unfolding(model::specs::File::operand2))]
 pub fn operand2(file: &[u8], p: usize) -> usize
     requires { p + 4 < length file.now }

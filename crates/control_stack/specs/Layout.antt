@@ -1,9 +1,8 @@
--- A control record's words by name: the structs of the code as the model's records, and what five stores, one behind another, leave of
--- the control stack.
+-- A control record's words by name: the structs of the code as the model's records, and what five words read, written and zeroed are of the
+-- control stack.
 use Rattle.std.specs.Prelude.{ℕ, zero, suc, ◌+◌, ◌*◌, ◌/◌, ◌<◌, ◌≤◌, List, [], ◌∷◌, ◌≡◌, refl, length, set, replicate, take, drop}
 use Rattle.std.proofs.Math.Path.{ap}
 use Rattle.std.proofs.Common.{sym, ◌∙◌, arith, get_or-set_other}
-use Rattle.std.proofs.lemmas.List.{get_or-take, get_or-drop}
 use Rattle.std.proofs.lemmas.Grind.{common_steps}
 use borrow.Rule.Slice.PartMut.{put_mid}
 use Rattle.std.proofs.lemmas.List.Edits.{sets, sets-eq}
@@ -77,19 +76,16 @@ pub words-read : (l y : List ℕ) (t n : ℕ) → y ≡ take n (drop t l) → n 
     rec_of y ≡ rec_at l k
 unfolding rec_at
 words-read l y t n e five k at =
-    λ j. record { w0 = word 0 (omega arith) j; w1 = word 1 (omega arith) j; w2 = word 2 (omega arith) j; w3 = word 3 (omega arith) j; w4 = word 4 (omega arith) j }
-  where
-    word : (i : ℕ) → i < n → word_at y i ≡ word_at l (record_words * k + i)
-    word i h =
-        ap (λ (s : List ℕ). word_at s i) e ∙ get_or-take n (drop t l) i 0 h ∙ get_or-drop t l i 0 ∙ ap (λ (u : ℕ). word_at l (u + i)) at
+    rw (e, five, at) (grind (arith, common_steps))
 
 -- the words of a record written from the top on are the record on top of the others
 pub words-put : (l ws : List ℕ) (t i : ℕ) → length ws ≡ record_words → record_words ≤ i → t ≡ record_words * (t / record_words) →
     sets l t (take i ws) ≡ put_rec l (t / record_words) (rec_of ws)
 unfolding put_rec
 words-put l ws t i long all whole =
-    let five : take i ws ≡ word_at ws 0 ∷ word_at ws 1 ∷ word_at ws 2 ∷ word_at ws 3 ∷ word_at ws 4 ∷ [] = grind (arith, common_steps) in
-    ap (sets l t) five ∙ ap (λ (u : ℕ). sets l u (word_at ws 0 ∷ word_at ws 1 ∷ word_at ws 2 ∷ word_at ws 3 ∷ word_at ws 4 ∷ [])) whole
+    let r = rec_of ws in
+    let five : take i ws ≡ r.w0 ∷ r.w1 ∷ r.w2 ∷ r.w3 ∷ r.w4 ∷ [] = grind (arith, common_steps) in
+    rw five (ap (λ (u : ℕ). sets l u (r.w0 ∷ r.w1 ∷ r.w2 ∷ r.w3 ∷ r.w4 ∷ [])) whole)
 
 -- the word at the new top zeroed before the cut
 cut-set : (i : ℕ) (l : List ℕ) → cut (suc i) (set l i 0) ≡ cut i l

@@ -44,7 +44,7 @@ pub fn sums_from(bytes: &[u8]) -> Sums
     }
 }
 
-// Puts register `i`, most significant byte first.
+// Puts register `i`, most significant byte first: the word's 32 bits, whatever lies above.
 fn put_word(bytes: &mut [u8], i: usize, w: usize)
     requires { (length bytes.old ≡ register_bytes) × (i < registers) }
     ensures { Stored bytes.old i w bytes.new }
