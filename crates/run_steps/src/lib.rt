@@ -1,4 +1,5 @@
 // The steps of a run that need no loop and no raise, one after another.
+// The lists stay parameters of their own: behind a `&mut` struct each access would load a slice's address anew (tried: four loads a turn of a loop).
 #![tactic(auto)]
 
 ghost use Rattle.std.specs.Prelude.{◌≡◌};
@@ -55,7 +56,7 @@ pub fn go_on(
         };
         let Some(next) = apply::apply(file, main, ptr, ctl, heap, r, put) else {
             return Pause {
-                plan,
+                plan: Plan::Write(put),
                 regs: r,
                 left,
             };
