@@ -182,6 +182,7 @@ impl Audited<'_> {
 
     // The record on top of `left` others: a handler's as long as one of the frame's is still to be read, else the frame's. It gives the verdict,
     // or what to read on with.
+    // `left` stays beside `look`, as the counter of the loop: a value of both would be made anew for each record, and say no more.
     pub fn read_record(&self, left: usize, look: Look) -> ControlFlow<bool, Look>
         requires { record_words * left + 4 < length self.now.ctl.now }
         ensures { RecordTells self.now.passed.file.now self.now.passed.map.now (length self.now.main.now) (length self.now.ptr.now)
