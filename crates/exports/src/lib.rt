@@ -9,7 +9,7 @@ ghost use Rattle.exports.specs.Replies.{replies, replies_to, checks, checks_to};
 use model::Answer;
 
 // Which answer it is (Manual 7.1); a reply has it as a number, the same as the enum of c/yalgovim.h.
-#[derive(Clone, Copy, Debug, PartialEq, Eq)]
+#[derive(Clone, Copy)]
 enum Kind {
     Passed = 0,
     Ready = 1,
@@ -21,7 +21,7 @@ enum Kind {
 
 // Four numbers, since an enum with fields cannot be handed to C.
 #[repr(C)]
-#[derive(Clone, Copy, Debug, Default, PartialEq, Eq)]
+#[derive(Clone, Copy)]
 pub struct Reply {
     pub kind: u32, // a Kind
     pub number: u32, // the number of a refusal, the code of an uncaught exception, else 0

@@ -206,6 +206,7 @@ fn sums_of_files(rt: &impl Print) -> io::Result<()> {
     other_file(rt, b"9 before 13", &A, 2, &nine, 31, 62)
 }
 
+// A call for each row of the tests below: in an array the names and heaps, of different lengths, would have to be made slices one by one.
 fn on_heap(rt: &impl Print, name: &[u8], heap: &mut [u32]) -> io::Result<()> {
     let registers = &mut [0; REGISTER_BYTES];
     on(rt, name, &mut [0; 39], &mut [0; 2], heap, registers)

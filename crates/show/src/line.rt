@@ -1,4 +1,6 @@
 // The bench's line: an answer, and for an ending the steps and the words of the main stack.
+ghost use Rattle.std.specs.Prelude.{Some};
+
 use model::Answer;
 use std::fmt;
 
@@ -7,6 +9,10 @@ use std::fmt;
 struct Words<'a>(&'a [u32]);
 
 impl fmt::Display for Words<'_> {
+    ghost use Rattle.show.specs.Line.{words_text};
+
+    ghost output = { λ words. Some (words_text words.0.now) };
+
     fn fmt<W: fmt::Write>(&self, f: &mut fmt::Formatter<W>) -> fmt::Result {
         let Some((first, rest)) = self.0.split_first() else {
             return Ok(());
@@ -27,6 +33,10 @@ pub struct Line<'a> {
 }
 
 impl fmt::Display for Line<'_> {
+    ghost use Rattle.show.specs.Line.{line_text};
+
+    ghost output = { λ line. Some (line_text line.answer line.main.now) };
+
     fn fmt<W: fmt::Write>(&self, f: &mut fmt::Formatter<W>) -> fmt::Result {
         let main = Words(self.main);
         match self.answer {
