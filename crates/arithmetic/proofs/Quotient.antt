@@ -11,7 +11,6 @@ use mir.Syntax.{w32}
 use mir.Val.{of_z}
 use mir.ValLaws.{to_z-of_z}
 use native.Mathlib.Nat.{div-add-mod, mod-lt, mul-zero}
-use native.Mathlib.Omega.{arith}
 use Rattle.model.specs.Choice.{when◌then◌else◌}
 use Rattle.model.specs.Words.{signed, to_word, in_range, value_of, Op, operate}
 use Rattle.std.specs.Prelude.{Option, Some, None}
@@ -48,10 +47,10 @@ remainder-below (negsuc n) d h = rw nat_abs-neg (mod-lt (suc n) h)
 
 first : (t : Bool) (w : ℕ) {q : ℕ} → (when t then Some w else None) ≡ Some q → (t ≡ true) × (w ≡ q)
 first true w e = (refl, cc)
-first false w e = let z : ◌≡◌ {A = ℕ} 0 1 = cc in absurd (omega arith)
+first false w e = cc
 
 second : (t : Bool) (v : Option ℕ) {q : ℕ} → (when t then None else v) ≡ Some q → v ≡ Some q
-second true v e = let z : ◌≡◌ {A = ℕ} 0 1 = cc in absurd (omega arith)
+second true v e = cc
 second false v e = e
 
 -- a result's word has the result as its whole number

@@ -53,7 +53,7 @@ pub fn under(index: u32, bound: u32) -> bool
     minus(index, bound) < 0
 }
 
-// how far it lies above the bound else. A function of its own: a number for "below" would stand between the bound and the element's address
+// how far it lies above the bound else. One function giving an Option would put a number for "below" between the bound and the element's address (tried)
 pub fn distance(index: u32, bound: u32) -> usize
     requires { negative? (signed index -ℤ signed bound) ≡ false }
     ensures { pos result ≡ signed index -ℤ signed bound }

@@ -1,6 +1,6 @@
 -- What a plan comes to is the step of the model, and its writes suit the lists: one case for each instruction. Asked of the machine is what
 -- holds of every sound state that runs (`Apt`).
-use Rattle.std.specs.Prelude.{ℕ, zero, suc, ◌+◌, ◌-◌, ◌*◌, ◌≤◌, ◌≡◌, Bool, ◌≢◌, set, ltb, leb, eqb}
+use Rattle.std.specs.Prelude.{ℕ, zero, suc, ◌+◌, ◌-◌, ◌*◌, ◌≤◌, ◌≡◌, Bool, ◌≢◌, Option, Some, None, set, ltb, leb, eqb}
 use Rattle.std.proofs.Math.Path.{refl, ap}
 use Rattle.std.proofs.Common.{◌∙◌, leb-true}
 use Rattle.std.proofs.Math.Bool.{true, false}
@@ -25,7 +25,6 @@ use Rattle.model.specs.Moves.{mtop, ptop, main_word, ptr_word, main_words, ptr_w
 use Rattle.model.specs.Instructions.{code_of, nil_object, no_such_word, heap_full, no_room, Result, done, throws, fails, and_go, on_value, on_object, on_element}
 use Rattle.model.specs.Instructions.{New, object, of_length, new_of, on_new, makes, callee_tests, basic_rule, rule}
 use Rattle.model.specs.Step.{next, outcome, instruct, step}
-use Rattle.std.specs.Prelude.{Option, Some, None}
 use Rattle.laws_file.specs.Codes.{on_reals?, is_real?, call-byte, callee-is, call-after}
 use Rattle.plan_meaning.specs.declared.Into.TheVariants.{Nothing, Pop, View, WordVector, PtrVector}
 use Rattle.plan_meaning.specs.declared.Into.{Into}
