@@ -30,9 +30,6 @@ pub record OuterIs (m : List ℕ) (s : State) (r : Numbers) : Type 0 where
 abbrev pub HandlerIn : List ℕ → ℕ → Type 0
 HandlerIn m h = (h ≡ none) ⊎ ((3 * h + 2 < length m) × (h < file_most))
 
-pub held-as : (m : List ℕ) (q : ℕ) (r : Numbers) → StateIs m q r → HandlerIn m (state_in m q).inner → HandlerIn m r.inner
-held-as m q r I h = rw (ap (λ (s : State). s.inner) I.is) h
-
 -- a place that a state is passed to lies in the part, and the state's numbers fit it
 pub record Fitting (m : List ℕ) (q : ℕ) (s : State) : Type 0 where
   pub inside : 3 * q + 2 < length m

@@ -28,7 +28,7 @@ use Rattle.check_rows.specs.Kinds.{NoJump, elsewhere, straight?, straight, body-
 use Rattle.laws_file.specs.Walk.{after-above}
 use Rattle.check_scan.specs.Marks.{unreached, state_in}
 use Rattle.check_ways.specs.Takes.{own_in, pass_one_in, pass_all_in, take_in, take_in_with}
-use Rattle.check_ways.specs.Faults.{take_ans, StateIs, OuterIs, HandlerIn, held-as, and-end}
+use Rattle.check_ways.specs.Faults.{take_ans, StateIs, OuterIs, HandlerIn, and-end}
 
 -- what is known of the instruction at p of the procedure between h and e
 pub record Here (f m : List ℕ) (h e p : ℕ) : Type 0 where
@@ -367,13 +367,6 @@ module _ (f m : List ℕ) (h p : ℕ) (l : Procedure) (H : Here f m h l.end p) (
 
 -- the places that are read and written lie in the part
 module _ {f m : List ℕ} {h e p : ℕ} (H : Here f m h e p) where
-  pub own-place : (q : ℕ) → own_in m h e q ≡ true → (3 * q + 2 < length m) × (q < file_most)
-  own-place q w =
-      let a = H.own_low q (sym (H.owns q) ∙ w) in
-      let b = H.long in
-      let c = H.site.small in
-      (omega arith, omega arith)
-
   pub next_place : (q : ℕ) → q < e → (3 * q + 2 < length m) × (q < file_most)
   next_place q w =
       let a = H.end_low in
@@ -389,20 +382,10 @@ module _ {f m : List ℕ} {h e p : ℕ} (H : Here f m h e p) where
       let u = after-above f p in
       (omega arith, a)
 
-  pub ends_low : (3 * e ≤ length m) × (e ≤ file_most)
-  ends_low =
-      let a = H.end_low in
-      let b = H.long in
-      let c = H.site.small in
-      (omega arith, omega arith)
-
--- what the functions have in hand: the state s as read, o at the innermost open 160, and the place p + n behind the instruction
-module _ {f m : List ℕ} {h p : ℕ} {s : Numbers} (S : StateIs m p s) where
-  pub held-here : {e : ℕ} → Here f m h e p → HandlerIn m s.inner
-  held-here H = held-as m p s S H.held
-
-  pub bounded-here : {l : Procedure} → Here f m h l.end p → Bounds f h l → {o : Numbers} → OuterIs m (as_state s) o → Bounded (as_state s) (as_state o) l
-  bounded-here {l} H B O = rw (O.is ∙ ap (λ (u : State). innermost (state_in m) u) S.is, S.is) (bounded f m h p l H B)
+-- the state s as read, and o at the innermost open 160, are within the bounds
+pub bounded-here : {f m : List ℕ} {h p : ℕ} {s : Numbers} → StateIs m p s → {l : Procedure} → Here f m h l.end p → Bounds f h l → {o : Numbers} →
+    OuterIs m (as_state s) o → Bounded (as_state s) (as_state o) l
+bounded-here {f} {m} {h} {p} S {l} H B O = rw (O.is ∙ ap (λ (u : State). innermost (state_in m) u) S.is, S.is) (bounded f m h p l H B)
 
 pub led : {f m : List ℕ} {p kind : ℕ} {l : Procedure} → Among f m p l kind → (k n : ℕ) (sh : Shape) → kind ≡ k → suc (body_of k) ≡ n →
     shape_of f p (ins_of f p k) ≡ sh → Led f m p n l sh

@@ -20,7 +20,7 @@ use Rattle.laws_file.specs.Procedures.{DepthsWithin, head-none}
 use Rattle.laws_file.specs.Walk.{HeadsHold, heads-right, entry-proc, file-walk, walk-above, after-above}
 use Rattle.check_scan.specs.Marks.{PartShows, marked, marked-shows}
 use Rattle.check_scan.specs.Scanning.{Comes, Scanned, listed-count, listed-all}
-use Rattle.check_scan.specs.Heading.{ScanMarked, Placed, Headed}
+use Rattle.check_scan.specs.Heading.{ScanMarked, Placed}
 use Rattle.check_flow.specs.Alike.{Fit}
 use Rattle.check_flow.specs.Flowing.{Begun, Flowed, refuse-pass}
 use Rattle.check_scan.specs.declared.Found.{Found}
@@ -59,11 +59,8 @@ pub record Checks (f map map' table : List ℕ) (v : Result ℕ RefusedAt) : Typ
   pub is : checked (answer_of v) map' ≡ check_of f map
   pub placed : (n : ℕ) → v ≡ Ok n → Placed f table n
 
--- refusal 3, and what the marked part shows
+-- what the marked part shows
 module _ (f m m₁ m₂ table table₂ : List ℕ) (L : Lengths f m table) (one : m₁ ≡ replicate (length m) none) (r : Result Found RefusedAt) (S : Scanned f m₁ m₂ table₂ r) where
-  pub look-broken : (e : RefusedAt) → r ≡ Err e → Looked f m₂ table₂ (Err e)
-  look-broken e z map = let w : Comes f m₁ m₂ table₂ (Err e) = rw z at S.comes in rw (w.0, w.1)
-
   pub look-whole : (found : Found) → r ≡ Ok found → ScanMarked f m₂ table₂ found.heads found.later
   unfolding procs head_of heads
   look-whole found e =
@@ -86,11 +83,8 @@ module _ (f m m₁ m₂ table table₂ : List ℕ) (L : Lengths f m table) (one 
         later = λ l. C.3.later l ∙ ap (λ (h : List ℕ). get_or h 64 0) (sym same);
       }
 
--- refusal 4, and what the flow begins with
+-- what the flow begins with
 module _ (f m table : List ℕ) (n last : ℕ) (M : ScanMarked f m table n last) where
-  pub look-wrong : (m₁ : List ℕ) (e : RefusedAt) → Headed f m₁ table (Err e) → Looked f m₁ table (Err e)
-  look-wrong m₁ e H map = rw (H.0, M.whole, H.1)
-
   -- the first states fit the map
   abbrev Small : Known → ℕ → Type 0
   Small k q = ((state_at k q).main < 256) × ((state_at k q).ptr < 256) × ((state_at k q).inner ≡ none)

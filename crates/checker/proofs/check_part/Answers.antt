@@ -1,6 +1,6 @@
 -- `checker::check_part` meets its contract: a refused file has its part filled.
 use mathlib.Core.Path.{sym, ◌∙◌}
-use Rattle.checker.specs.Parts.{fill-kept, fill-refused}
+use Rattle.checker.specs.Parts.{fill-refused}
 use Rattle.checker.proofs.check_part.Goals as goal
 
 pub returns-then-is_err : goal.returns-then-is_err
@@ -8,8 +8,3 @@ returns-then-is_err c =
     let v = c.passes-verdict in
     fill-refused c.args.file.now v.new.m c.fill.new.self v.new.table v.result (sym c.is_err.ensures.value ∙ c.if-is_err.true) v.ensures
     (c.fill.ensures.after (λ y e. e)) (v.auto.m ∙ c.requires.part)
-
-pub returns-else-is_err : goal.returns-else-is_err
-returns-else-is_err c =
-    let v = c.passes-verdict in
-    fill-kept c.args.file.now v.new.m v.new.table v.result (sym c.is_err.ensures.value ∙ c.if-is_err.false) v.ensures

@@ -1,7 +1,6 @@
 -- `checker::check_with` meets its contract: refusals 1 and 2 write nothing, the others the file's part alone.
-use mathlib.Core.Path.{refl, sym}
+use mathlib.Core.Path.{refl}
 use native.Mathlib.Omega.{arith}
-use lib.Seq.{length-take-le}
 use Rattle.checker.specs.Parts.{check-none, check-long, check-map, check-rest}
 use Rattle.checker.proofs.check_with.Goals as goal
 
@@ -16,13 +15,6 @@ returns-then-n-gt-FILE_MOST c =
 pub returns-then-map-size : goal.returns-then-map-size
 returns-then-map-size c =
     check-map c.args.file.now c.args.map.now c.args.table.now (omega arith) (omega arith) c.if-map-size.true
-
-pub slice_bounds-check_part-end-2 : goal.slice_bounds-check_part-end-2
-slice_bounds-check_part-end-2 c = sym (length-take-le _ _ (omega arith))
-
-pub check_part-requires : goal.check_part-requires
-check_part-requires c =
-    record { some = omega arith; few = omega arith; bytes = λ i. omega (arith, c.type_inv.file i); part = length-take-le _ _ (omega arith); empty = c.requires }
 
 pub returns : goal.returns
 returns c =
