@@ -16,7 +16,7 @@ pub struct Ended {
 }
 
 // The table has the heads of the file's procedures. What a run pauses with is one variable, and registers are passed where they stand: in variables of their
-// own they were copied at each pause and each end.
+// own they were copied at each pause and each end. The two calls that go on stand twice: in a function for both each would have one call, and be compiled into it.
 pub fn run_on(
     file: &[u8],
     table: &[usize; PROCS_MOST],
