@@ -1,4 +1,4 @@
-// The calls that firmware reaches: check, start and run on numbers and lists. An answer travels as four numbers.
+// The calls that firmware reaches: check, start and run on numbers and lists, each list a parameter, as C lends it. An answer travels as four numbers.
 // C calls them by the same names, which the crate exports_c defines.
 #![tactic(auto)]
 
