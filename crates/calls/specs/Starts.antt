@@ -1,5 +1,5 @@
 -- Start: a refusal is the model's, and zeroed stacks with the first registers and the file's sums are the state that it begins with.
-use Rattle.std.specs.Prelude.{ℕ, List, ◌≡◌, refl, set, Result, Ok, Err}
+use Rattle.std.specs.Prelude.{ℕ, List, [], ◌∷◌, ◌≡◌, refl, length, replicate, set, Result, Ok, Err}
 use Rattle.std.proofs.Common.{ap, sym, ◌∙◌, arith}
 use Rattle.std.proofs.lemmas.List.{set-get_or}
 use Rattle.model.specs.Words.{cut}
@@ -22,6 +22,12 @@ zeroed l i = ap (λ (w : ℕ). set (cut 0 l) i w) (sym (cut-zero 0 l i (omega ar
 first-record : (l : List ℕ) → put_rec (cut 0 l) 0 (frame_rec first_frame) ≡ cut 0 l
 unfolding put_rec
 first-record l = rw (zeroed l 0, zeroed l 1, zeroed l 2, zeroed l 3, zeroed l 4)
+
+-- a list that is filled with zeros is cut to 0
+pub filled-cut : (l : List ℕ) → replicate (length l) 0 ≡ cut 0 l
+unfolding cut
+filled-cut [] = refl
+filled-cut (w ∷ l) = ap (λ (k : List ℕ). 0 ∷ k) (filled-cut l)
 
 -- the first registers, in numbers
 abbrev pub first_regs : Regs

@@ -48,7 +48,7 @@ pub fn start(
 {
     let mut table = [0usize; PROCS_MOST];
     if let Err(refused) = call_tests::admit(file, map, &mut table, main, ptr, ctl, heap, bytes) {
-        return refused.into();
+        return Answer::from(refused);
     }
     main.fill(0);
     ptr.fill(0);
@@ -90,7 +90,7 @@ pub fn run(
 {
     let mut table = [0usize; PROCS_MOST];
     match call_tests::test_for_run(file, map, &mut table, main, ptr, ctl, heap, bytes) {
-        Err(refused) => refused.into(),
+        Err(refused) => Answer::from(refused),
         Ok(sound) => {
             let ended = run::run_on(
                 file, &table, main, ptr, ctl, heap, sound.regs, budget,

@@ -3,24 +3,25 @@ use native.Mathlib.Omega.{arith}
 use Rattle.calls.specs.Runs.{run-refused, run-runs, run_ran}
 use Rattle.calls.proofs.run.Goals as goal
 
-pub run_on-out-requires : goal.run_on-out-requires
-run_on-out-requires c =
-    run-runs _ c.test_for_run-t.new.map c.test_for_run-t.new.table
-    c.test_for_run-t.result c.test_for_run-t.ensures c.args.budget _ _
-    c.in-Sound.is (λ i. omega (arith, c.type_inv.file i))
+pub run_on-ended-requires : goal.run_on-ended-requires
+run_on-ended-requires c =
+    run-runs _ c.test_for_run.new.map c.test_for_run.new.table
+    c.test_for_run.result c.test_for_run.ensures c.args.budget _
+    c.in-Ok.is (λ i. omega (arith, c.type_inv.file i))
 
 pub put_regs-requires : goal.put_regs-requires
 put_regs-requires c =
-    (c.test_for_run-t.ensures.through _ _ c.in-Sound.is).shown.its.0
+    (c.test_for_run.ensures.through _ c.in-Ok.is).shown.its.0
 
-pub returns-in-Unfit : goal.returns-in-Unfit
-returns-in-Unfit c =
-    run-refused _ c.test_for_run-t.new.map c.test_for_run-t.new.table
-    c.test_for_run-t.result c.test_for_run-t.ensures c.args.budget _ _
-    c.in-Unfit.is
+pub returns-in-Err : goal.returns-in-Err
+returns-in-Err c =
+    rw c.from.ensures
+    (run-refused _ c.test_for_run.new.map c.test_for_run.new.table
+    c.test_for_run.result c.test_for_run.ensures c.args.budget _
+    c.in-Err.is)
 
-pub returns-in-Sound : goal.returns-in-Sound
-returns-in-Sound c =
-    run_ran _ c.test_for_run-t.new.map c.test_for_run-t.new.table
-    c.test_for_run-t.result c.test_for_run-t.ensures c.args.budget _ _
-    c.in-Sound.is c.run_on-out.result.answer _ _ c.run_on-out.ensures c.put_regs.ensures
+pub returns-in-Ok : goal.returns-in-Ok
+returns-in-Ok c =
+    run_ran _ c.test_for_run.new.map c.test_for_run.new.table
+    c.test_for_run.result c.test_for_run.ensures c.args.budget _
+    c.in-Ok.is c.run_on-ended.result.answer _ _ c.run_on-ended.ensures c.put_regs.ensures
