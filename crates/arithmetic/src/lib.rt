@@ -72,7 +72,7 @@ pub fn times(a: u32, b: u32) -> i64
 }
 
 // rounded towards zero; -2^31 by -1 is the one quotient outside the range. `i32::checked_div` asks for a divisor of -1 in a way that costs the loop of
-// steps a hundred moves more (tried)
+// steps some sixty moves more (tried)
 pub fn div(a: u32, b: u32) -> Option<u32>
     ensures { result ≡ operate Op.div a b }
 {
