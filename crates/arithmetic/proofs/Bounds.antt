@@ -1,20 +1,20 @@
 -- Whole numbers in the machine's bits: those of words fit 32 bits, and a result that fits 32 bits has its word as its value.
-use Prim.Native.Nat.{ℕ, suc, ◌-◌, ◌^◌, ◌<◌, ◌≤◌}
+use native.Mathlib.Nat.{div-le_self, div-lt_iff_lt-mul}
+use Prim.Native.Nat.{ℕ, suc, ◌-◌, ◌^◌, ◌<◌, ◌≤◌, zero, ◌*◌, ◌/◌}
 use mathlib.Core.Bool.{Bool, true, false, ◌&&◌}
 use mathlib.Core.Logic.{◌⊎◌, inl, inr, ⊎_elim}
-use mathlib.Core.Path.{◌≡◌, refl, ◌∙◌, ap}
-use lib.IntN.{ℤ, pos, negsuc}
+use mathlib.Core.Path.{◌≡◌, refl, sym, ◌∙◌, ap}
+use lib.IntN.{ℤ, pos, negsuc, neg_ℤ}
 use lib.Signed.{mag, mag_rem, quot_z, rem_z}
 use lib.Dec.{ltb}
 use mir.Syntax.{Width, w32}
 use mir.Val.{SFits, to_z, of_z, sel, hbits, bool_byte}
 use mir.ValLaws.{to_z-of_z, to_z-Fits, of_z-to_z, sfits_le}
-use borrow.Author.Tests.{eq-eqb, ne_eqb, le-leb, leb-true}
+use borrow.Author.Tests.{le-leb, leb-true}
 use native.Mathlib.Decide.{dec_lt}
 use native.Mathlib.Omega.{arith}
 use Rattle.model.specs.Choice.{when◌then◌else◌}
-use Rattle.model.specs.Words.{signed, to_word, bit, in_range, value_of, Op, operate}
-use Rattle.std.specs.Int.{CanDivide}
+use Rattle.model.specs.Words.{signed, to_word, bit, in_range, value_of}
 use Rattle.std.specs.Prelude.{Some, None}
 
 pub split : (a b : ℕ) → (a < b) ⊎ (b ≤ a)
@@ -59,6 +59,43 @@ pub compared : (op : ℤ → ℤ → Bool) {x y s t : ℤ} {r : ℕ} → mag x <
     r ≡ bool_byte (op (to_z w32 (of_z w32 x)) (to_z w32 (of_z w32 y))) → Some r ≡ Some (bit (op s t))
 compared op f g d e h = ap Some (rw (read w32 f d, read w32 g e) at h ∙ bit_is _)
 
+-- a word that is not z's has another whole number than z
+signed-other : (a : ℕ) (z : ℤ) → a < 4294967296 → (a ≡ of_z w32 z → ⊥) → signed a ≡ z → ⊥
+signed-other a z h k e = k (sym (signed-bits a h) ∙ ap (of_z w32) e)
+
+mag-neg : (n : ℕ) → mag (neg_ℤ (pos n)) ≤ n
+mag-neg zero = omega arith
+mag-neg (suc n) = omega arith
+
+mag-neg-lt : (n k : ℕ) → 0 < k → n ≤ k → mag (neg_ℤ (pos n)) < k
+mag-neg-lt zero k p h = p
+mag-neg-lt (suc n) k p h = h
+
+-- -2^31 by -1 alone does not fit
+quot_fits : (x y : ℤ) → SFits w32 x → (x ≡ negsuc 2147483647 → ⊥) ⊎ (y ≡ negsuc 0 → ⊥) → SFits w32 (quot_z x y)
+quot_fits (pos a) (pos b) f h = record { sfits = omega (arith, f.sfits, div-le_self a b) }
+quot_fits (pos a) (negsuc b) f h = record { sfits = omega (arith, f.sfits, div-le_self a (suc b), mag-neg (a / suc b)) }
+quot_fits (negsuc a) (pos b) f h = record { sfits = mag-neg-lt (suc a / b) 2147483648 (omega arith) (omega (arith, f.sfits, div-le_self (suc a) b)) }
+quot_fits (negsuc a) (negsuc b) f h =
+    record {
+      sfits =
+          ⊎_elim
+          (λ (k : negsuc a ≡ negsuc 2147483647 → ⊥).
+          let m : a ≡ 2147483647 → ⊥ = λ e. k (ap negsuc e) in
+          omega (arith, f.sfits, div-le_self (suc a) (suc b)))
+          (λ (k : negsuc b ≡ negsuc 0 → ⊥).
+          let m : b ≡ 0 → ⊥ = λ e. k (ap negsuc e) in
+          let p : suc a < 2147483648 * suc b = omega (arith, f.sfits) in
+          (div-lt_iff_lt-mul (omega arith)).1 p)
+          h;
+    }
+
+module _ {a b : ℕ} (f : a < 4294967296) (g : b < 4294967296) where
+  pub quotient_fits : (a ≡ 2147483648 → ⊥) ⊎ (b ≡ 4294967295 → ⊥) → SFits w32 (quot_z (signed a) (signed b))
+  quotient_fits h =
+      quot_fits (signed a) (signed b) (signed-fits a f)
+      (⊎_elim (λ k. inl (signed-other a (negsuc 2147483647) f k)) (λ k. inr (signed-other b (negsuc 0) g k)) h)
+
 -- the dividend's size bounds the remainder's
 pub remainder-fits : (a b : ℕ) → a < 4294967296 → SFits w32 (rem_z (signed a) (signed b))
 remainder-fits a b f = sfits_le (mag_rem (signed a) (signed b)) (signed-fits a f)
@@ -92,17 +129,3 @@ unmade z k = go (in_range z) (λ e. k (range-fits z e))
     go : (t : Bool) → (t ≡ true → ⊥) → None ≡ (when t then Some (to_word z) else None)
     go true h = absurd (h refl)
     go false h = refl
-
--- a quotient as std has it: of a divisor other than 0, where it fits
-pub divided : (a b : ℕ) {r : ℕ} {q : ℤ} → b < 4294967296 → CanDivide w32 (signed a) (signed b) → q ≡ quot_z (signed a) (signed b) → r ≡ to_word q →
-    Some r ≡ operate Op.div a b
-unfolding operate
-divided a b g k d e = let n = rw (signed-bits b g) at k.0 in rw (ne_eqb b 0 (omega arith)) (made k.1 (e ∙ ap to_word d))
-
-pub undivided : (a b : ℕ) → b < 4294967296 → (CanDivide w32 (signed a) (signed b) → ⊥) → None ≡ operate Op.div a b
-unfolding operate
-undivided a b g k =
-    ⊎_elim
-    (λ (h : 0 < b). rw (ne_eqb b 0 (omega arith)) (unmade _ (λ f. k (rw (signed-bits b g) h, f))))
-    (λ (h : b ≤ 0). rw (eq-eqb b 0 (omega arith)))
-    (split 0 b)

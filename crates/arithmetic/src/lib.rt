@@ -6,6 +6,10 @@ ghost use Rattle.std.specs.Prelude.{false, ◌≡◌, pos, ◌+ℤ◌, ◌-ℤ�
 ghost use Rattle.arithmetic.specs.Distance.{negative?};
 ghost use Rattle.model.specs.Words.{signed, to_word, value_of, Op, operate, Op1, operate1};
 
+const LEAST: u32 = 2147483648; // the word of -2^31
+
+const MINUS_ONE: u32 = 4294967295; // the word of -1
+
 // the whole number of a word
 fn whole(w: u32) -> i32
     ensures { result ≡ signed w }
@@ -67,12 +71,18 @@ pub fn times(a: u32, b: u32) -> i64
     i64::from(whole(a)) * i64::from(whole(b))
 }
 
-// rounded towards zero; -2^31 by -1 is the one quotient outside the range
+// rounded towards zero; -2^31 by -1 is the one quotient outside the range. `i32::checked_div` asks for a divisor of -1 in a way that costs the loop of
+// steps some sixty moves more (tried)
 pub fn div(a: u32, b: u32) -> Option<u32>
     ensures { result ≡ operate Op.div a b }
 {
-    let quotient = whole(a).checked_div(whole(b))?;
-    Some(word(quotient))
+    if b == 0 {
+        return None;
+    }
+    if a == LEAST && b == MINUS_ONE {
+        return None;
+    }
+    Some(word(whole(a) / whole(b)))
 }
 
 // the remainder has the dividend's sign; by -1 it is 0, of -2^31 too
