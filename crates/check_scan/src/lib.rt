@@ -5,7 +5,7 @@ ghost use Rattle.std.specs.Prelude.{◌≡◌, ◌+◌, ◌*◌, ◌<◌, ◌≤
 ghost use Rattle.model.specs.File as model;
 ghost use Rattle.model.specs.Checker.{state, none};
 ghost use Rattle.check_scan.specs.Marks.{unreached, put_in};
-ghost use Rattle.check_scan.specs.Scanning.{Scanned, list_in, last_in};
+ghost use Rattle.check_scan.specs.Scanning.{Scanned, broken_at, list_in, last_in};
 ghost use Rattle.check_scan.specs.Heading.{head_ok, number_ok, within, starts_at, ScanMarked, Headed};
 ghost use Rattle.model.specs.File.{file_most, head_size, procs_most};
 
@@ -48,6 +48,16 @@ fn list(table: &mut [usize; PROCS_MOST], k: usize, last: usize, p: usize) -> usi
     if k == PROCS_MOST { p } else { last }
 }
 
+// Refusal 3 at p.
+fn broken(p: usize) -> RefusedAt
+    ensures { Err result ≡ broken_at p }
+{
+    RefusedAt {
+        refusal: Refusal::Records,
+        place: p,
+    }
+}
+
 // Refusal 3: the records in file order, the instructions among them marked, the heads listed. Each common length has a branch of its own:
 // the processor foresees where the next record starts, and does not wait for the length. The tests are mostly `<`: of equal tests the
 // compiler would make one jump by a table. Only the last record can be cut short, so that is asked once, behind the loop. A `while`: it
@@ -58,10 +68,7 @@ pub fn scan(file: &[u8], m: &mut [u16], table: &mut [usize; PROCS_MOST]) -> Resu
 {
     let n = file.len();
     if file[0] != HEAD_KIND {
-        return Err(RefusedAt {
-            refusal: Refusal::Records,
-            place: 0,
-        });
+        return Err(broken(0));
     }
     let bodies = code_file::bodies();
     let mut p = 0;
@@ -85,19 +92,13 @@ pub fn scan(file: &[u8], m: &mut [u16], table: &mut [usize; PROCS_MOST]) -> Resu
             k += 1;
             p += HEAD_SIZE;
         } else if b == UNKNOWN {
-            return Err(RefusedAt {
-                refusal: Refusal::Records,
-                place: p,
-            });
+            return Err(broken(p));
         } else {
             p = mark(m, p, b);
         }
     }
     if n < p {
-        return Err(RefusedAt {
-            refusal: Refusal::Records,
-            place: from,
-        });
+        return Err(broken(from));
     }
     Ok(Found {
         heads: k,
