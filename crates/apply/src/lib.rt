@@ -1,4 +1,5 @@
 // What a plan comes to: its writes applied, or its exception raised, all in one step (Manual 4.25).
+// The lists stay parameters of their own: behind a `&mut` struct each access would load a slice's address anew (tried: four loads a turn of a loop).
 #![tactic(auto)]
 
 ghost use Rattle.std.specs.Prelude.{◌≡◌, List, ℕ, ◌+◌, ◌*◌, ◌<◌, ◌≤◌, length, unwrap_or, is_some, IfSome, IfNone};

@@ -1,4 +1,5 @@
 // Manual 4: what the instruction at the machine's place is about to do. Nothing is written here.
+// The lists stay parameters of their own: in a struct that a caller lends, each access would load a slice's address anew.
 #![tactic(auto)]
 
 ghost use Rattle.std.specs.Prelude.{◌≡◌};

@@ -1,4 +1,5 @@
 // A run: steps until the machine is finished, the budget is spent, or an exception is not caught.
+// The lists stay parameters of their own: behind a `&mut` struct each access would load a slice's address anew (tried: four loads a turn of a loop).
 #![tactic(auto)]
 
 ghost use Rattle.std.specs.Prelude.{◌≡◌};
@@ -15,7 +16,7 @@ pub struct Ended {
 }
 
 // The table has the heads of the file's procedures. What a run pauses with is one variable, and registers are passed where they stand: in variables of their
-// own they were copied at each pause and each end.
+// own they were copied at each pause and each end. The two calls that go on stand twice: in a function for both each would have one call, and be compiled into it.
 pub fn run_on(
     file: &[u8],
     table: &[usize; PROCS_MOST],
@@ -48,7 +49,7 @@ pub fn run_on(
     }
     while 0 < pause.left {
         let after = pause.left - 1;
-        let next = match apply::step_with(
+        pause.regs = match apply::step_with(
             file, table, main, ptr, ctl, heap, pause.regs, pause.plan,
         ) {
             Ok(next) => next,
@@ -60,14 +61,14 @@ pub fn run_on(
                 };
             }
         };
-        if next.state == 1 {
+        if pause.regs.state == 1 {
             let done = budget - after;
             return Ended {
                 answer: Answer::Finished(done),
-                regs: next,
+                regs: pause.regs,
             };
         }
-        pause = run_steps::go_on(file, table, main, ptr, ctl, heap, next, after);
+        pause = run_steps::go_on(file, table, main, ptr, ctl, heap, pause.regs, after);
         if run_reals::at_real(pause) {
             pause = run_reals::go_on(file, table, main, ptr, ctl, heap, pause);
         }

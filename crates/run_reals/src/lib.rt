@@ -1,4 +1,5 @@
 // The steps of a run from an instruction on reals on: such instructions one after another, and the steps between them.
+// The lists stay parameters of their own: behind a `&mut` struct each access would load a slice's address anew (tried: four loads a turn of a loop).
 #![tactic(auto)]
 
 ghost use Rattle.std.specs.Prelude.{◌≡◌, ◌<◌};

@@ -50,11 +50,11 @@ step_with-requires c =
 pub returns-in-Err : goal.returns-in-Err
 returns-in-Err c = paused-uncaught c.loop-pause.invariant.paused c.loop-pause-test.true c.in-Err.ensures
 
-pub returns-then-next-eq1 : goal.returns-then-next-eq1
-returns-then-next-eq1 c = going-finished (on-at (goal.at.returns-then-next-eq1 c).In-Ok) c.if-next-eq1.true
+pub returns-then-pause-eq1 : goal.returns-then-pause-eq1
+returns-then-pause-eq1 c = going-finished (on-at (goal.at.returns-then-pause-eq1 c).In-Ok) c.if-pause-eq1.true
 
 pub go_on-pause-requires-in-loop-pause : goal.go_on-pause-requires-in-loop-pause
-go_on-pause-requires-in-loop-pause c = ((on-at (goal.at.go_on-pause-requires-in-loop-pause c).In-Ok).runs, c.if-next-eq1.false)
+go_on-pause-requires-in-loop-pause c = ((on-at (goal.at.go_on-pause-requires-in-loop-pause c).In-Ok).runs, c.if-pause-eq1.false)
 
 pub loop-pause-preserved-then-at_real-2 : goal.loop-pause-preserved-then-at_real-2
 loop-pause-preserved-then-at_real-2 c =
