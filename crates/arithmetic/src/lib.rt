@@ -92,15 +92,20 @@ pub fn rem(a: u32, b: u32) -> Option<u32>
     if b == 0 {
         return None;
     }
-    Some(word(whole(a).wrapping_rem(whole(b))))
+    if b == MINUS_ONE {
+        return Some(0);
+    }
+    Some(word(whole(a) % whole(b)))
 }
 
-// that of -2^31 alone is outside the range
+// that of -2^31 alone is outside the range. Here and in div and rem the end of the range is tested first, a rule of the project, and by no method of std
 pub fn neg(a: u32) -> Option<u32>
     ensures { result ≡ operate1 Op1.neg a }
 {
-    let negative = whole(a).checked_neg()?;
-    Some(word(negative))
+    if a == LEAST {
+        return None;
+    }
+    Some(word(-whole(a)))
 }
 
 pub fn not(a: u32) -> u32
