@@ -92,9 +92,7 @@ pub fn run(
     match call_tests::test_for_run(file, map, &mut table, main, ptr, ctl, heap, bytes) {
         Err(refused) => Answer::from(refused),
         Ok(sound) => {
-            let ended = run::run_on(
-                file, &table, main, ptr, ctl, heap, sound.regs, budget,
-            );
+            let ended = run::run_on(file, &table, main, ptr, ctl, heap, sound.regs, budget);
             registers::put_regs(bytes, ended.regs);
             ended.answer
         }
