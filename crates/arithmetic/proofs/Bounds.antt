@@ -1,6 +1,6 @@
 -- Whole numbers in the machine's bits: those of words fit 32 bits, and a result that fits 32 bits has its word as its value.
 use native.Mathlib.Nat.{div-le_self, div-lt_iff_lt-mul}
-use Prim.Native.Nat.{ℕ, suc, ◌-◌, ◌^◌, ◌<◌, ◌≤◌, zero, ◌*◌, ◌/◌}
+use Prim.Native.Nat.{◌%◌, ℕ, suc, ◌-◌, ◌^◌, ◌<◌, ◌≤◌, zero, ◌*◌, ◌/◌}
 use mathlib.Core.Bool.{Bool, true, false, ◌&&◌}
 use mathlib.Core.Logic.{◌⊎◌, inl, inr, ⊎_elim}
 use mathlib.Core.Path.{◌≡◌, refl, sym, ◌∙◌, ap}
@@ -122,10 +122,17 @@ unfolding value_of
 made {r} {z} f e = rw (← (in-range z f)) (ap Some e)
 
 -- any other has none
-pub unmade : (z : ℤ) → (SFits w32 z → ⊥) → None ≡ value_of z
-unfolding value_of
-unmade z k = go (in_range z) (λ e. k (range-fits z e))
-  where
-    go : (t : Bool) → (t ≡ true → ⊥) → None ≡ (when t then Some (to_word z) else None)
-    go true h = absurd (h refl)
-    go false h = refl
+-- ---- the end of the range: the remainder by -1, and the negative of every word but that of -2^31
+
+pub remainder-by-one : (z : ℤ) → rem_z z (negsuc 0) ≡ pos 0
+remainder-by-one (pos n) = ap pos (omega arith)
+remainder-by-one (negsuc n) = let e : suc n % 1 ≡ 0 = omega arith in rw e
+
+neg-fits : (z : ℤ) → SFits w32 z → (z ≡ negsuc 2147483647 → ⊥) → SFits w32 (neg_ℤ z)
+neg-fits (pos n) f h = record { sfits = mag-neg-lt n 2147483648 (omega arith) (omega (arith, f.sfits)) }
+neg-fits (negsuc n) f h =
+    let k : n ≡ 2147483647 → ⊥ = λ e. h (ap negsuc e) in
+    record { sfits = omega (arith, f.sfits) }
+
+pub negative_fits : (a : ℕ) → a < 4294967296 → (a ≡ 2147483648 → ⊥) → SFits w32 (neg_ℤ (signed a))
+negative_fits a f h = neg-fits (signed a) (signed-fits a f) (signed-other a (negsuc 2147483647) f h)
