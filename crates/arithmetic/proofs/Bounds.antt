@@ -122,6 +122,14 @@ unfolding value_of
 made {r} {z} f e = rw (← (in-range z f)) (ap Some e)
 
 -- any other has none
+pub unmade : (z : ℤ) → (SFits w32 z → ⊥) → None ≡ value_of z
+unfolding value_of
+unmade z k = go (in_range z) (λ e. k (range-fits z e))
+  where
+    go : (t : Bool) → (t ≡ true → ⊥) → None ≡ (when t then Some (to_word z) else None)
+    go true h = absurd (h refl)
+    go false h = refl
+
 -- ---- the end of the range: the remainder by -1, and the negative of every word but that of -2^31
 
 pub remainder-by-one : (z : ℤ) → rem_z z (negsuc 0) ≡ pos 0
