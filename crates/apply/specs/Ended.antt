@@ -1,6 +1,7 @@
 -- What a step leads to, with every list then, as one value; the exceptions' codes; and what is asked of a machine before a raise.
-use Rattle.std.specs.Prelude.{ℕ, ◌+◌, ◌-◌, ◌*◌, ◌<◌, ◌≤◌, ◌≡◌, refl, Result, Ok, Err, List, length, get_or, set}
+use Rattle.std.specs.Prelude.{ℕ, ◌+◌, ◌-◌, ◌*◌, ◌<◌, ◌≤◌, ◌≡◌, refl, Bool, true, false, List, length, get_or, set}
 use Rattle.std.proofs.Math.Path.{ap}
+use Rattle.std.proofs.Common.{sym, ◌∙◌, true≢false}
 use borrow.Author.Tests.{eq-eqb, ne_eqb}
 use Rattle.model.specs.Words.{word_at, cut}
 use Rattle.model.specs.Calls.{main_most, ctl_most}
@@ -14,16 +15,36 @@ use Rattle.model.specs.declared.Regs.{Regs}
 use Rattle.plan_meaning.specs.declared.Put.{Put}
 use Rattle.plan_meaning.specs.declared.Plan.{Plan}
 use Rattle.plan_meaning.specs.declared.Plan.TheVariants.{Write, OutOfRange, NilObject, NoSuchWord, HeapFull, NoRoom, VectorFault, Thrown, Real}
-use Rattle.apply.specs.declared.Uncaught.{Uncaught}
+use Rattle.apply.specs.declared.Outcome.{Outcome}
 use Rattle.control_stack.specs.declared.Handler.{Handler}
 use Rattle.control_stack.specs.Layout.{the_handler}
 use Rattle.laws.specs.Cuts.{Topped}
 use Rattle.apply.specs.Applies.{Stands, Applies}
 
--- what a step led to, by what it gave: on to a state with these registers, or to an uncaught exception, with the registers from before
-abbrev pub ended : Result Regs Uncaught → Regs → (Regs → Machine) → Stepped
-ended (Ok r) before at = next (at r)
-ended (Err e) before at = uncaught e.code (at before)
+-- the step leads on to a state, or to an uncaught exception, with the state that stays
+pub record Ended : Type 0 where
+  pub on : Bool
+  pub code : ℕ
+  pub state : Machine
+
+unfoldable pub ended_of : Stepped → Ended
+ended_of (next m) = record { on = true; code = 0; state = m }
+ended_of (uncaught code m) = record { on = false; code = code; state = m }
+
+-- what a caller reads off it: the step went on, or nothing caught the exception and the state stays
+module _ (o : Outcome) (m : Machine) where
+  abbrev ended : Ended
+  ended = record { on = o.on; code = o.code; state = m }
+
+  pub went_on : (s : Stepped) → ended ≡ ended_of s → o.on ≡ true → s ≡ next m
+  unfolding ended_of
+  went_on (next m') e t = ap (λ x. next x.state) (sym e)
+  went_on (uncaught code m') e t = absurd (true≢false (sym t ∙ ap (λ x. x.on) e))
+
+  pub went-off : (s : Stepped) → ended ≡ ended_of s → o.on ≡ false → s ≡ uncaught o.code m
+  unfolding ended_of
+  went-off (next m') e t = absurd (true≢false (sym (ap (λ x. x.on) e) ∙ t))
+  went-off (uncaught code m') e t = ap (λ x. uncaught x.code x.state) (sym e)
 
 -- the code of the exception that a plan raises; main and its top
 unfoldable pub raised_by : List ℕ → ℕ → Plan → ℕ
@@ -109,8 +130,9 @@ stands-raises f table m S C =
 
 -- an exception that nothing catches, and one that the handler whose record is g catches
 module _ (f : List ℕ) (m : Machine) (code : ℕ) where
-  pub uncaught-ends : m.regs.handler ≡ 0 → uncaught code m ≡ raised f m code
-  unfolding raised
+  pub uncaught-ends : m.regs.handler ≡ 0 →
+      record { on = false; code = code; state = m } ≡ ended_of (raised f m code)
+  unfolding ended_of raised
   uncaught-ends h = rw (eq-eqb m.regs.handler 0 h)
 
   pub caught-ends : {g : Handler} {place : ℕ} {r : Regs} {main ptr ctl : List ℕ} → (m.regs.handler ≡ 0 → ⊥) → the_handler g ≡ handler_of m.ctl m.regs.handler →
@@ -119,8 +141,13 @@ module _ (f : List ℕ) (m : Machine) (code : ℕ) where
       main ≡ cut g.main_top m.main →
       ptr ≡ cut g.ptr_top m.ptr →
       ctl ≡ cut (record_words * (m.regs.handler - 1)) m.ctl →
-      next (record { regs = r; main = set main g.main_top code; ptr = ptr; ctl = ctl; heap = m.heap }) ≡ raised f m code
-  unfolding raised caught
+      record {
+        on = true;
+        code = 0;
+        state = record { regs = r; main = set main g.main_top code; ptr = ptr; ctl = ctl; heap = m.heap };
+      }
+      ≡ ended_of (raised f m code)
+  unfolding ended_of raised caught
   caught-ends h eg e er em ep ec =
       rw (
         ne_eqb m.regs.handler 0 h,

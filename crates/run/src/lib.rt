@@ -1,10 +1,10 @@
 // A run: steps until the machine is finished, the budget is spent, or an exception is not caught.
-// The lists stay parameters of their own: behind a `&mut` struct each access would load a slice's address anew (tried: four loads a turn of a loop).
 #![tactic(auto)]
 
 ghost use Rattle.std.specs.Prelude.{◌≡◌};
 ghost use Rattle.model.specs.Step.{ran, run_on};
 ghost use Rattle.run_steps.specs.Going.{Runs};
+ghost use Rattle.run.specs.Endings.{ended_with};
 
 use model::{Answer, PROCS_MOST, Regs};
 
@@ -15,8 +15,14 @@ pub struct Ended {
     pub regs: Regs,
 }
 
+fn answered(answer: Answer, regs: Regs) -> Ended
+    ensures { result ≡ ended_with answer regs }
+{
+    Ended { answer, regs }
+}
+
 // The table has the heads of the file's procedures. What a run pauses with is one variable, and registers are passed where they stand: in variables of their
-// own they were copied at each pause and each end. The two calls that go on stand twice: in a function for both each would have one call, and be compiled into it.
+// own they were copied at each pause and each end.
 pub fn run_on(
     file: &[u8],
     table: &[usize; PROCS_MOST],
@@ -38,10 +44,7 @@ pub fn run_on(
         }) }
 {
     if regs.state == 1 {
-        return Ended {
-            answer: Answer::Finished(0),
-            regs,
-        };
+        return answered(Answer::Finished(0), regs);
     }
     let mut pause = run_steps::go_on(file, table, main, ptr, ctl, heap, regs, budget);
     if run_reals::at_real(pause) {
@@ -49,32 +52,20 @@ pub fn run_on(
     }
     while 0 < pause.left {
         let after = pause.left - 1;
-        pause.regs = match apply::step_with(
-            file, table, main, ptr, ctl, heap, pause.regs, pause.plan,
-        ) {
-            Ok(next) => next,
-            Err(exception) => {
-                let done = budget - pause.left;
-                return Ended {
-                    answer: Answer::Uncaught(exception.code, pause.regs.place, done),
-                    regs: pause.regs,
-                };
-            }
-        };
-        if pause.regs.state == 1 {
-            let done = budget - after;
-            return Ended {
-                answer: Answer::Finished(done),
-                regs: pause.regs,
-            };
+        let plan = pause.plan;
+        let out = apply::step_with(file, table, main, ptr, ctl, heap, pause.regs, plan);
+        if !out.on {
+            let done = budget - pause.left;
+            return answered(Answer::Uncaught(out.code, out.regs.place, done), out.regs);
         }
-        pause = run_steps::go_on(file, table, main, ptr, ctl, heap, pause.regs, after);
+        if out.regs.state == 1 {
+            let done = budget - after;
+            return answered(Answer::Finished(done), out.regs);
+        }
+        pause = run_steps::go_on(file, table, main, ptr, ctl, heap, out.regs, after);
         if run_reals::at_real(pause) {
             pause = run_reals::go_on(file, table, main, ptr, ctl, heap, pause);
         }
     }
-    Ended {
-        answer: Answer::Spent(budget),
-        regs: pause.regs,
-    }
+    answered(Answer::Spent(budget), pause.regs)
 }

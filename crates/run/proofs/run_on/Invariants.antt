@@ -1,4 +1,5 @@
 -- `run::run_on` meets its contract: the steps pause at a plan that is settled apart, which is one step more; the rest of the run stays the same.
+use Prim.Native.Nat.{◌-◌}
 use Rattle.run_reals.specs.Reckoning.{Rests}
 use Rattle.run.proofs.run_on.Given as goal
 
