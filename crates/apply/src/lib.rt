@@ -219,7 +219,7 @@ pub fn code_of(plan: Plan, main: &[u32], mtop: usize) -> u32
     ensures { result ≡ raised_by main.now mtop plan }
 {
     match plan {
-        Plan::Write(_) => 0,
+        Plan::Write(_) => 0, // raises nothing: let-else has taken it out before
         Plan::OutOfRange => 1,
         Plan::NilObject => 2,
         Plan::NoSuchWord => 3,

@@ -1,5 +1,5 @@
 // New objects in the heap: a view of words that are popped, and vectors (Manual 4.11, 4.28). All of them begin by one function, which alone
-// writes the mark.
+// writes the mark. Lists, registers and writes stay parameters of their own, as in apply.
 #![tactic(auto)]
 
 ghost use Rattle.std.specs.Prelude.{◌≡◌, List, [], ◌∷◌, ℕ, ◌+◌, ◌-◌, ◌≤◌, length, replicate};

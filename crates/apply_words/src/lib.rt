@@ -1,4 +1,5 @@
 // The writes of a plan into the stacks and into a heap word: words popped, and a word stored. Also the end of a run.
+// Lists, registers and writes stay parameters of their own, as in apply_records.
 #![tactic(auto)]
 
 ghost use Rattle.std.specs.Prelude.{◌≡◌, false, List, ℕ, ◌+◌, ◌<◌, ◌≤◌, length};

@@ -57,7 +57,7 @@ fn judge_object(heap: &[u32], q: usize, mark: usize) -> Result<(), BadWord>
 }
 
 // Walks the objects from word 2 to the mark, marks where each starts, and counts their pointer words. Word 0 is no object's: its mark makes
-// nil a pointer.
+// nil a pointer. A `while`, here and below: it steps by objects.
 fn mark_objects(heap: &[u32], marks: &mut [bool]) -> Result<usize, BadWord>
     requires { Range heap.now × (length heap.now ≤ length marks.old) × Unmarked marks.old }
     ensures { Walked heap.now result marks.new }
@@ -75,7 +75,7 @@ fn mark_objects(heap: &[u32], marks: &mut [bool]) -> Result<usize, BadWord>
     Ok(links)
 }
 
-// The words from `from` up to `end` are pointers, or the first that is none.
+// The words from `from` up to `end` are pointers, or the first that is none. All are asked at once, without a branch for each; only where one fails its place is sought.
 fn check_pointers(heap: &[u32], marks: &[bool], from: usize, end: usize) -> Result<(), BadWord>
     requires { (from ≤ end) × (end ≤ length heap.now) }
     ensures { result ≡ first_bad (marked_at marks.now heap.now) (range from (end - from)) }
@@ -111,7 +111,7 @@ fn pointers_right(heap: &[u32], marks: &[bool], links: usize) -> Result<(), BadW
     Ok(())
 }
 
-// The first word from the mark on that is not 0.
+// The first word from the mark on that is not 0, asked likewise. One function with `check_pointers` would be handed both tests, the quick one and that of a word.
 fn free_zero(heap: &[u32]) -> Result<(), BadWord>
     requires { Range heap.now }
     ensures { result ≡ first_bad (zero_at heap.now) (free_words heap.now) }

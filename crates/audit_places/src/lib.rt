@@ -1,5 +1,5 @@
 // What the audit reads at a place: a byte or an operand of the file, the map's numbers, the procedure with its head.
-// The place may be no instruction, or lie past the file's end.
+// The place may be no instruction, or lie past the file's end. It is an index, as everywhere; that it is below 2^32 is asked, so that no sum wraps.
 #![tactic(auto)]
 
 ghost use Rattle.std.specs.Prelude.{◌≡◌, ◌+◌, ◌*◌, ◌<◌, get_or};
@@ -12,15 +12,16 @@ ghost use Rattle.model.specs.Checker.{none};
 use code_file::Head;
 use model::{NONE_OPEN, PROCS_MOST};
 
-// What the map has at a place: the depths there, and the innermost open handler.
+// What the map has at a place: the depths there, and the innermost open handler. The checker's State has the same numbers; the audit stands on the map, not on check_rows.
 #[derive(Clone, Copy)]
 pub struct Shown {
     pub main: usize,
     pub ptr: usize,
-    pub inner: usize,
+    pub inner: usize, // the place of its 160, or 65,535: the map's own number (Manual 5.13)
 }
 
 // A file that passed, with its finished map and the table of its `count` heads.
+// The table and its count are as the check leaves them, and as the steps have the table; a slice of it would be made for the audit alone.
 #[derive(Clone, Copy)]
 pub struct Passed<'a> {
     pub file: &'a [u8],
@@ -38,7 +39,7 @@ impl Passed<'_> {
         self.file.get(p).map_or(0, |&b| b as usize)
     }
 
-    // The operand of the call at `p`, which may be no instruction.
+    // The operand of the call at `p`, which may be no instruction. Made of two numbers: behind the file's end there are no bytes for `from_be_bytes`, and each counts as 0.
     pub fn operand(&self, p: usize) -> usize
         requires { p < 4294967296 }
         ensures { result ≡ operand self.now.file.now p }

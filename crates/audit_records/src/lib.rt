@@ -18,7 +18,7 @@ const CALL_SIZE: usize = 3;
 // What the records above tell of the frame that is still to be read. What indexes the map, or is added to, is a word.
 #[derive(Clone, Copy)]
 pub struct Look {
-    pub inner: usize, // its innermost handler that is still to be read, or 65,535
+    pub inner: usize, // its innermost handler that is still to be read, or 65,535, as the map has it
     pub place: usize, // its place, or the call that it waits for
     pub frame: usize, // the number of its record
     pub handler: usize, // the number of the nearest handler's record

@@ -1,5 +1,6 @@
 // Refusal 12: registers, stacks and control records against a passed file and its map.
 // Manual 6.10 to 6.12. The records are read from the top downwards, each once.
+// That registers are words is asked here, and no fact of their type: each step would have to show it anew.
 #![tactic(auto)]
 
 ghost use Rattle.std.specs.Prelude.{◌≡◌, List, ℕ, ◌*◌, ◌≤◌, length, drop};

@@ -1,4 +1,5 @@
 // What start and run test: refusals 1 to 9, 13, 10 and 11; then, for run, the state.
+// The lists stay parameters of their own: in a struct of all the register list would be handed to `admit_with`, too, and each access would load a slice's address anew.
 #![tactic(auto)]
 
 ghost use Rattle.std.specs.Prelude.{◌≡◌, List, ℕ, replicate};
@@ -57,6 +58,7 @@ fn admit_with(
 
 // The same for start, with marks of its own. A short heap is given a short table: to clear the long one takes longer than to test a short
 // heap.
+// Two branches, here and in `test_for_run`: a function with the table's length as a const parameter would have all these parameters and the contract once more.
 pub fn admit(
     file: &[u8],
     map: &mut [u16],

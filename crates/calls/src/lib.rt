@@ -1,4 +1,4 @@
-// start and run over lent lists.
+// start and run over lent lists, each a parameter, as exports has it from C.
 #![tactic(auto)]
 
 ghost use Rattle.std.specs.Prelude.{◌≡◌};

@@ -1,4 +1,5 @@
 // Refusals 5 to 9: the flow of depths and open handlers through the instructions of a file, in the part of the map that is its.
+// File and part stay parameters of their own, as in check_ways.
 #![tactic(auto)]
 
 ghost use Rattle.std.specs.Prelude.{◌≡◌, ◌+◌, ◌<◌, length};
@@ -69,7 +70,7 @@ fn procedure_of(file: &[u8], head: usize, end: usize) -> Procedure
     }
 }
 
-// The instructions in file order, record by record. The number of procedures.
+// The instructions in file order, record by record. The number of procedures. A `while`: it steps by records.
 pub fn flow(file: &[u8], m: &mut [u16], heads: &[usize]) -> Result<usize, RefusedAt>
     requires { Begun file.now m.old heads.now (length heads.now) }
     ensures { Flowed file.now m.new (length heads.now) result }

@@ -20,7 +20,7 @@ use model::Refusal;
 // and put together again where a state passes on.
 #[derive(Clone, Copy, PartialEq, Eq)]
 pub struct State {
-    pub main: usize,
+    pub main: usize, // 65,534 or more where no state has come yet: asked in its turn, behind refusal 5
     pub ptr: usize,
     pub inner: usize,
 }
@@ -243,6 +243,7 @@ impl Instruction {
 
     // By the kind; one that has no row here pops reals: with an arm for each of these the compiler kept other things in registers, and every
     // instruction of a file took two or three machine instructions more.
+    // 57 and 58, and 140 to 143, share no arm, though their rows are the same: neighbours together would be a test of a range.
     pub fn comes_to(self, file: &[u8], heads: &[usize], kind: u8) -> Result<Onward, Refusal>
         requires { Table file.now heads.now (length heads.now) × Site file.now self.place × (model.byte_at file.now self.place ≡ kind) × NoJump kind × NoneOf elsewhere kind }
         ensures { result ≡ plainly (as_state self.state) (as_state self.outer) self.procedure (model.after file.now self.place) (shape_of file.now self.place (model.ins_at file.now self.place)) }

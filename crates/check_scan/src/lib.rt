@@ -12,7 +12,7 @@ ghost use Rattle.model.specs.File.{file_most, head_size, procs_most};
 use code_file::Head;
 use model::{HEAD_KIND, HEAD_SIZE, NONE, PROCS_MOST, Refusal, RefusedAt};
 
-// An instruction starts here that no state has reached yet; depths are at most 255.
+// An instruction starts here that no state has reached yet; depths are at most 255. A number, since states lie in the lent map, the only memory for them.
 const UNREACHED: u16 = 65534;
 
 pub const UNREACHED_DEPTH: usize = UNREACHED as usize;
@@ -23,7 +23,7 @@ const UNKNOWN: usize = 255;
 #[derive(Clone, Copy)]
 pub struct Found {
     pub heads: usize, // their number
-    pub later: usize, // the place of the 65th, if there is one
+    pub later: usize, // the place of the 65th, if there is one: their number tells that, and an Option would say it again
 }
 
 // An instruction with b bytes behind its kind starts at p: it is marked. The place behind it.

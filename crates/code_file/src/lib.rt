@@ -7,7 +7,7 @@ ghost use Rattle.numbers.specs.Small.{Small};
 ghost use Rattle.code_file.specs.Table.{lengths};
 ghost use Rattle.code_file.specs.Heads.{HeadIs};
 
-// The length of each kind's body; 255 marks a kind that there is not.
+// The length of each kind's body; 255 marks a kind that there is not, as the definition has it. A constant table of 256 lengths is a rule of the project.
 const BODY: [u8; 256] = [
     255, // 0
     2, // 1 fjump
@@ -275,7 +275,7 @@ pub fn bodies() -> [u8; 256]
     BODY
 }
 
-// The length of a kind's body, 255 for an unknown kind; `bodies` is a copy of the table.
+// The length of a kind's body, 255 for an unknown kind, as `body_of` has it; `bodies` is a copy of the table.
 pub fn body(bodies: &[u8; 256], kind: u8) -> usize
     requires { bodies.now ≡ lengths }
     ensures { Small 256 (model.body_of kind) result }

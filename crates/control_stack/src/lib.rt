@@ -28,7 +28,7 @@ pub struct Handler {
     pub outer: usize, // the next outer handler's record
 }
 
-// The words of a record in their order, here and below.
+// The words of a record in their order, here and below; each record has names of its own for them (Manual 2.11, 2.12).
 impl From<[u32; RECORD]> for Frame {
     ghost from_gives = { λ words frame. IsFrame (rec_of words) frame };
 
@@ -97,7 +97,7 @@ fn record_at(ctl: &[u32], at: usize) -> [u32; RECORD]
     <[u32; RECORD]>::try_from(&ctl[at..at + RECORD]).unwrap()
 }
 
-// The record on top of `left` others, a frame's.
+// The record on top of `left` others, a frame's. Apart from a handler's: of a frame it is promised, too, that its fields are words.
 pub fn frame_at(ctl: &[u32], left: usize) -> Frame
     requires { record_words * left + 4 < length ctl.now }
     ensures { FrameIs ctl.now left result }

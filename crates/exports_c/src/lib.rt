@@ -1,4 +1,5 @@
 // What C links: the crate exports' three calls under their C names (c/yalgovim.h), each with the same contract.
+// A crate is a library or what C links, not both; so the three stand twice.
 #![tactic(auto)]
 
 ghost use Rattle.std.specs.Prelude.{◌≡◌};

@@ -1,5 +1,6 @@
 // Manual 4: what the instruction at the machine's place is about to do. Nothing is written here.
 // The lists stay parameters of their own: in a struct that a caller lends, each access would load a slice's address anew.
+// What is asked of lists and registers stands at each family's function: each asks for what it reads alone, and a type for all would ask more of callers.
 #![tactic(auto)]
 
 ghost use Rattle.std.specs.Prelude.{◌≡◌};

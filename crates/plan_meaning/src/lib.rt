@@ -32,6 +32,7 @@ pub enum Into {
 
 // The writes of an instruction. Both stacks are cut to their new tops, then a word is written, a new object with its pointer, or nothing; what
 // opens or closes a record of the control stack leaves both stacks as they are.
+// One shape for all, also where a field says nothing: cases with fields of their own were slower in an earlier prototype (docs/DECISIONS.md).
 #[derive(Clone, Copy)]
 pub struct Put {
     pub into: Into,

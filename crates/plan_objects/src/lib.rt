@@ -61,7 +61,7 @@ pub fn plain_fields(
     }
 }
 
-// 31 and 33: a pointer word of an object.
+// 31 and 33: a pointer word of an object. Apart from `plain_fields`: one test serves both codes here, and 33 takes its value from the other stack.
 pub fn ptr_fields(file: &[u8], ptr: &[u32], heap: &[u32], regs: Regs, kind: u8) -> Plan
     requires { Body file.now regs.place 2 × TopWithin ptr.now regs.ptop × (1 ≤ regs.ptop)
         × ((word_at ptr.now (regs.ptop - 1) ≡ 0) ⊎ Lies heap.now (word_at ptr.now (regs.ptop - 1)))

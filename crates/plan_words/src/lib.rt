@@ -71,7 +71,7 @@ pub fn main_words(file: &[u8], main: &[u32], ctl: &[u32], regs: Regs, kind: u8) 
     }
 }
 
-// 21 and 23: the same on the pointer stack.
+// 21 and 23: the same on the pointer stack. Apart: the writes are others, and one function for both would be handed a stack, a base, a top and the cases of `Into`.
 pub fn ptr_locals(file: &[u8], ptr: &[u32], ctl: &[u32], regs: Regs, kind: u8) -> Plan
     requires { Body file.now regs.place 2 × TopWithin ptr.now regs.ptop × Numbered ctl.now regs.frame
         × ((frame_of ctl.now regs.frame).ptr_base + model.operand file.now regs.place < regs.ptop) × ((kind ≡ 21) ⊎ (kind ≡ 23)) }

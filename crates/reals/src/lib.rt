@@ -48,7 +48,7 @@ pub fn real_of(high: u32, low: u32) -> f64
     }
 }
 
-// The words of a real that is finite.
+// The words of a real that is finite. That is asked, and no type has it: each result is tested once, right before its words are put.
 pub fn high_word(x: f64) -> u32
     requires { finite x ≡ true }
     ensures { result ≡ to_bits binary64 x / words_many }

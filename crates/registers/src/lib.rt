@@ -1,5 +1,6 @@
 // Registers as bytes: nine words, most significant byte first (Manual 2.14). Those that the steps work on and the sums are read and put
 // apart: no step has to do with the sums.
+// The bytes are a slice, as C lends them: to make an array of them would test their length once more at each call.
 #![tactic(auto)]
 
 ghost use Rattle.std.specs.Prelude.{◌≡◌, ◌+◌, ◌*◌, ◌/◌, ◌<◌, length};

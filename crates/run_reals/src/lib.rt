@@ -27,7 +27,7 @@ struct Past {
 }
 
 // The instructions on reals from here on, as far as the budget lasts and results are finite; body is the place behind the first one's code.
-// They need the main stack alone, and so these steps have the processor's registers to themselves.
+// They need the main stack alone, and so these steps have the processor's registers to themselves. `left` is counted down by hand, as in run_steps.
 fn reckon(file: &[u8], main: &mut [u32], regs: Regs, body: usize, budget: u32) -> Past
     requires { AtReal file.now main.old regs body × (0 < budget) }
     ensures { Reckoned file.now main.old regs budget main.new result.regs result.left result.finite }

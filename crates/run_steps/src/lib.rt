@@ -9,6 +9,7 @@ use model::{PROCS_MOST, Regs};
 use plan_meaning::Plan;
 
 // Where the steps pause: before an instruction whose plan is settled apart, or with no step left of the budget.
+// With none left the plan says nothing: `left` tells the two apart, and with a case for each the registers would stand twice.
 #[derive(Clone, Copy)]
 pub struct Pause {
     pub plan: Plan,
@@ -20,6 +21,7 @@ pub struct Pause {
 // for the compiler: its registers are those of the steps alone. Soundness is what the loop keeps, so that no step tests what it gives.
 // `unwrap_or` and no let-else: where nothing is given the registers are then those from before for the compiler too, which else kept both (tried: one to four
 // instructions more for half of the codes).
+// `left` is counted down by hand: where the steps pause, what is left goes on with them.
 pub fn go_on(
     file: &[u8],
     table: &[usize; PROCS_MOST],
