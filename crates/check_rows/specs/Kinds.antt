@@ -38,7 +38,7 @@ NoJump k = (k < 1) ⊎ (6 < k)
 abbrev pub elsewhere : List (List ℕ)
 elsewhere = (161 ∷ []) ∷ (160 ∷ []) ∷ (73 ∷ []) ∷ (head_kind ∷ []) ∷ []
 
--- the arms of `plain_at`, the last one first; 20 to 23 are told by a range
+-- the arms of `comes_to`, the last one first; 20 to 23 are told by a range
 abbrev pub row_arms : List (List ℕ)
 row_arms =
     (162 ∷ [])
