@@ -119,9 +119,10 @@ pub fn compares(main: &[u32], regs: Regs, kind: u8) -> Plan
     writes(Into::Main, regs.place + 1, top, regs.ptop, at, word)
 }
 
-// 140 and 142.
-pub fn sums(main: &[u32], regs: Regs, kind: u8) -> Plan
-    requires { (regs.place < file_most) × TopWithin main.now regs.mtop × (2 ≤ regs.mtop) × ((kind ≡ 140) ⊎ (kind ≡ 142)) }
+// 140 to 143 and 145.
+pub fn operations(main: &[u32], regs: Regs, kind: u8) -> Plan
+    requires { (regs.place < file_most) × TopWithin main.now regs.mtop × (2 ≤ regs.mtop)
+        × ((kind ≡ 140) ⊎ ((kind ≡ 141) ⊎ ((kind ≡ 142) ⊎ ((kind ≡ 143) ⊎ (kind ≡ 145))))) }
     ensures { (f : List ℕ) (m : Machine) → result ≡ planned f (set_regs regs (set_main main.now m)) 1 kind }
 {
     let top = regs.mtop - 1;
@@ -130,22 +131,8 @@ pub fn sums(main: &[u32], regs: Regs, kind: u8) -> Plan
     let b = main[top];
     let value = match kind {
         140 => arithmetic::narrow(arithmetic::plus(a, b)),
-        _ => arithmetic::narrow(arithmetic::minus(a, b)),
-    };
-    result(Into::Main, value, regs.place + 1, top, regs.ptop, at)
-}
-
-// 141, 143 and 145.
-pub fn products(main: &[u32], regs: Regs, kind: u8) -> Plan
-    requires { (regs.place < file_most) × TopWithin main.now regs.mtop × (2 ≤ regs.mtop) × ((kind ≡ 141) ⊎ ((kind ≡ 143) ⊎ (kind ≡ 145))) }
-    ensures { (f : List ℕ) (m : Machine) → result ≡ planned f (set_regs regs (set_main main.now m)) 1 kind }
-{
-    let top = regs.mtop - 1;
-    let at = regs.mtop - 2;
-    let a = main[at];
-    let b = main[top];
-    let value = match kind {
         141 => arithmetic::narrow(arithmetic::times(a, b)),
+        142 => arithmetic::narrow(arithmetic::minus(a, b)),
         143 => arithmetic::div(a, b),
         _ => arithmetic::rem(a, b),
     };

@@ -1,5 +1,5 @@
 -- What doing an instruction on reals comes to is its rule, and what is asked for it. The words written one after another are words pushed.
-use Rattle.std.specs.Prelude.{ℕ, ◌+◌, ◌-◌, ◌/◌, ◌%◌, ◌<◌, ◌≤◌, Option, Some, None, true, List, [], ◌∷◌, ◌≡◌, refl, Float, length, set}
+use Rattle.std.specs.Prelude.{ℕ, ◌+◌, ◌-◌, ◌/◌, ◌%◌, ◌<◌, ◌≤◌, Option, Some, None, true, List, [], ◌∷◌, ◌≡◌, refl, Float, length, set, IfNone, IfSome}
 use Rattle.std.proofs.Math.Logic.{inl, inr}
 use native.Mathlib.Omega.{arith}
 use Rattle.std.specs.Float.{binary64}
@@ -44,6 +44,20 @@ Does l r q t l' i =
     (f ptr ctl heap : List ℕ) →
     came_to t (λ r'. record { regs = r'; main = l'; ptr = ptr; ctl = ctl; heap = heap })
     ≡ rule f (record { regs = r; main = l; ptr = ptr; ctl = ctl; heap = heap }) q i
+
+-- that; and where 1 is raised the main stack stays, where it is not the state register
+pub record Stepped (l : List ℕ) (r : Regs) (q : ℕ) (t : Option Regs) (l' : List ℕ) (i : Ins) : Type 0 where
+  pub does : Does l r q t l' i
+  pub kept : IfNone t (l' ≡ l)
+  pub running : IfSome t (λ r'. r'.state ≡ r.state)
+
+-- both follow where the registers are those moved on, and where nothing is written
+module _ {l : List ℕ} {r : Regs} {q : ℕ} {i : Ins} where
+  pub moves-on : {t : ℕ} {l' : List ℕ} → Does l r q (Some (moved_on r q t)) l' i → Stepped l r q (Some (moved_on r q t)) l' i
+  moves-on d = record { does = d; kept = tt; running = refl }
+
+  pub raises : Does l r q None l i → Stepped l r q None l i
+  raises d = record { does = d; kept = refl; running = tt }
 
 -- what is asked: an instruction on reals stands at the place, its record is in the file, the words popped are there, and those pushed fit
 pub record RealHere (f l : List ℕ) (r : Regs) : Type 0 where

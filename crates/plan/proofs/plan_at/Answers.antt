@@ -98,25 +98,25 @@ pub compares-requires-in-204 : goal.compares-requires-in-204
 unfolding ins_of effect_of basic_effect
 compares-requires-in-204 c = on-words (ready (goal.at.compares-requires-in-204 c).After-shared_slice_known-6-1) c.in-204.is (inr (inr (inr (inr refl))))
 
-pub sums-requires : goal.sums-requires
+pub operations-requires : goal.operations-requires
 unfolding ins_of effect_of basic_effect
-sums-requires c = on-words (ready (goal.at.sums-requires c).After-shared_slice_known-6-1) c.in-140.is (inl refl)
+operations-requires c = on-words (ready (goal.at.operations-requires c).After-shared_slice_known-6-1) c.in-140.is (inl refl)
 
-pub sums-requires-in-142 : goal.sums-requires-in-142
+pub operations-requires-in-141 : goal.operations-requires-in-141
 unfolding ins_of effect_of basic_effect
-sums-requires-in-142 c = on-words (ready (goal.at.sums-requires-in-142 c).After-shared_slice_known-6-1) c.in-142.is (inr refl)
+operations-requires-in-141 c = on-words (ready (goal.at.operations-requires-in-141 c).After-shared_slice_known-6-1) c.in-141.is (inr (inl refl))
 
-pub products-requires : goal.products-requires
+pub operations-requires-in-142 : goal.operations-requires-in-142
 unfolding ins_of effect_of basic_effect
-products-requires c = on-words (ready (goal.at.products-requires c).After-shared_slice_known-6-1) c.in-141.is (inl refl)
+operations-requires-in-142 c = on-words (ready (goal.at.operations-requires-in-142 c).After-shared_slice_known-6-1) c.in-142.is (inr (inr (inl refl)))
 
-pub products-requires-in-143 : goal.products-requires-in-143
+pub operations-requires-in-143 : goal.operations-requires-in-143
 unfolding ins_of effect_of basic_effect
-products-requires-in-143 c = on-words (ready (goal.at.products-requires-in-143 c).After-shared_slice_known-6-1) c.in-143.is (inr (inl refl))
+operations-requires-in-143 c = on-words (ready (goal.at.operations-requires-in-143 c).After-shared_slice_known-6-1) c.in-143.is (inr (inr (inr (inl refl))))
 
-pub products-requires-in-145 : goal.products-requires-in-145
+pub operations-requires-in-145 : goal.operations-requires-in-145
 unfolding ins_of effect_of basic_effect
-products-requires-in-145 c = on-words (ready (goal.at.products-requires-in-145 c).After-shared_slice_known-6-1) c.in-145.is (inr (inr refl))
+operations-requires-in-145 c = on-words (ready (goal.at.operations-requires-in-145 c).After-shared_slice_known-6-1) c.in-145.is (inr (inr (inr (inr refl))))
 
 pub unaries-requires : goal.unaries-requires
 unfolding ins_of effect_of basic_effect
@@ -301,23 +301,23 @@ returns-in-204 c = let R = ready (goal.at.returns-in-204 c).After-shared_slice_k
 
 pub returns-in-140 : goal.returns-in-140
 unfolding body_of bodies codes
-returns-in-140 c = let R = ready (goal.at.returns-in-140 c).After-shared_slice_known-6-1 in plan-here R c.in-140.is (c.sums.ensures _ (subject R))
-
-pub returns-in-142 : goal.returns-in-142
-unfolding body_of bodies codes
-returns-in-142 c = let R = ready (goal.at.returns-in-142 c).After-shared_slice_known-6-1 in plan-here R c.in-142.is (c.sums-in-142.ensures _ (subject R))
+returns-in-140 c = let R = ready (goal.at.returns-in-140 c).After-shared_slice_known-6-1 in plan-here R c.in-140.is (c.operations.ensures _ (subject R))
 
 pub returns-in-141 : goal.returns-in-141
 unfolding body_of bodies codes
-returns-in-141 c = let R = ready (goal.at.returns-in-141 c).After-shared_slice_known-6-1 in plan-here R c.in-141.is (c.products.ensures _ (subject R))
+returns-in-141 c = let R = ready (goal.at.returns-in-141 c).After-shared_slice_known-6-1 in plan-here R c.in-141.is (c.operations-in-141.ensures _ (subject R))
+
+pub returns-in-142 : goal.returns-in-142
+unfolding body_of bodies codes
+returns-in-142 c = let R = ready (goal.at.returns-in-142 c).After-shared_slice_known-6-1 in plan-here R c.in-142.is (c.operations-in-142.ensures _ (subject R))
 
 pub returns-in-143 : goal.returns-in-143
 unfolding body_of bodies codes
-returns-in-143 c = let R = ready (goal.at.returns-in-143 c).After-shared_slice_known-6-1 in plan-here R c.in-143.is (c.products-in-143.ensures _ (subject R))
+returns-in-143 c = let R = ready (goal.at.returns-in-143 c).After-shared_slice_known-6-1 in plan-here R c.in-143.is (c.operations-in-143.ensures _ (subject R))
 
 pub returns-in-145 : goal.returns-in-145
 unfolding body_of bodies codes
-returns-in-145 c = let R = ready (goal.at.returns-in-145 c).After-shared_slice_known-6-1 in plan-here R c.in-145.is (c.products-in-145.ensures _ (subject R))
+returns-in-145 c = let R = ready (goal.at.returns-in-145 c).After-shared_slice_known-6-1 in plan-here R c.in-145.is (c.operations-in-145.ensures _ (subject R))
 
 pub returns-in-144 : goal.returns-in-144
 unfolding body_of bodies codes

@@ -3,7 +3,7 @@ use mathlib.Core.Path.{◌≡◌, ap, sym, ◌∙◌}
 use Prim.Native.Nat.{◌+◌, ◌-◌}
 use Rattle.model.specs.Reals.{scaled, shifted}
 use Rattle.reals.specs.Given.{as_point}
-use Rattle.real_steps.specs.Does.{real_at, point_at}
+use Rattle.real_steps.specs.Does.{real_at, point_at, moves-on, raises}
 use Rattle.real_steps.specs.Done.{hoop-done, hoop-raises}
 use Rattle.real_steps.proofs.hoop.Goals as goal
 use Rattle.real_steps.proofs.hoop.Goals.{After-is_finite}
@@ -18,13 +18,13 @@ point-is c =
     ∙ ap (shifted (as_point c.point_at-shift.result)) c.mul.ensures
     ∙ λ i. shifted (c.point_at-shift.ensures i) (scaled (c.real_at-scale.ensures i) (c.point_at.ensures i))
 
-pub returns-then-not-is_finite-clause-does : goal.returns-then-not-is_finite-clause-does
-returns-then-not-is_finite-clause-does c =
+pub returns-then-not-is_finite : goal.returns-then-not-is_finite
+returns-then-not-is_finite c =
     let t = sym c.is_finite.ensures ∙ c.if-not-is_finite.true in
-    hoop-raises _ _ _ c.requires.1 (as_point _) (point-is (goal.at.returns-then-not-is_finite-clause-does c).After-is_finite) t
+    raises (hoop-raises _ _ _ c.requires.1 (as_point _) (point-is (goal.at.returns-then-not-is_finite c).After-is_finite) t)
 
-pub returns-clause-does : goal.returns-clause-does
-returns-clause-does c =
+pub returns : goal.returns
+returns c =
     let t = sym c.is_finite.ensures ∙ c.if-not-is_finite.false in
     rw (c.goes_on.ensures, c.put_real-2.ensures, c.put_real.ensures, c.cut_to.ensures)
-    (hoop-done _ _ _ c.requires.1 (as_point _) (point-is (goal.at.returns-clause-does c).After-is_finite) t)
+    (moves-on (hoop-done _ _ _ c.requires.1 (as_point _) (point-is (goal.at.returns c).After-is_finite) t))

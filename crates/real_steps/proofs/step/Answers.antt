@@ -1,6 +1,7 @@
 -- `real_steps::step`: each code by its function; what that asks follows from what is asked here.
 use Rattle.model.specs.File.{ins_of, ins_at}
 use native.Mathlib.Omega.{arith}
+use mathlib.Core.List.{[]}
 use mathlib.Core.Logic.{inl, inr}
 use mathlib.Core.Path.{refl}
 use Rattle.real_steps.specs.Does.{real-place, literal-ready, operation-four, operation-code, four-ready, ten-ready, operation-ready, after-literal, after-code}
@@ -55,4 +56,10 @@ unfolding ins_at
 returns-in_default-clause-does c =
     let n = c.in_default.in_default-own.rest in
     let o = operation-ready c.requires.0 _ refl n.0.0.1 n.0.1 n.1 in
-    rw (← after-code _ _ _ _ (operation-code c.requires.0 o) refl c.requires.1) (c.operation.ensures.does _ _)
+    rw (← after-code _ _ _ _ (operation-code c.requires.0 o) refl c.requires.1) (c.operation.ensures _ _).does
+
+pub returns-in_default-clause-kept : goal.returns-in_default-clause-kept
+returns-in_default-clause-kept c = (c.operation.ensures [] 0).kept
+
+pub returns-in_default-clause-running : goal.returns-in_default-clause-running
+returns-in_default-clause-running c = (c.operation.ensures [] 0).running
