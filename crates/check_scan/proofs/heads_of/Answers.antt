@@ -10,7 +10,7 @@ loop-k-init c = (refl, heading-start c.requires)
 
 pub returns-then-k-eq-PROCS_MOST : goal.returns-then-k-eq-PROCS_MOST
 returns-then-k-eq-PROCS_MOST c =
-    heading-many c.requires c.loop-k.invariant.1 (omega arith) (omega arith)
+    rw c.at.ensures (heading-many c.requires c.loop-k.invariant.1 (omega arith) (omega arith))
 
 pub overflow_add-p : goal.overflow_add-p
 overflow_add-p c =
@@ -37,12 +37,14 @@ loop-k-preserved c = (
 
 pub returns-then-not-right : goal.returns-then-not-right
 returns-then-not-right c =
-    heading-wrong c.requires c.loop-k.invariant.1 (omega arith) refl (omega arith) c.follows-there.ensures c.if-not-there.false
-    c.head_at-head.ensures c.head_right-right.ensures c.if-not-right.true
+    rw c.at-then-not-right.ensures
+    (heading-wrong c.requires c.loop-k.invariant.1 (omega arith) refl (omega arith) c.follows-there.ensures c.if-not-there.false
+    c.head_at-head.ensures c.head_right-right.ensures c.if-not-right.true)
 
 pub returns-then-not-there : goal.returns-then-not-there
 returns-then-not-there c =
-    heading-alone c.requires c.loop-k.invariant.1 (omega arith) refl (omega arith) c.follows-there.ensures c.if-not-there.true
+    rw c.at-then-not-there.ensures
+    (heading-alone c.requires c.loop-k.invariant.1 (omega arith) refl (omega arith) c.follows-there.ensures c.if-not-there.true)
 
 pub returns : goal.returns
 returns c =
