@@ -162,13 +162,11 @@ pub fn heads_of(
             return Err(Refusal::Heads.at(found.later));
         }
         let p = table[k];
-        let there = follows(m, size, p + HEAD_SIZE);
-        if !there {
+        if !follows(m, size, p + HEAD_SIZE) {
             return Err(Refusal::Heads.at(p));
         }
         let head = code_file::head_at(file, p);
-        let right = head_right(head, k);
-        if !right {
+        if !head_right(head, k) {
             return Err(Refusal::Heads.at(p));
         }
         place_head(m, head, p);
