@@ -88,7 +88,7 @@ pub fn flow(file: &[u8], m: &mut [u16], heads: &[usize]) -> Result<usize, Refuse
         } else {
             match take(file, heads, m, procedure, p, kind) {
                 Ok(next) => p = next,
-                Err(refusal) => return Err(RefusedAt { refusal, place: p }),
+                Err(refusal) => return Err(refusal.at(p)),
             }
         }
     }

@@ -74,14 +74,7 @@ pub struct Onward {
 pub fn effect(popm: usize, popp: usize, pushm: usize, pushp: usize) -> Row
     ensures { result ≡ row popm popp pushm pushp 0 0 }
 {
-    Row {
-        popm,
-        popp,
-        pushm,
-        pushp,
-        wordm: 0,
-        wordp: 0,
-    }
+    frame(popm, popp, pushm, pushp, 0, 0)
 }
 
 fn frame(popm: usize, popp: usize, pushm: usize, pushp: usize, wordm: usize, wordp: usize) -> Row

@@ -48,16 +48,6 @@ fn list(table: &mut [usize; PROCS_MOST], k: usize, last: usize, p: usize) -> usi
     if k == PROCS_MOST { p } else { last }
 }
 
-// Refusal 3 at p.
-fn broken(p: usize) -> RefusedAt
-    ensures { Err result ≡ broken_at p }
-{
-    RefusedAt {
-        refusal: Refusal::Records,
-        place: p,
-    }
-}
-
 // Refusal 3: the records in file order, the instructions among them marked, the heads listed. Each common length has a branch of its own:
 // the processor foresees where the next record starts, and does not wait for the length. The tests are mostly `<`: of equal tests the
 // compiler would make one jump by a table. Only the last record can be cut short, so that is asked once, behind the loop. A `while`: it
@@ -68,7 +58,7 @@ pub fn scan(file: &[u8], m: &mut [u16], table: &mut [usize; PROCS_MOST]) -> Resu
 {
     let n = file.len();
     if file[0] != HEAD_KIND {
-        return Err(broken(0));
+        return Err(Refusal::Records.at(0));
     }
     let bodies = code_file::bodies();
     let mut p = 0;
@@ -92,13 +82,13 @@ pub fn scan(file: &[u8], m: &mut [u16], table: &mut [usize; PROCS_MOST]) -> Resu
             k += 1;
             p += HEAD_SIZE;
         } else if b == UNKNOWN {
-            return Err(broken(p));
+            return Err(Refusal::Records.at(p));
         } else {
             p = mark(m, p, b);
         }
     }
     if n < p {
-        return Err(broken(from));
+        return Err(Refusal::Records.at(from));
     }
     Ok(Found {
         heads: k,
@@ -169,26 +159,15 @@ pub fn heads_of(
     let size = file.len();
     for k in 0..found.heads {
         if k == PROCS_MOST {
-            return Err(RefusedAt {
-                refusal: Refusal::Heads,
-                place: found.later,
-            });
+            return Err(Refusal::Heads.at(found.later));
         }
         let p = table[k];
-        let there = follows(m, size, p + HEAD_SIZE);
-        if !there {
-            return Err(RefusedAt {
-                refusal: Refusal::Heads,
-                place: p,
-            });
+        if !follows(m, size, p + HEAD_SIZE) {
+            return Err(Refusal::Heads.at(p));
         }
         let head = code_file::head_at(file, p);
-        let right = head_right(head, k);
-        if !right {
-            return Err(RefusedAt {
-                refusal: Refusal::Heads,
-                place: p,
-            });
+        if !head_right(head, k) {
+            return Err(Refusal::Heads.at(p));
         }
         place_head(m, head, p);
     }

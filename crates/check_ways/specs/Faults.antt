@@ -1,11 +1,14 @@
 -- What the functions answer that read the map and pass a state on, and what they rest on.
-use Rattle.std.specs.Prelude.{ℕ, zero, suc, ◌+◌, ◌*◌, ◌<◌, Bool, true, false, List, [], ◌∷◌, ◌⊎◌, ◌≡◌, refl, length, get_or}
+use Rattle.std.specs.Prelude.{ℕ, zero, suc, ◌+◌, ◌*◌, ◌<◌, Bool, true, false, List, [], ◌∷◌, ◌⊎◌, Result, Ok, Err, ◌≡◌, refl, length, get_or}
 use Rattle.std.proofs.Common.{ap, ◌∙◌, arith}
 use Rattle.model.specs.Choice.{when◌then◌else◌}
 use Rattle.model.specs.Checker.{none, State, state, innermost, Taking, bad, good, and_take}
 use Rattle.check_rows.specs.declared.State.{State as Numbers}
 use Rattle.check_rows.specs.Tests.{as_state}
+use Rattle.check_rows.specs.Rows.{is_set_in}
 use Rattle.check_scan.specs.Marks.{state_in}
+use Rattle.model.specs.declared.Refusal.{Refusal}
+use Rattle.model.specs.declared.Refusal.TheVariants.{Reach}
 use Rattle.laws.specs.Members.{get_d_any}
 use Rattle.check_ways.specs.Takes.{pass_all_in}
 use Rattle.model.specs.File.{file_most}
@@ -21,6 +24,11 @@ pub record StateIs (m : List ℕ) (q : ℕ) (r : Numbers) : Type 0 where
   pub main_small : r.main < 65536
   pub ptr_small : r.ptr < 65536
   pub inner_small : r.inner < 65536
+
+-- the state there, or refusal 6 where none has come
+abbrev pub Reached : List ℕ → ℕ → Result Numbers Refusal → Type 0
+Reached m q (Ok s) = StateIs m q s × (is_set_in (as_state s) ≡ true)
+Reached m q (Err r) = (r ≡ Reach) × (is_set_in (state_in m q) ≡ false)
 
 pub record OuterIs (m : List ℕ) (s : State) (r : Numbers) : Type 0 where
   pub is : as_state r ≡ innermost (state_in m) s

@@ -17,6 +17,7 @@ use Rattle.check_rows.specs.declared.Procedure.{Procedure}
 use Rattle.check_rows.specs.declared.Depths.{Depths}
 use Rattle.check_rows.specs.declared.Onward.{Onward}
 use Rattle.model.specs.declared.Refusal.{Refusal}
+use Rattle.model.specs.declared.Refusal.TheVariants.{Reach}
 use Rattle.model.specs.Refusals.{number_of, fault_of}
 use Rattle.check_rows.specs.Shape.{Way, Next, Jump, Branch, Keep, Open, Close, Return, Shape, shape, shape_of}
 use Rattle.check_rows.specs.Site as site
@@ -87,6 +88,11 @@ pub record Judged (x : Taking (List ℕ)) (ts : List (Bool × ℕ)) (k : Taking 
 pub stops : {x k : Taking (List ℕ)} {t : Bool} {n : ℕ} {ts : List (Bool × ℕ)} → Judged x ((t, n) ∷ ts) k → t ≡ false → bad n ≡ x
 unfolding judged
 stops w e = sym (w.is ∙ rw e)
+
+-- no state has come yet: refusal 6
+pub stops-unreached : {x k : Taking (List ℕ)} {t : Bool} {r : Refusal} {ts : List (Bool × ℕ)} (m : List ℕ) →
+    Judged x ((t, 6) ∷ ts) k → (r ≡ Reach) × (t ≡ false) → take_ans (number_of r) m ≡ x
+stops-unreached m w h = rw h.0 (stops w h.1)
 
 pub test-passes : {x k : Taking (List ℕ)} {t : Bool} {n : ℕ} {ts : List (Bool × ℕ)} → Judged x ((t, n) ∷ ts) k → t ≡ true → Judged x ts k
 unfolding judged

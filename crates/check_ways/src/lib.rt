@@ -12,7 +12,7 @@ ghost use Rattle.check_rows.specs.Site.{Table};
 ghost use Rattle.check_rows.specs.Kinds.{NoJump, elsewhere};
 ghost use Rattle.check_rows.specs.Tests.{as_state};
 ghost use Rattle.check_ways.specs.Takes.{own_in, pass_one_in, pass_all_in, take_in};
-ghost use Rattle.check_ways.specs.Faults.{take_ans, StateIs, OuterIs, HandlerIn, Fitting};
+ghost use Rattle.check_ways.specs.Faults.{take_ans, StateIs, Reached, OuterIs, HandlerIn, Fitting};
 ghost use Rattle.check_ways.specs.Ways.{leads_to, branch_way, Led, Among, Took};
 
 use check_rows::{Instruction, Procedure, State};
@@ -29,6 +29,19 @@ fn state_in(m: &[u16], q: usize) -> State
         main: m[i] as usize,
         ptr: m[i + 1] as usize,
         inner: m[i + 2] as usize,
+    }
+}
+
+// The state at p, if one has come there. Refusal 6.
+fn reached(m: &[u16], p: usize) -> Result<State, Refusal>
+    requires { (3 * p + 2 < length m.now) × (p < file_most) }
+    ensures { Reached m.now p result }
+{
+    let s = state_in(m, p);
+    if s.main < UNREACHED_DEPTH {
+        Ok(s)
+    } else {
+        Err(Refusal::Reach)
     }
 }
 
@@ -96,10 +109,7 @@ fn jump(
     if !own(m, procedure, target) {
         return Err(Refusal::Target);
     }
-    let s = state_in(m, p);
-    if UNREACHED_DEPTH <= s.main {
-        return Err(Refusal::Reach);
-    }
+    let s = reached(m, p)?;
     pass_one(m, target, s)
 }
 
@@ -126,10 +136,7 @@ fn branch(
     if !own(m, procedure, target) {
         return Err(Refusal::Target);
     }
-    let s = state_in(m, p);
-    if UNREACHED_DEPTH <= s.main {
-        return Err(Refusal::Reach);
-    }
+    let s = reached(m, p)?;
     if procedure.end <= next {
         return Err(Refusal::Reach);
     }
@@ -169,10 +176,7 @@ pub fn open(
     if target <= p {
         return Err(Refusal::Target);
     }
-    let s = state_in(m, p);
-    if UNREACHED_DEPTH <= s.main {
-        return Err(Refusal::Reach);
-    }
+    let s = reached(m, p)?;
     if procedure.end <= next {
         return Err(Refusal::Reach);
     }
@@ -198,10 +202,7 @@ pub fn close(file: &[u8], m: &mut [u16], procedure: Procedure, p: usize) -> Resu
     ensures { take_ans (fault_of result) m.new ≡ take_in file.now p m.old }
 {
     let next = p + 1;
-    let s = state_in(m, p);
-    if UNREACHED_DEPTH <= s.main {
-        return Err(Refusal::Reach);
-    }
+    let s = reached(m, p)?;
     if procedure.end <= next {
         return Err(Refusal::Reach);
     }
@@ -226,10 +227,7 @@ pub fn leave(file: &[u8], m: &[u16], procedure: Procedure, p: usize) -> Result<(
     ensures { take_ans (fault_of result) m.now ≡ take_in file.now p m.now }
 {
     let h = code_file::head_at(file, procedure.head);
-    let s = state_in(m, p);
-    if UNREACHED_DEPTH <= s.main {
-        return Err(Refusal::Reach);
-    }
+    let s = reached(m, p)?;
     if s.main != h.r {
         return Err(Refusal::Handlers);
     }

@@ -2,11 +2,11 @@
 use Prim.Native.Nat.{ℕ, zero, suc, ◌+◌, ◌*◌, ◌<◌, ◌≤◌}
 use Rattle.std.specs.Prelude.{Bool, Result, Ok, Err, ◌≡◌, take, drop}
 use Rattle.std.specs.Result.{is_err}
-use Rattle.std.proofs.Math.Bool.{true, false}
+use Rattle.std.proofs.Math.Bool.{true, false, ◌&&◌}
 use Rattle.std.proofs.Common.{true≢false, inl, sym, ◌∙◌, arith}
 use mathlib.Core.List.{List, ◌++◌}
 use Rattle.std.proofs.Math.Path.{refl, ap}
-use Rattle.std.proofs.Math.Dec.{eqb}
+use Rattle.std.proofs.Math.Dec.{eqb, leb}
 use Rattle.std.proofs.Math.ListN.{length, get_or, get_or-eq_default, replicate}
 use Rattle.std.proofs.Math.Decide.{dec_lt}
 use Rattle.std.proofs.lemmas.List.{get_or-take, length-take-le}
@@ -169,13 +169,9 @@ fill-refused f m m' table (Err r) h L w l =
 
 -- refusals 1 and 2 write nothing; the rest is the passes'
 module _ (f map table : List ℕ) where
-  pub check-none : length f < 1 → Checks f map map table (Err (record { refusal = FileLength; place = 0 }))
+  pub check-length : (leb 1 (length f) && leb (length f) file_most) ≡ false → Checks f map map table (Err (record { refusal = FileLength; place = 0 }))
   unfolding check_of verdict_of
-  check-none l = record { is = rw (lt-leb 1 (length f) l); placed = λ k z. refuse-pass _ k z }
-
-  pub check-long : 1 ≤ length f → file_most < length f → Checks f map map table (Err (record { refusal = FileLength; place = 0 }))
-  unfolding check_of verdict_of
-  check-long a l = record { is = rw (le-leb 1 (length f) a, lt-leb (length f) file_most l); placed = λ k z. refuse-pass _ k z }
+  check-length l = record { is = rw l; placed = λ k z. refuse-pass _ k z }
 
   module _ (a : 1 ≤ length f) (b : length f ≤ file_most) where
     pub check-map : length map < 3 * length f → Checks f map map table (Err (record { refusal = MapLength; place = 0 }))

@@ -45,24 +45,12 @@ pub fn check_with(
     ensures { Checks file.now map.old map.new table.new result }
 {
     let n = file.len();
-    if n < 1 {
-        return Err(RefusedAt {
-            refusal: Refusal::FileLength,
-            place: 0,
-        });
-    }
-    if FILE_MOST < n {
-        return Err(RefusedAt {
-            refusal: Refusal::FileLength,
-            place: 0,
-        });
+    if !(1..=FILE_MOST).contains(&n) {
+        return Err(Refusal::FileLength.at(0));
     }
     let size = 3 * n;
     if map.len() < size {
-        return Err(RefusedAt {
-            refusal: Refusal::MapLength,
-            place: 0,
-        });
+        return Err(Refusal::MapLength.at(0));
     }
     check_part(file, &mut map[..size], table)
 }

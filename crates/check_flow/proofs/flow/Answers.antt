@@ -38,7 +38,7 @@ take-requires c =
 
 pub returns-in-Err : goal.returns-in-Err
 returns-in-Err c =
-    flowing-fault c.requires c.loop-p.invariant.1 (omega arith) c.if-kind.false c.in-Err.refusal c.take.new.m c.in-Err.ensures.is
+    rw c.at.ensures (flowing-fault c.requires c.loop-p.invariant.1 (omega arith) c.if-kind.false c.in-Err.refusal c.take.new.m c.in-Err.ensures.is)
 
 pub loop-p-smaller : goal.loop-p-smaller
 loop-p-smaller c = omega (arith, c.in-Ok.ensures.on, after-above c.args.file.now c.loop-p.p)

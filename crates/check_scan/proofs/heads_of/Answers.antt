@@ -10,7 +10,7 @@ loop-k-init c = (refl, heading-start c.requires)
 
 pub returns-then-k-eq-PROCS_MOST : goal.returns-then-k-eq-PROCS_MOST
 returns-then-k-eq-PROCS_MOST c =
-    heading-many c.requires c.loop-k.invariant.1 (omega arith) (omega arith)
+    rw c.at.ensures (heading-many c.requires c.loop-k.invariant.1 (omega arith) (omega arith))
 
 pub overflow_add-p : goal.overflow_add-p
 overflow_add-p c =
@@ -23,26 +23,28 @@ head_at-head-requires c =
 
 pub place_head-requires : goal.place_head-requires
 place_head-requires c =
-    let w = heading-fits c.requires c.loop-k.invariant.1 (omega arith) refl (omega arith) c.follows-there.ensures c.if-not-there.false in
+    let w = heading-fits c.requires c.loop-k.invariant.1 (omega arith) refl (omega arith) c.follows.ensures c.if-not-follows.false in
     let g = c.requires.few in
     (w.1, omega arith, c.head_at-head.ensures.a_small, c.head_at-head.ensures.b_small)
 
 pub loop-k-preserved : goal.loop-k-preserved
 loop-k-preserved c = (
   refl,
-  heading-right c.requires c.loop-k.invariant.1 (omega arith) refl (omega arith) c.follows-there.ensures
-      c.if-not-there.false c.head_at-head.ensures c.head_right-right.ensures
-      c.if-not-right.false c.place_head.ensures,
+  heading-right c.requires c.loop-k.invariant.1 (omega arith) refl (omega arith) c.follows.ensures
+      c.if-not-follows.false c.head_at-head.ensures c.head_right.ensures
+      c.if-not-head_right.false c.place_head.ensures,
 )
 
-pub returns-then-not-right : goal.returns-then-not-right
-returns-then-not-right c =
-    heading-wrong c.requires c.loop-k.invariant.1 (omega arith) refl (omega arith) c.follows-there.ensures c.if-not-there.false
-    c.head_at-head.ensures c.head_right-right.ensures c.if-not-right.true
+pub returns-then-not-head_right : goal.returns-then-not-head_right
+returns-then-not-head_right c =
+    rw c.at-then-not-head_right.ensures
+    (heading-wrong c.requires c.loop-k.invariant.1 (omega arith) refl (omega arith) c.follows.ensures c.if-not-follows.false
+    c.head_at-head.ensures c.head_right.ensures c.if-not-head_right.true)
 
-pub returns-then-not-there : goal.returns-then-not-there
-returns-then-not-there c =
-    heading-alone c.requires c.loop-k.invariant.1 (omega arith) refl (omega arith) c.follows-there.ensures c.if-not-there.true
+pub returns-then-not-follows : goal.returns-then-not-follows
+returns-then-not-follows c =
+    rw c.at-then-not-follows.ensures
+    (heading-alone c.requires c.loop-k.invariant.1 (omega arith) refl (omega arith) c.follows.ensures c.if-not-follows.true)
 
 pub returns : goal.returns
 returns c =

@@ -7,7 +7,7 @@ use Rattle.check_scan.proofs.scan.Goals as goal
 use Rattle.check_scan.proofs.scan.Goals.{After-body-b}
 
 pub returns-then-file : goal.returns-then-file
-returns-then-file c = rw c.broken.ensures (scanned-other _ _ _ c.if-file.true)
+returns-then-file c = rw c.at.ensures (scanned-other _ _ _ c.if-file.true)
 
 pub loop-p-init : goal.loop-p-init
 loop-p-init c =
@@ -40,7 +40,7 @@ loop-p-preserved-then-kind c =
     (refl, scan-head R (λ z. omega arith) (omega arith) is-head c.list-last.ensures.heads c.list-last.ensures.later)
 
 pub returns-then-b-eq-UNKNOWN : goal.returns-then-b-eq-UNKNOWN
-returns-then-b-eq-UNKNOWN c = rw c.broken-then-b-eq-UNKNOWN.ensures (scan-unknown (record-at (goal.at.returns-then-b-eq-UNKNOWN c).After-body-b) c.if-b-eq-UNKNOWN.true)
+returns-then-b-eq-UNKNOWN c = rw c.at-then-b-eq-UNKNOWN.ensures (scan-unknown (record-at (goal.at.returns-then-b-eq-UNKNOWN c).After-body-b) c.if-b-eq-UNKNOWN.true)
 
 pub loop-p-preserved : goal.loop-p-preserved
 loop-p-preserved c =
