@@ -59,3 +59,21 @@ module _ (d : Side) (h : List ℕ) (q i : ℕ) where
         element_of d h q i ≡ element_in (q + first_element d) count (signed i -ℤ signed bound)
     unfolding element_of
     sought u c b = rw (ne_eqb q 0 n, eq-eqb (kind_at h q) (vector_kind d) u, ← c, ← b)
+
+-- the object q, which is read as r, its kind as k, the number of its elements and its bound: the index below the bound, past the elements, or found
+module _ (d : Side) (h : List ℕ) (q i : ℕ) {r : ℕ} (e : r ≡ q) (n : r ≢ 0) {k : ℕ} (is : k ≡ kind_at h r) (u : k ≡ vector_kind d)
+    {count bound : ℕ} (c : count ≡ elements_at d h r) (b : bound ≡ bound_at h r) where
+  read-sought : element_of d h q i ≡ element_in (r + first_element d) count (signed i -ℤ signed bound)
+  unfolding element_of
+  read-sought = rw (← e, ne_eqb r 0 n, ← is, eq-eqb k (vector_kind d) u, ← c, ← b)
+
+  pub under-sought : negative? (signed i -ℤ signed bound) ≡ true → element_of d h q i ≡ nowhere
+  under-sought v = read-sought ∙ in-under (r + first_element d) count (signed i -ℤ signed bound) v
+
+  -- the distance of the index from the bound
+  module _ {far : ℕ} (f : pos far ≡ signed i -ℤ signed bound) where
+    pub past-sought : count ≤ far → element_of d h q i ≡ nowhere
+    past-sought l = read-sought ∙ in-past _ _ _ f l
+
+    pub found-sought : far < count → element_of d h q i ≡ found (r + first_element d + far)
+    found-sought l = read-sought ∙ in-found _ _ _ f l
