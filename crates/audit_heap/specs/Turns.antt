@@ -6,21 +6,21 @@ use Rattle.std.proofs.Common.{Option, Some, None, Err, ◌∙◌, length-set}
 use Rattle.std.specs.List.{between, AllWithin, HoldsAt}
 use Rattle.std.specs.Option.{MatchOption}
 use Rattle.std.proofs.lemmas.List.Edits.{length-between, get_or-between}
-use Rattle.std.specs.Prelude.{Bool, ◌||◌, eqb, length, set}
-use Rattle.std.proofs.Math.Bool.{true, false}
+use Rattle.std.specs.Prelude.{Bool, ◌||◌, ◌≢◌, eqb, ltb, length, set}
+use Rattle.std.proofs.Math.Bool.{true, false, not}
 use mathlib.Core.List.{List, [], ◌∷◌, ◌++◌}
 use Rattle.std.proofs.Math.Decide.{ℕ_discrete}
 use native.Mathlib.Omega.{arith}
 use Rattle.std.proofs.Math.ListN.{get_or}
 use Rattle.std.proofs.Math.Seq.{get_or-set_same, get_or-set_other}
-use borrow.Author.Tests.{eq-eqb, ne_eqb, lt-leb}
+use borrow.Author.Tests.{eq-eqb, ne_eqb, le-leb, lt-leb, le-ltb, lt-ltb, not-true, not-false}
 use Rattle.model.specs.Choice.{when◌then◌else◌, member}
 use Rattle.model.specs.Words.{word_at}
-use Rattle.model.specs.Heap.{mark_of, first_object, ptrs_at, size_at, Object, Objects, Audit, fault, clean, and_object, bad_header}
+use Rattle.model.specs.Heap.{mark_of, first_object, ptrs_at, size_at, kind_of, Object, Objects, Audit, fault, clean, and_object, bad_header}
 use Rattle.model.specs.Heap.{bad_size, walk, is_pointer, range, pointer_words}
 use Rattle.audit_heap.specs.declared.BadWord.{BadWord}
 use Rattle.audit_heap.specs.Checked.{Checked, faultless, faulty}
-use Rattle.audit_words.specs.Every.{Passing}
+use Rattle.audit_words.specs.Every.{zero_at, Passing}
 use Rattle.audit_words.specs.Table.{Unmarked, Marks, is_marked, marked_at}
 use Rattle.audit_heap.specs.First.{first_bad, walked, or_else, or_audit, bad-append, none-bad, range-mem}
 use Rattle.audit_heap.specs.Audited.{good-object}
@@ -28,6 +28,33 @@ use Rattle.audit_heap.specs.Found.{Range, fault_at, objects_found, LinksCounted}
 use Rattle.numbers.specs.Small.{Small}
 
 -- A range of words
+
+-- a walk of the range: what fails first in it fails first in what is left, from i on; a step on, the end, and a word that fails
+unfoldable pub Scan : (ℕ → Bool) → ℕ → ℕ → ℕ → Type 0
+Scan P from end i = first_bad P (range from (end - from)) ≡ first_bad P (range i (end - i))
+
+range-next : (i end : ℕ) → i < end → range i (end - i) ≡ i ∷ range (i + 1) (end - (i + 1))
+range-next i end a =
+    let e : end - i ≡ suc (end - (i + 1)) = omega arith in
+    let f : suc i ≡ i + 1 = omega arith in
+    rw (e, f)
+
+module _ (P : ℕ → Bool) (from end : ℕ) where
+  pub scan-none : Scan P from end from
+  unfolding Scan
+  scan-none = refl
+
+  pub scan-more : (i : ℕ) → Scan P from end i → i < end → P i ≡ true → Scan P from end (i + 1)
+  unfolding Scan first_bad
+  scan-more i S a e = S ∙ rw (range-next i end a, e)
+
+  pub scan-bad : (i : ℕ) → Scan P from end i → i < end → P i ≡ false → faulty i ≡ first_bad P (range from (end - from))
+  unfolding Scan first_bad
+  scan-bad i S a e = sym (S ∙ rw (range-next i end a, e))
+
+  pub scan-end : (i : ℕ) → Scan P from end i → end ≤ i → faultless ≡ first_bad P (range from (end - from))
+  unfolding Scan first_bad
+  scan-end i S a = let e : end - i ≡ 0 = omega arith in sym (S ∙ rw e)
 
 -- the first that fails, told by how many pass before it
 pub first-found : (P : ℕ → Bool) (k from n : ℕ) → k < n → P (from + k) ≡ false → ((j : ℕ) → j < k → P (from + j) ≡ true) → faulty (from + k) ≡ first_bad P (range from n)
@@ -50,6 +77,23 @@ first-found P (suc k) from (suc n) a e f =
 pub every-clean : (P : ℕ → Bool) (from end : ℕ) → from ≤ end → Passing P from end → faultless ≡ first_bad P (range from (end - from))
 every-clean P from end a A =
     sym (none-bad P (range from (end - from)) (λ j m. let r = range-mem from (end - from) j m in A j r.0 (omega arith)))
+
+-- the tests of a word, as code makes them: whether it is a marked pointer, and whether it is 0
+pub pointer-bad : (h : List ℕ) (t : List Bool) (i : ℕ) (r : Bool) → r ≡ is_marked t (word_at h i) → not r ≡ true → marked_at t h i ≡ false
+unfolding marked_at
+pointer-bad h t i r e f = sym e ∙ not-true r f
+
+pub pointer-good : (h : List ℕ) (t : List Bool) (i : ℕ) (r : Bool) → r ≡ is_marked t (word_at h i) → not r ≡ false → marked_at t h i ≡ true
+unfolding marked_at
+pointer-good h t i r e f = sym e ∙ not-false r f
+
+pub zero-bad : (h : List ℕ) (i : ℕ) → word_at h i ≢ 0 → zero_at h i ≡ false
+unfolding zero_at
+zero-bad h i e = ne_eqb (word_at h i) 0 e
+
+pub zero-good : (h : List ℕ) (i : ℕ) → word_at h i ≡ 0 → zero_at h i ≡ true
+unfolding zero_at
+zero-good h i e = eq-eqb (word_at h i) 0 e
 
 -- the search for the first of the words from `from` up to `end` that fails
 abbrev pub told : ℕ → Option ℕ → Checked
@@ -77,6 +121,58 @@ search-told Q h from end (Some k) a b E =
 -- One object
 
 module _ (h : List ℕ) (q mark : ℕ) where
+  -- the object's fault, told by one test after another; r tells whether the header is right for its kind
+  module _ (r : Bool) (e : r ≡ (kind_of h q).ptrs (ptrs_at h q)) where
+    pub judged-kind : not r ≡ true → faulty q ≡ fault_at h q mark
+    unfolding fault_at bad_header
+    judged-kind f = rw (← e, not-true r f)
+
+    module _ (f : not r ≡ false) (a : q + 1 < mark) where
+      judged-size : fault_at h q mark ≡ (when bad_size h q mark then faulty (q + 1) else faultless)
+      unfolding fault_at bad_header
+      judged-size = rw (← e, not-false r f, lt-leb mark (q + 1) a)
+
+      -- the size, and what else the kind asks of it
+      module _ (size b : ℕ) (S : Small b (size_at h q) size) where
+        pub judged-small : (ptrs d : ℕ) → Small d (ptrs_at h q) ptrs → size < 2 + ptrs → faulty (q + 1) ≡ fault_at h q mark
+        unfolding bad_size
+        judged-small ptrs d T w =
+            let w' : size_at h q < 2 + ptrs_at h q = rw (S.is, T.is) at w in
+            sym (judged-size ∙ rw (lt-ltb (size_at h q) (2 + ptrs_at h q) w'))
+
+        pub judged-long : mark < q + size → faulty (q + 1) ≡ fault_at h q mark
+        unfolding bad_size
+        judged-long w =
+            let w' : mark < q + size_at h q = rw S.is at w in
+            sym (judged-size ∙ rw (lt-ltb mark (q + size_at h q) w') (go (ltb (size_at h q) (2 + ptrs_at h q))))
+          where
+            go : (t : Bool) → (when t || true || not ((kind_of h q).size (ptrs_at h q) (size_at h q)) then faulty (q + 1) else faultless) ≡ faulty (q + 1)
+            go true = refl
+            go false = refl
+
+        module _ (ptrs d : ℕ) (T : Small d (ptrs_at h q) ptrs) (w : 2 + ptrs ≤ size) (v : q + size ≤ mark)
+            (u : Bool) (g : u ≡ (kind_of h q).size (ptrs_at h q) (size_at h q)) where
+          judged-row : fault_at h q mark ≡ (when not u then faulty (q + 1) else faultless)
+          unfolding bad_size
+          judged-row =
+              let w' : 2 + ptrs_at h q ≤ size_at h q = rw (S.is, T.is) at w in
+              let v' : q + size_at h q ≤ mark = rw S.is at v in
+              judged-size ∙ rw (le-ltb (size_at h q) (2 + ptrs_at h q) w', le-ltb mark (q + size_at h q) v', g)
+
+          pub judged-wrong : not u ≡ true → faulty (q + 1) ≡ fault_at h q mark
+          judged-wrong z = sym (judged-row ∙ rw z)
+
+          pub judged-right : not u ≡ false → faultless ≡ fault_at h q mark
+          judged-right z = sym (judged-row ∙ rw z)
+
+  pub judged-cut : mark ≤ q + 1 → faulty q ≡ fault_at h q mark
+  unfolding fault_at bad_header
+  judged-cut a = rw (le-leb mark (q + 1) a) (go (not ((kind_of h q).ptrs (ptrs_at h q))))
+    where
+      go : (t : Bool) → faulty q ≡ (when t || true then faulty q else when bad_size h q mark then faulty (q + 1) else faultless)
+      go true = refl
+      go false = refl
+
   pub judged-object : fault_at h q mark ≡ faultless → Object h q mark
   unfolding fault_at
   judged-object e = go (bad_header h q mark) refl (bad_size h q mark) refl e
