@@ -1,5 +1,5 @@
 -- What the functions answer that read the map and pass a state on, and what they rest on.
-use Rattle.std.specs.Prelude.{ℕ, zero, suc, ◌+◌, ◌*◌, ◌<◌, ◌≤◌, Bool, true, false, List, [], ◌∷◌, ◌⊎◌, Result, Ok, Err, ◌≡◌, refl, eqb, length, get_or}
+use Rattle.std.specs.Prelude.{ℕ, zero, suc, ◌+◌, ◌*◌, ◌<◌, ◌≤◌, Bool, true, false, List, [], ◌∷◌, ◌⊎◌, Result, Ok, Err, ◌≡◌, refl, length, get_or}
 use Rattle.std.proofs.Common.{ap, sym, ◌∙◌, arith, lt-ltb, le-ltb, eq-eqb, ne_eqb}
 use Rattle.model.specs.Choice.{when◌then◌else◌}
 use Rattle.model.specs.Checker.{none, State, state, innermost, Taking, bad, good, and_take}
