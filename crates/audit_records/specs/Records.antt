@@ -79,6 +79,11 @@ module _ (f : List ℕ) (c : ℕ) where
       go true false w e = absurd (true≢false (sym e))
       go false u w e = absurd (true≢false (sym e))
 
+-- the call before a return lies no later than it
+pub call_below : (f : List ℕ) (q : ℕ) → call_before f q ≤ q
+unfolding call_before
+call_below f q = omega arith
+
 -- the head's parameters are what is popped
 abbrev pub PopsParams : Effect → Head → Type 0
 PopsParams e h = (e.pop_main ≡ h.a) × (e.pop_ptr ≡ h.b)

@@ -29,7 +29,7 @@ use Rattle.check_rows.specs.Kinds.{NoJump, elsewhere, straight?, straight, body-
 use Rattle.laws_file.specs.Walk.{after-above}
 use Rattle.check_scan.specs.Marks.{unreached, state_in}
 use Rattle.check_ways.specs.Takes.{own_in, pass_one_in, pass_all_in, take_in, take_in_with}
-use Rattle.check_ways.specs.Faults.{take_ans, StateIs, OuterIs, HandlerIn, and-end}
+use Rattle.check_ways.specs.Faults.{take_ans, StateIs, OuterIs, HandlerIn, held-as, and-end}
 
 -- what is known of the instruction at p of the procedure between h and e
 pub record Here (f m : List ℕ) (h e p : ℕ) : Type 0 where
@@ -373,6 +373,14 @@ module _ (f m : List ℕ) (h p : ℕ) (l : Procedure) (H : Here f m h l.end p) (
 
 -- the places that are read and written lie in the part
 module _ {f m : List ℕ} {h e p : ℕ} (H : Here f m h e p) where
+  -- a place of the procedure's own
+  pub own-place : (q : ℕ) → own_in m h e q ≡ true → (3 * q + 2 < length m) × (q < file_most)
+  own-place q w =
+      let a = H.own_low q (sym (H.owns q) ∙ w) in
+      let b = H.long in
+      let c = H.site.small in
+      (omega arith, omega arith)
+
   pub next_place : (q : ℕ) → q < e → (3 * q + 2 < length m) × (q < file_most)
   next_place q w =
       let a = H.end_low in
@@ -387,6 +395,18 @@ module _ {f m : List ℕ} {h e p : ℕ} (H : Here f m h e p) where
       let b = H.long in
       let u = after-above f p in
       (omega arith, a)
+
+  -- the procedure's end lies in the part
+  pub ends_low : (3 * e ≤ length m) × (e ≤ file_most)
+  ends_low =
+      let a = H.end_low in
+      let b = H.long in
+      let c = H.site.small in
+      (omega arith, omega arith)
+
+-- the handler of the state s as read is none, or a place of the map
+pub held-here : {f m : List ℕ} {h e p : ℕ} → Here f m h e p → {s : Numbers} → StateIs m p s → HandlerIn m s.inner
+held-here {m} {p} H {s} S = held-as m p s S H.held
 
 -- the state s as read, and o at the innermost open 160, are within the bounds
 pub bounded-here : {f m : List ℕ} {h p : ℕ} {s : Numbers} → StateIs m p s → {l : Procedure} → Here f m h l.end p → Bounds f h l → {o : Numbers} →
@@ -479,3 +499,20 @@ module _ {f m : List ℕ} {p : ℕ} {l : Procedure} {r : Onward} (W : Onwards f 
     pub onwards-passed : {s : Numbers} → StateIs m p s → (n : ℕ) (m' : List ℕ) → take_ans n m' ≡ pass_one_in m r.next (state d.main d.ptr s.inner) →
         take_ans n m' ≡ take_in f p m
     onwards-passed {s} S n m' e = let z : s.inner ≡ (state_in m p).inner = ap (λ (u : State). u.inner) S.is in (rw (onwards-on, z) at e) ∙ sym onwards-passing.0
+
+    -- what passing that state on answers is what taking the instruction leaves
+    pub plain-passed : {s : Numbers} → StateIs m p s → (x : Result ℕ Refusal) (m' : List ℕ) →
+        take_ans (fault_of x) m' ≡ pass_one_in m r.next (state d.main d.ptr s.inner) → IfOk x (λ q. q ≡ r.next) → Took f p m m' x
+    plain-passed S (Ok q) m' w h = record { is = onwards-passed S 0 m' w; on = h ∙ onwards-on }
+    plain-passed S (Err e) m' w h = record { is = onwards-passed S (number_of e) m' w; on = tt }
+
+-- the refusal, or the next place
+abbrev pub next_in : Result Onward Refusal → Result ℕ Refusal
+next_in (Ok r) = Ok r.next
+next_in (Err e) = Err e
+
+-- an instruction that is refused, or passes no state on, leaves the map as it was
+pub plain-stopped : {f m : List ℕ} {p : ℕ} {l : Procedure} (r : Result Onward Refusal) → Onwards f m p l r → IfOk r (λ o. o.depths ≡ None) →
+    Took f p m m (next_in r)
+plain-stopped (Ok r) W h = record { is = onwards-stopped W h; on = onwards-on W }
+plain-stopped (Err e) W h = record { is = W.comes; on = tt }

@@ -12,7 +12,7 @@ use Rattle.std.proofs.Math.Decide.{dec_lt}
 use Rattle.std.proofs.lemmas.List.{get_or-take, length-take-le}
 use borrow.Author.Tests.{eq-eqb, eqb-true, le-leb, lt-leb}
 use Rattle.model.specs.Choice.{when◌then◌else◌}
-use Rattle.model.specs.File.{byte_at, Records, records_of, starts_in, is_head, select, heads, right, heads_of, head_of, entry, procs, params_main}
+use Rattle.model.specs.File.{byte_at, Records, records_of, starts_in, is_head, select, heads, wrong, right, heads_of, head_of, entry, procs, params_main}
 use Rattle.model.specs.File.{params_ptr, head_tests, file_most, procs_most}
 use Rattle.model.specs.Checker.{none, Known, state_at, is_set, firsts, first, map_from}
 use Rattle.model.specs.Calls.{over_map, wiped, pass, refuse, scanned, verdict_of, checked, answered, check_of}
@@ -25,6 +25,7 @@ use Rattle.check_flow.specs.Alike.{Fit}
 use Rattle.check_flow.specs.Flowing.{Begun, Flowed, refuse-pass}
 use Rattle.check_scan.specs.declared.Found.{Found}
 use Rattle.model.specs.Refusals.{number_of}
+use Rattle.model.specs.declared.Refusal.TheVariants as refusal
 use Rattle.model.specs.declared.Refusal.TheVariants.{FileLength, MapLength}
 use Rattle.model.specs.declared.RefusedAt.{RefusedAt}
 use Rattle.model.specs.declared.Answer.{Answer}
@@ -59,8 +60,11 @@ pub record Checks (f map map' table : List ℕ) (v : Result ℕ RefusedAt) : Typ
   pub is : checked (answer_of v) map' ≡ check_of f map
   pub placed : (n : ℕ) → v ≡ Ok n → Placed f table n
 
--- what the marked part shows
+-- refusal 3, and what the marked part shows
 module _ (f m m₁ m₂ table table₂ : List ℕ) (L : Lengths f m table) (one : m₁ ≡ replicate (length m) none) (r : Result Found RefusedAt) (S : Scanned f m₁ m₂ table₂ r) where
+  pub look-broken : (e : RefusedAt) → r ≡ Err e → (e.refusal ≡ refusal.Records) × Looked f m₂ table₂ (Err e)
+  look-broken e h = let w : Comes f m₁ m₂ table₂ (Err e) = rw h at S.comes in (w.0, λ map. rw (w.1, w.0))
+
   pub look-whole : (found : Found) → r ≡ Ok found → ScanMarked f m₂ table₂ found.heads found.later
   unfolding procs head_of heads
   look-whole found e =
@@ -83,8 +87,11 @@ module _ (f m m₁ m₂ table table₂ : List ℕ) (L : Lengths f m table) (one 
         later = λ l. C.3.later l ∙ ap (λ (h : List ℕ). get_or h 64 0) (sym same);
       }
 
--- what the flow begins with
+-- refusal 4, and what the flow begins with
 module _ (f m table : List ℕ) (n last : ℕ) (M : ScanMarked f m table n last) where
+  pub look-wrong : (m₁ : List ℕ) (p : ℕ) → heads_of f ≡ wrong p → Looked f m₁ table (Err (record { refusal = refusal.Heads; place = p }))
+  look-wrong m₁ p e map = rw (M.whole, e)
+
   -- the first states fit the map
   abbrev Small : Known → ℕ → Type 0
   Small k q = ((state_at k q).main < 256) × ((state_at k q).ptr < 256) × ((state_at k q).inner ≡ none)
@@ -169,6 +176,14 @@ fill-refused f m m' table (Err r) h L w l =
 
 -- refusals 1 and 2 write nothing; the rest is the passes'
 module _ (f map table : List ℕ) where
+  pub check-none : length f < 1 → Checks f map map table (Err (record { refusal = FileLength; place = 0 }))
+  unfolding check_of verdict_of
+  check-none l = record { is = rw (lt-leb 1 (length f) l); placed = λ k z. refuse-pass _ k z }
+
+  pub check-long : 1 ≤ length f → file_most < length f → Checks f map map table (Err (record { refusal = FileLength; place = 0 }))
+  unfolding check_of verdict_of
+  check-long a l = record { is = rw (le-leb 1 (length f) a, lt-leb (length f) file_most l); placed = λ k z. refuse-pass _ k z }
+
   pub check-length : (leb 1 (length f) && leb (length f) file_most) ≡ false → Checks f map map table (Err (record { refusal = FileLength; place = 0 }))
   unfolding check_of verdict_of
   check-length l = record { is = rw l; placed = λ k z. refuse-pass _ k z }
