@@ -7,9 +7,9 @@ use Rattle.model.specs.declared.Regs.{Regs}
 use Rattle.plan_meaning.specs.declared.Into.{Into}
 use Rattle.plan_meaning.specs.declared.Put.{Put}
 use Rattle.plan_meaning.specs.Settled.{cut_only, main_set, ptr_set, heap_set}
-use Rattle.laws.specs.Cuts.{cut-same, cut-above}
+use Rattle.laws.specs.Cuts.{cut-same, cut-above, length_cut}
 use Rattle.plan_meaning.specs.Suits.{Pops, WriteFits}
-use Rattle.apply_words.specs.Asks.{Plain, onwards, plain_write}
+use Rattle.apply_words.specs.Asks.{Plain, Retract, InMain, InPtr, Dropping, onwards, plain_write}
 
 module _ {lh : ℕ} {main ptr : List ℕ} {r : Regs} {put : Put} (P : Plain lh main ptr r put) where
   -- what is asked of a write, where it goes being known
@@ -45,6 +45,11 @@ module _ {lh : ℕ} {main ptr : List ℕ} {r : Regs} {put : Put} (P : Plain lh m
 
     pub plainly-heap : plain_write i ≡ heap_set → (heap : List ℕ) → Done main' ptr' (set heap put.at put.word) heap
     plainly-heap w heap = λ ctl. rw (em, ep) (write w _)
+
+-- a word that is put back lies in its stack, cut or not
+pub cut-drops : {main ptr : List ℕ} {r : Regs} {put : Put} {main' ptr' : List ℕ} → Dropping main ptr r put → main' ≡ cut put.mtop main →
+    ptr' ≡ cut put.ptop ptr → Retract put.into × InMain (length main') put × InPtr (length ptr') put
+cut-drops D em ep = (D.retract, λ e. rw (em, length_cut) (D.in_main e), λ e. rw (ep, length_cut) (D.in_ptr e))
 
 -- the words from t on zeroed, k of them; behind those all is 0 already
 pub cleared : (t k : ℕ) (l : List ℕ) → t + k ≤ length l → ((i : ℕ) → t + k ≤ i → word_at l i ≡ 0) → take t l ++ (replicate k 0 ++ drop k (drop t l)) ≡ cut t l

@@ -8,7 +8,7 @@ use borrow.Rule.Slice.PartMut.{put_mid}
 use Rattle.std.proofs.lemmas.List.Edits.{sets, sets-eq}
 use Rattle.model.specs.Words.{word_at, cut}
 use Rattle.laws.specs.Cuts.{cut-same}
-use Rattle.model.specs.Control.{Rec, Frame, Handler, as_frame, rec_at, put_rec, record_words}
+use Rattle.model.specs.Control.{Rec, Frame, Handler, as_frame, frame_rec, handler_rec, rec_at, put_rec, record_words}
 use Rattle.control_stack.specs.declared.Frame.{Frame as FrameRead}
 use Rattle.control_stack.specs.declared.Handler.{Handler as HandlerRead}
 
@@ -86,6 +86,35 @@ words-put l ws t i long all whole =
     let r = rec_of ws in
     let five : take i ws ≡ r.w0 ∷ r.w1 ∷ r.w2 ∷ r.w3 ∷ r.w4 ∷ [] = grind (arith, common_steps) in
     rw five (ap (λ (u : ℕ). sets l u (r.w0 ∷ r.w1 ∷ r.w2 ∷ r.w3 ∷ r.w4 ∷ [])) whole)
+
+-- five stores, one behind another
+stored : (l : List ℕ) (t a b c d e : ℕ) →
+    set (set (set (set (set l (t + 0) a) (t + 1) b) (t + 2) c) (t + 3) d) (t + 4) e ≡ sets l t (a ∷ b ∷ c ∷ d ∷ e ∷ [])
+stored l t a b c d e =
+    let e0 : t + 0 ≡ t = omega arith in
+    let e1 : t + 1 ≡ suc t = omega arith in
+    let e2 : t + 2 ≡ suc (suc t) = omega arith in
+    let e3 : t + 3 ≡ suc (suc (suc t)) = omega arith in
+    let e4 : t + 4 ≡ suc (suc (suc (suc t))) = omega arith in
+    rw (e0, e1, e2, e3, e4)
+
+-- a record's words, stored from the top on, are the record on top of the others
+module _ (l : List ℕ) (t : ℕ) (whole : t ≡ record_words * (t / record_words)) where
+  pub frame-put : (w : Frame) →
+      set (set (set (set (set l (t + 0) w.main_base) (t + 1) w.ptr_base) (t + 2) w.proc) (t + 3) w.returns) (t + 4) w.caller
+      ≡ put_rec l (t / record_words) (frame_rec w)
+  unfolding put_rec
+  frame-put w =
+      stored l t w.main_base w.ptr_base w.proc w.returns w.caller
+      ∙ ap (λ (u : ℕ). sets l u (w.main_base ∷ w.ptr_base ∷ w.proc ∷ w.returns ∷ w.caller ∷ [])) whole
+
+  pub handler-put : (w : Handler) →
+      set (set (set (set (set l (t + 0) w.opened) (t + 1) w.main_top) (t + 2) w.ptr_top) (t + 3) w.frame) (t + 4) w.outer
+      ≡ put_rec l (t / record_words) (handler_rec w)
+  unfolding put_rec
+  handler-put w =
+      stored l t w.opened w.main_top w.ptr_top w.frame w.outer
+      ∙ ap (λ (u : ℕ). sets l u (w.opened ∷ w.main_top ∷ w.ptr_top ∷ w.frame ∷ w.outer ∷ [])) whole
 
 -- the word at the new top zeroed before the cut
 cut-set : (i : ℕ) (l : List ℕ) → cut (suc i) (set l i 0) ≡ cut i l

@@ -1,8 +1,11 @@
 -- Registers as bytes: nine words stored one after the other are all the bytes, and a word that is not stored stays.
-use Rattle.std.specs.Prelude.{ℕ, zero, suc, ◌+◌, ◌*◌, ◌<◌, ◌≤◌, ◌≡◌, refl, List, [], ◌∷◌, ◌++◌, length, take, get_or}
-use Rattle.std.proofs.Common.{ap, sym, ◌∙◌, arith, take_all, lit<}
+use Rattle.std.specs.Prelude.{ℕ, zero, suc, ◌+◌, ◌*◌, ◌/◌, ◌%◌, ◌<◌, ◌≤◌, ◌≡◌, refl, List, [], ◌∷◌, ◌++◌, length, take, drop, set, get_or}
+use Rattle.std.proofs.Common.{ap, sym, ◌∙◌, get_or-set_other, add-one, arith, length-append, take_all, take_at, length-take-le, lit<}
 use Rattle.std.proofs.lemmas.Grind.{common_steps}
 use Rattle.std.proofs.lemmas.Nat.{be_bytes_4}
+use Rattle.std.proofs.lemmas.List.Edits.{sets, sets-eq}
+use Rattle.std.proofs.Math.Seq.{length-sets}
+use Rattle.std.proofs.lemmas.List.{set-get_or}
 use Rattle.model.specs.Words.{word_at}
 use Rattle.model.specs.Control.{register_bytes, word_from, regs_from, sums_from, bytes_of, reg_bytes}
 use Rattle.model.specs.declared.Regs.{Regs}
@@ -23,6 +26,34 @@ pub record Stored (b : List ℕ) (i w : ℕ) (b' : List ℕ) : Type 0 where
   pub long : length b' ≡ length b
   pub front : take (4 * i + 4) b' ≡ take (4 * i) b ++ bytes_of w
   pub behind : (p : ℕ) → 4 * i + 4 ≤ p → word_at b' p ≡ word_at b p
+
+-- four bytes stored one behind another are a register stored
+pub stored : (b : List ℕ) (i w at : ℕ) → 4 * i + 4 ≤ length b → at ≡ 4 * i →
+    Stored b i w
+    (set (set (set (set b at (w / 16777216 % 256)) (at + 1) (w / 65536 % 256)) (at + 2) (w / 256 % 256)) (at + 3) (w % 256))
+stored b i w at h e =
+    rw (add-one at, two, three, e)
+    (record {
+      long = length-sets b (4 * i) (bytes_of w);
+      front = front;
+      behind = λ p g. behind (bytes_of w) b (4 * i) p g;
+    })
+  where
+    two : at + 2 ≡ suc (suc at)
+    two = omega arith
+
+    three : at + 3 ≡ suc (suc (suc at))
+    three = omega arith
+
+    behind : (vs l : List ℕ) (a p : ℕ) → a + length vs ≤ p → word_at (sets l a vs) p ≡ word_at l p
+    behind [] l a p h = refl
+    behind (v ∷ vs) l a p h = behind vs (set l a v) (suc a) p (omega arith) ∙ get_or-set_other l a p v 0 (λ u. absurd (omega arith))
+
+    front : take (4 * i + 4) (sets b (4 * i) (bytes_of w)) ≡ take (4 * i) b ++ bytes_of w
+    front =
+        ap (take (4 * i + 4)) (sets-eq (bytes_of w) b (4 * i) h)
+        ∙ take_at (take (4 * i) b ++ bytes_of w) (drop (4 * i + 4) b) (4 * i + 4)
+        (length-append (take (4 * i) b) (bytes_of w) ∙ ap (λ (n : ℕ). n + 4) (length-take-le (4 * i) b (omega arith)))
 
 pub registers-length : (s : Sums) (r : Regs) → length (reg_bytes s r) ≡ register_bytes
 unfolding reg_bytes
@@ -57,6 +88,12 @@ four-small x y z t hx hy hz ht (suc zero) = hy
 four-small x y z t hx hy hz ht (suc (suc zero)) = hz
 four-small x y z t hx hy hz ht (suc (suc (suc zero))) = ht
 four-small x y z t hx hy hz ht (suc (suc (suc (suc p)))) = lit< tt
+
+-- bytes stored that are there already
+same-stored : (b : List ℕ) (at x y z t : ℕ) → x ≡ word_at b at → y ≡ word_at b (at + 1) → z ≡ word_at b (at + 2) → t ≡ word_at b (at + 3) →
+    set (set (set (set b at x) (at + 1) y) (at + 2) z) (at + 3) t ≡ b
+same-stored b at x y z t ex ey ez et =
+    rw (ex, set-get_or b at 0, ey, set-get_or b (at + 1) 0, ez, set-get_or b (at + 2) 0, et, set-get_or b (at + 3) 0)
 
 -- a register that has stayed since b₀ is as if it were stored anew
 pub stays : (b₀ b : List ℕ) (i : ℕ) → ByteList b₀ → 4 * i + 4 ≤ length b → ((p : ℕ) → 4 * i ≤ p → word_at b p ≡ word_at b₀ p) →

@@ -1,16 +1,17 @@
 -- Steps of a run: what is left of the budget decides what the rest of the run comes to, and soundness is kept. Steps add up.
 use Prim.Native.Nat.{ℕ, suc, ◌+◌, ◌-◌, ◌<◌, ◌≤◌}
-use Rattle.std.specs.Prelude.{List, ◌≡◌, refl, length}
+use Rattle.std.specs.Prelude.{Bool, true, false, List, ◌≡◌, refl, length}
 use Rattle.std.proofs.Math.Path.{ap}
-use Rattle.std.proofs.Common.{sym, ◌∙◌, ne_eqb}
+use Rattle.std.proofs.Common.{sym, ◌∙◌, subst, ne_eqb}
 use native.Mathlib.Omega.{arith}
-use Rattle.model.specs.Control.{Machine}
+use Rattle.model.specs.Control.{Machine, set_regs}
 use Rattle.plan_meaning.specs.Planned.{plan_at}
 use Rattle.model.specs.Step.{next, step, run_on}
 use Rattle.plan_meaning.specs.Settled.{settle, applied}
 use Rattle.theory_step.specs.Alive.{Alive, alive-step}
 use Rattle.theory_step.specs.Settling.{alive-plan}
-use Rattle.apply.specs.Applies.{Later}
+use Rattle.apply.specs.Applies.{Late, Later, applied_if}
+use Rattle.model.specs.declared.Regs.{Regs}
 use Rattle.plan_meaning.specs.declared.Put.{Put}
 use Rattle.plan_meaning.specs.declared.Plan.{Plan}
 use Rattle.plan_meaning.specs.declared.Plan.TheVariants.{Write}
@@ -51,6 +52,13 @@ pub record Paused (f table : List ℕ) (n : ℕ) (m : Machine) (n' : ℕ) (m' : 
 -- a plan that does not write is settled apart
 pub stopped-raise : {f : List ℕ} {m : Machine} {plan : Plan} → plan ≡ plan_at f m → ((put : Put) → plan ≡ Write put → ⊥) → PlanPaused f m plan
 stopped-raise e never = record { is = e; late = λ put u. absurd (never put u) }
+
+-- a write that is late is settled apart
+stopped-late : (f : List ℕ) (m : Machine) (put : Put) → Write put ≡ plan_at f m → Late put.into m.regs → PlanPaused f m (Write put)
+stopped-late f m put e L = record { is = e; late = λ put' u. subst (λ (p : Put). Late p.into m.regs) (write-one put put' u) L }
+  where
+    write-one : (p q : Put) → Write p ≡ Write q → p ≡ q
+    write-one p q u = cc
 
 module _ {f table : List ℕ} where
   pub going_start : {n : ℕ} {m : Machine} → Runs f table m → Going f table n m n m
@@ -95,9 +103,15 @@ module _ {f table : List ℕ} where
         alike = a;
       })
 
--- a plan's write was done, which is a step
+-- a plan's write was done, which is a step; or it was not, and all is as it was
 module _ {f table : List ℕ} {n₀ n : ℕ} {m₀ m : Machine} (G : Going f table n₀ m₀ n m) (on? : m.regs.state ≡ 1 → ⊥)
     {put : Put} {m' : Machine} (e : Write put ≡ plan_at f m) where
   pub going-applied : 0 < n → m' ≡ applied f put m → SameLengths m' m → Going f table n₀ m₀ (n - 1) m'
   unfolding settle
   going-applied some a l = going_step G some on? (sym (alive-plan G.runs.alive on?) ∙ rw (← e) (ap next (sym a))) l
+
+  pub paused-late : {b : Bool} {r : Regs} → m'.regs ≡ m.regs → b ≡ false → set_regs r m' ≡ applied_if b f put m → (b ≡ false → Late put.into m.regs) →
+      Paused f table n₀ m₀ n m' (Write put)
+  paused-late q d a l =
+      let k : m' ≡ m = ap (set_regs m'.regs) (rw d at a) ∙ ap (λ (x : Regs). set_regs x m) q in
+      rw k (record { going = G; on? = on?; stopped = λ h. stopped-late f m put e (l d) })
