@@ -138,29 +138,38 @@ module _ (f m table : List ℕ) (n last : ℕ) (M : ScanMarked f m table n last)
           let c = P.count in
           get_or-eq_default (take k table) 0 (omega arith) ∙ sym (head-none f M.places M.whole n (omega arith))
 
-  pub look-begun : (m₁ : List ℕ) (k : ℕ) → k ≤ length table → (heads_of f ≡ right) × Placed f table k × PartShows f (firsts f k) m₁ →
+  begun : (t m₁ : List ℕ) (k : ℕ) → heads_of f ≡ right → Placed f t k → PartShows f (firsts f k) m₁ → Begun f m₁ t k
+  begun t m₁ k R P S =
+      record {
+        some = M.some;
+        few = M.few;
+        bytes = M.bytes;
+        places = M.places;
+        records = M.whole;
+        heads_hold = heads-right f R;
+        placed = P;
+        good = record { shows = S; within = λ q. firsts-within (heads-right f R) k q (let z = P.count in omega arith); fits = firsts-fit k };
+      }
+
+  pub look-begun : (m₁ : List ℕ) (k : ℕ) → (heads_of f ≡ right) × Placed f table k × PartShows f (firsts f k) m₁ → Begun f m₁ table k
+  look-begun m₁ k H = begun table m₁ k H.0 H.1 H.2
+
+  -- the same of the table cut to the file's heads
+  pub look-begun-cut : (m₁ : List ℕ) (k : ℕ) → k ≤ length table → (heads_of f ≡ right) × Placed f table k × PartShows f (firsts f k) m₁ →
       Begun f m₁ (take k table) (length (take k table))
-  look-begun m₁ k l H = rw (length-take-le k table l) begun
-    where
-      begun : Begun f m₁ (take k table) k
-      begun =
-          record {
-            some = M.some;
-            few = M.few;
-            bytes = M.bytes;
-            places = M.places;
-            records = M.whole;
-            heads_hold = heads-right f H.0;
-            placed = cut k l H.1;
-            good = record { shows = H.2; within = λ q. firsts-within (heads-right f H.0) k q (let z = H.1.count in omega arith); fits = firsts-fit k };
-          }
+  look-begun-cut m₁ k l H = rw (length-take-le k table l) (begun (take k table) m₁ k H.0 (cut k l H.1) H.2)
 
   -- the heads are right, and what the flow comes to decides
-  pub look-flow : (m₁ m₂ : List ℕ) (k : ℕ) (v : Result ℕ RefusedAt) → k ≤ length table → (heads_of f ≡ right) × Placed f table k × PartShows f (firsts f k) m₁ →
+  pub look-flow : (m₁ m₂ : List ℕ) (k : ℕ) (v : Result ℕ RefusedAt) → (heads_of f ≡ right) × Placed f table k × PartShows f (firsts f k) m₁ →
+      Flowed f m₂ k v → Looked f m₂ table v
+  look-flow m₁ m₂ k (Ok j) H F =
+      (F.1.0, (λ map. rw (M.whole, H.0, F.1.1)), F.1.2, rw F.0 H.1)
+  look-flow m₁ m₂ k (Err r) H F = λ map. rw (M.whole, H.0, F)
+
+  -- the same with the number of heads that the cut table has
+  pub look-flow-cut : (m₁ m₂ : List ℕ) (k : ℕ) (v : Result ℕ RefusedAt) → k ≤ length table → (heads_of f ≡ right) × Placed f table k × PartShows f (firsts f k) m₁ →
       Flowed f m₂ (length (take k table)) v → Looked f m₂ table v
-  look-flow m₁ m₂ k (Ok j) l H F =
-      (F.1.0, (λ map. rw (M.whole, H.0, F.1.1)), F.1.2, rw (F.0 ∙ length-take-le k table l) H.1)
-  look-flow m₁ m₂ k (Err r) l H F = λ map. rw (M.whole, H.0, F)
+  look-flow-cut m₁ m₂ k v l H F = look-flow m₁ m₂ k v H (rw (length-take-le k table l) at F)
 
 -- a passed file keeps its part, a refused one has it filled
 pub fill-kept : (f m table : List ℕ) (v : Result ℕ RefusedAt) → is_err v ≡ false → Looked f m table v → Filled f m table v

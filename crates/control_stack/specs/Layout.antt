@@ -133,9 +133,14 @@ cut-zeros (suc n) i l z =
 mid-sets : (t n : ℕ) (l vs : List ℕ) → length vs ≡ n → t + n ≤ length l → put_mid t n l vs ≡ sets l t vs
 mid-sets t n l vs h room = grind (arith, common_steps, sets-eq)
 
--- a record's words zeroed
-pub cleared : (l : List ℕ) (t n : ℕ) → n ≡ record_words → t + record_words ≤ length l → ((i : ℕ) → t + record_words ≤ i → word_at l i ≡ 0) →
+-- a record's words zeroed, one behind another
+pub cleared : (l : List ℕ) (t : ℕ) → ((i : ℕ) → t + record_words ≤ i → word_at l i ≡ 0) →
+    set (set (set (set (set l t 0) (t + 1) 0) (t + 2) 0) (t + 3) 0) (t + 4) 0 ≡ cut t l
+cleared l t z = let e0 : t + 0 ≡ t = omega arith in rw e0 at (stored l t 0 0 0 0 0) ∙ cut-zeros 5 t l z
+
+-- the same, all at once
+pub cleared-at-once : (l : List ℕ) (t n : ℕ) → n ≡ record_words → t + record_words ≤ length l → ((i : ℕ) → t + record_words ≤ i → word_at l i ≡ 0) →
     put_mid t n l (replicate (length (take n (drop t l))) 0) ≡ cut t l
-cleared l t n five room z =
+cleared-at-once l t n five room z =
     let long : length (take n (drop t l)) ≡ n = grind (arith, common_steps) in
     rw long (mid-sets t n l (replicate n 0) (grind (arith, common_steps)) (omega arith) ∙ cut-zeros n t l (λ k h. z k (omega arith)))

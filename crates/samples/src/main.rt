@@ -3,6 +3,8 @@
 // bytes in decimal; behind a slash the two budgets of a run cut in two. A line that starts with # is a comment.
 #![tactic(auto)]
 
+ghost use Rattle.std.specs.Prelude.{◌≡◌, ◌≤◌, length, take};
+
 use model::REGISTER_BYTES;
 use show::{Line, Lists};
 use std::io;
@@ -46,7 +48,10 @@ fn cut(rt: &impl Print, name: &[u8], file: &[u8], n: u32, m: u32) -> io::Result<
 
 // The numbers of 0 to 255 in a text, each with a byte behind it that is no digit, as far as there is room in `out`. Of a
 // number that grows too large, the digits that follow are put behind its remainder by 256.
-fn numbers<'a>(text: &[u8], out: &'a mut [u8]) -> &'a [u8] {
+fn numbers<'a>(text: &[u8], out: &'a mut [u8]) -> &'a [u8]
+    ensures bound { length result.now ≤ length out.old }
+    ensures front { length result.now ≡ length (take (length result.now) out.old) }
+{
     let mut n = 0;
     let mut value: Option<u32> = None;
     for c in text {
@@ -131,17 +136,13 @@ fn on(
 
 // Lists just as long as A needs: a map of 39, a main stack of 2. Refusals 2 and 10: a list that is one shorter.
 fn lengths_of_lists(rt: &impl Print) -> io::Result<()> {
+    let map = &mut [0; 39];
+    let main = &mut [0; 2];
+    let heap = &mut [2, 0];
     let registers = &mut [0; REGISTER_BYTES];
-    on(
-        rt,
-        b"A in short lists",
-        &mut [0; 39],
-        &mut [0; 2],
-        &mut [2, 0],
-        registers,
-    )?;
-    on(rt, b"2", &mut [0; 38], &mut [0; 2], &mut [2, 0], registers)?;
-    on(rt, b"10", &mut [0; 39], &mut [0; 1], &mut [2, 0], registers)
+    on(rt, b"A in short lists", map, main, heap, registers)?;
+    on(rt, b"2", &mut [0; 38], main, heap, registers)?;
+    on(rt, b"10", map, &mut [0; 1], heap, registers)
 }
 
 // Refusal 13 in start: register lists of other lengths; beside a list that is too short, it comes first.

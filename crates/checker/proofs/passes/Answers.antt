@@ -4,7 +4,7 @@ use native.Mathlib.Omega.{arith}
 use lib.ListN.{length, replicate}
 use Rattle.model.specs.Checker.{none}
 use Rattle.check_scan.specs.Heading.{ScanMarked}
-use Rattle.checker.specs.Parts.{look-whole, look-begun}
+use Rattle.checker.specs.Parts.{look-whole, look-begun-cut}
 use Rattle.checker.proofs.passes.Goals as goal
 use Rattle.checker.proofs.passes.Goals.{In_ok-found}
 
@@ -21,4 +21,4 @@ heads_of-requires c = marked-at (goal.at.heads_of-requires c).In_ok-found
 pub flow-requires : goal.flow-requires
 flow-requires c =
     let H = c.in_ok-k.ensures in
-    look-begun c.args.file.now c.scan.new.m c.scan.new.table _ _ (marked-at (goal.at.flow-requires c).In_ok-found) c.heads_of.new.m c.in_ok-k.k (omega (arith, H.1.few)) H
+    look-begun-cut c.args.file.now c.scan.new.m c.scan.new.table _ _ (marked-at (goal.at.flow-requires c).In_ok-found) c.heads_of.new.m c.in_ok-k.k (omega (arith, H.1.few)) H
