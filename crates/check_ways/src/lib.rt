@@ -281,13 +281,13 @@ pub fn plain(
         procedure,
     };
     let to = at.comes_to(file, heads, kind)?;
-    if let Some(depths) = to.depths {
+    if to.goes {
         pass_one(
             m,
             to.next,
             State {
-                main: depths.main,
-                ptr: depths.ptr,
+                main: to.depths.main,
+                ptr: to.depths.ptr,
                 inner: s.inner,
             },
         )?;
