@@ -1,6 +1,6 @@
 -- What an instruction comes to that leads to the next one alone, or nowhere, by its shape: a refusal, or the place behind it and the depths
 -- there (`plainly`). A row of the code is such a shape.
-use Rattle.std.specs.Prelude.{ℕ, suc, ◌+◌, ◌-◌, ◌<◌, ◌≤◌, Bool, true, false, Some, None, Result, Ok, Err, List, ◌≡◌, ltb}
+use Rattle.std.specs.Prelude.{ℕ, suc, ◌+◌, ◌-◌, ◌<◌, ◌≤◌, Bool, true, false, Result, Ok, Err, List, ◌≡◌, ltb}
 use Rattle.std.proofs.Common.{arith}
 use borrow.Author.Tests.{lt-ltb, le-ltb, le-leb}
 use Rattle.model.specs.Choice.{when◌then◌else◌}
@@ -32,13 +32,10 @@ onward_by known set on depths r =
     when known then (when set then (when on then (when depths then Ok r else Err refusal.Depths) else Err refusal.Reach) else Err refusal.Reach)
     else Err refusal.Target
 
--- the place q behind an instruction, and the depths that its shape passes on there from the state s
+-- the place q behind an instruction, the depths that its shape makes there of those of the state s, and whether they pass on
 abbrev pub onward_to : State → ℕ → Shape → Onward
 onward_to s q sh =
-    record {
-      next = q;
-      depths = (when goes_by sh.way then Some (record { main = (moved (effect_in sh) s).main; ptr = (moved (effect_in sh) s).ptr }) else None);
-    }
+    record { next = q; depths = record { main = (moved (effect_in sh) s).main; ptr = (moved (effect_in sh) s).ptr }; goes = goes_by sh.way }
 
 -- from the state s, with o at the innermost open 160, to the place q
 unfoldable pub plainly : State → State → Procedure → ℕ → Shape → Result Onward Refusal

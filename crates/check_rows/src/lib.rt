@@ -63,11 +63,12 @@ pub struct Depths {
     pub ptr: usize,
 }
 
-// What an instruction comes to that is not refused: the place behind it, and the depths that pass there, if the state passes on.
+// What an instruction comes to that is not refused: the place behind it, the depths there, and whether the state passes on.
 #[derive(Clone, Copy)]
 pub struct Onward {
     pub next: usize,
-    pub depths: Option<Depths>,
+    pub depths: Depths,
+    pub goes: bool,
 }
 
 // A row that names no frame word.
@@ -141,7 +142,8 @@ impl Instruction {
             let ptr = self.state.ptr - row.popp + row.pushp;
             return Ok(Onward {
                 next,
-                depths: Some(Depths { main, ptr }),
+                depths: Depths { main, ptr },
+                goes: true,
             });
         }
         Err(Refusal::Depths)
@@ -162,7 +164,7 @@ impl Instruction {
         self.moves(self.place + size, effect(popm, popp, pushm, pushp))
     }
 
-    // 162: the state passes nowhere.
+    // 162: a word is popped, and the state passes nowhere.
     fn raises(self) -> Result<Onward, Refusal>
         ensures { result ≡ plainly (as_state self.state) (as_state self.outer) self.procedure (self.place + 1) (row_shape Raise (row 1 0 0 0 0 0)) }
     {
@@ -170,9 +172,12 @@ impl Instruction {
             return Err(Refusal::Reach);
         }
         if self.depths_ok(effect(1, 0, 0, 0)) {
+            let main = self.state.main - 1;
+            let ptr = self.state.ptr;
             return Ok(Onward {
                 next: self.place + 1,
-                depths: None,
+                depths: Depths { main, ptr },
+                goes: false,
             });
         }
         Err(Refusal::Depths)

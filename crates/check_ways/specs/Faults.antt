@@ -26,9 +26,9 @@ pub record StateIs (m : List ℕ) (q : ℕ) (r : Numbers) : Type 0 where
   pub inner_small : r.inner < 65536
 
 -- the state there, or refusal 6 where none has come
-abbrev pub Reached : List ℕ → ℕ → Result Numbers Refusal → Type 0
-Reached m q (Ok s) = StateIs m q s × (is_set_in (as_state s) ≡ true)
-Reached m q (Err r) = (r ≡ Reach) × (is_set_in (state_in m q) ≡ false)
+abbrev pub ReachedState : List ℕ → ℕ → Result Numbers Refusal → Type 0
+ReachedState m q (Ok s) = StateIs m q s × (is_set_in (as_state s) ≡ true)
+ReachedState m q (Err r) = (r ≡ Reach) × (is_set_in (state_in m q) ≡ false)
 
 pub record OuterIs (m : List ℕ) (s : State) (r : Numbers) : Type 0 where
   pub is : as_state r ≡ innermost (state_in m) s

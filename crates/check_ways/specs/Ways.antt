@@ -1,6 +1,6 @@
 -- Taking an instruction by its shape: the model's tests on it in their order (`by_shape`), and for each way that an instruction can lead what
 -- is left of them. Depths that stay as they are need no test (`still`).
-use Rattle.std.specs.Prelude.{ℕ, suc, ◌+◌, ◌-◌, ◌*◌, ◌<◌, ◌≤◌, Bool, not, ◌&&◌, List, [], ◌∷◌, ◌++◌, Option, Some, None, Result, Ok, Err, IfOk, ◌≡◌, ltb, leb, eqb, length}
+use Rattle.std.specs.Prelude.{ℕ, suc, ◌+◌, ◌-◌, ◌*◌, ◌<◌, ◌≤◌, Bool, not, ◌&&◌, List, [], ◌∷◌, ◌++◌, Result, Ok, Err, IfOk, ◌≡◌, ltb, leb, eqb, length}
 use Rattle.std.proofs.Math.Bool.{true, false}
 use Rattle.std.proofs.Common.{true≢false, ◌∙◌, arith, ltb-true}
 use Rattle.std.proofs.Math.Path.{refl, ap, sym}
@@ -8,7 +8,7 @@ use Rattle.std.proofs.Math.Nat.{add-zero, sub-zero}
 use Rattle.model.specs.Choice.{when◌then◌else◌}
 use Rattle.model.specs.File.{Ins, basic, jump, branch, branch_keep, call, return, enter, exit, raise, body_of, byte_at, ins_of, ins_at, after, head_of}
 use Rattle.model.specs.File.{proc_at, results_main, results_ptr, greatest_main, greatest_ptr, file_most}
-use Rattle.model.specs.Checker.{none, State, state, effect, moved, innermost, own, Taking, bad, good, need}
+use Rattle.model.specs.Checker.{none, State, state, effect, innermost, own, Taking, bad, good, need}
 use Rattle.laws_file.specs.Kinds.{NoneOf}
 use Rattle.code_file.specs.declared.Head.{Head}
 use Rattle.code_file.specs.Heads.{head_bytes, HeadIs}
@@ -22,7 +22,7 @@ use Rattle.model.specs.Refusals.{number_of, fault_of}
 use Rattle.check_rows.specs.Shape.{Way, Next, Jump, Branch, Keep, Open, Close, Return, Shape, shape, shape_of}
 use Rattle.check_rows.specs.Site as site
 use Rattle.check_rows.specs.Site.{Site}
-use Rattle.check_rows.specs.Tests.{as_state, goes_by, jumps_by, target_ok, stacks_ok, depth_ok, leave_ok, effect_in, next_state, target_state, PopsFit}
+use Rattle.check_rows.specs.Tests.{as_state, goes_by, jumps_by, target_ok, stacks_ok, depth_ok, leave_ok, next_state, target_state, PopsFit}
 use Rattle.check_rows.specs.Tests.{stacks-fit, target-tests, next-tests, depth-tests, leave-tests, passes-are}
 use Rattle.check_rows.specs.Rows.{row, row_shape, is_set_in, onward_by, onward_to, plainly, Bounded, still}
 use Rattle.check_rows.specs.Kinds.{NoJump, elsewhere, straight?, straight, body-jumps}
@@ -102,15 +102,15 @@ pub all-passed : {x k : Taking (List ℕ)} → Judged x [] k → x ≡ k
 unfolding judged
 all-passed w = w.is
 
--- the depths that pass to the next instruction, if any do
-abbrev pub Passing : List ℕ → List ℕ → ℕ → Procedure → ℕ → Option Depths → Type 0
-Passing f m p l q None = good m ≡ take_in f p m
-Passing f m p l q (Some d) =
+-- the depths that pass to the next instruction, if they do
+abbrev pub PassesOn : List ℕ → List ℕ → ℕ → Procedure → ℕ → Depths → Bool → Type 0
+PassesOn f m p l q d false = good m ≡ take_in f p m
+PassesOn f m p l q d true =
     (take_in f p m ≡ pass_one_in m (after f p) (state d.main d.ptr (state_in m p).inner)) × (q < l.end) × (d.main ≤ l.x) × (d.ptr ≤ l.y)
 
 abbrev pub ComesTo : List ℕ → List ℕ → ℕ → Procedure → Result Onward Refusal → Type 0
 ComesTo f m p l (Err r) = take_ans (number_of r) m ≡ take_in f p m
-ComesTo f m p l (Ok r) = (r.next ≡ after f p) × Passing f m p l r.next r.depths
+ComesTo f m p l (Ok r) = (r.next ≡ after f p) × PassesOn f m p l r.next r.depths r.goes
 
 -- what comes of an instruction that leads to the next one alone, or nowhere
 pub record Onwards (f m : List ℕ) (p : ℕ) (l : Procedure) (r : Result Onward Refusal) : Type 0 where
@@ -320,27 +320,24 @@ module _ (f m : List ℕ) (h p : ℕ) (l : Procedure) (H : Here f m h l.end p) (
   takes-plain e = go (ins_at f p) refl e
     where
       -- by the four tests
-      out : (known set on d g : Bool) (r : Onward) (v : Depths) (k : Taking (List ℕ)) →
+      out : (known set on d g : Bool) (r : Onward) (k : Taking (List ℕ)) →
           take_in f p m ≡ need known 5 (need (set && on) 6 (need (when d then true else false) 7 k)) → r.next ≡ after f p →
-          r.depths ≡ (when g then Some v else None) →
+          r.goes ≡ g →
           (d ≡ true → on ≡ true → g ≡ true →
-          (k ≡ pass_one_in m (after f p) (state v.main v.ptr s.inner)) × (after f p < l.end) × (v.main ≤ l.x) × (v.ptr ≤ l.y)) →
+          (k ≡ pass_one_in m (after f p) (state r.depths.main r.depths.ptr s.inner)) × (after f p < l.end) × (r.depths.main ≤ l.x) × (r.depths.ptr ≤ l.y)) →
           (g ≡ false → k ≡ good m) → Onwards f m p l (onward_by known set on d r)
-      out false set on d g r v k w q e h n = record { comes = sym w }
-      out true false on d g r v k w q e h n = record { comes = sym w }
-      out true true false d g r v k w q e h n = record { comes = sym w }
-      out true true true false g r v k w q e h n = record { comes = sym w }
-      out true true true true true r v k w q e h n = let u = h refl refl refl in record { comes = (q, rw e (w ∙ u.0, rw q u.1, u.2, u.3)) }
-      out true true true true false r v k w q e h n = record { comes = (q, rw e (sym (w ∙ n refl))) }
+      out false set on d g r k w q e h n = record { comes = sym w }
+      out true false on d g r k w q e h n = record { comes = sym w }
+      out true true false d g r k w q e h n = record { comes = sym w }
+      out true true true false g r k w q e h n = record { comes = sym w }
+      out true true true true true r k w q e h n = let u = h refl refl refl in record { comes = (q, rw e (w ∙ u.0, rw q u.1, u.2, u.3)) }
+      out true true true true false r k w q e h n = record { comes = (q, rw e (sym (w ∙ n refl))) }
 
       fits : (sh : Shape) → stacks_ok sh s o l.x l.y ≡ true → PopsFit sh s l.x l.y
       fits sh d = stacks-fit sh s o l.x l.y d
 
       result : Shape → Onward
       result sh = onward_to s (after f p) sh
-
-      passed : Shape → Depths
-      passed sh = record { main = (moved (effect_in sh) s).main; ptr = (moved (effect_in sh) s).ptr }
 
       ends : Shape → Taking (List ℕ)
       ends sh = pass_all_in ((after f p, next_state sh p s o) ∷ []) m
@@ -351,17 +348,17 @@ module _ (f m : List ℕ) (h p : ℕ) (l : Procedure) (H : Here f m h l.end p) (
       go : (i : Ins) → ins_at f p ≡ i → straight? i ≡ true → Onwards f m p l (plainly s o l (after f p) (shape_of f p i))
       go (basic b) z y =
           let sh = shape_of f p (basic b) in
-          out true (is_set_in s) (ltb (after f p) l.end) (deep sh) true (result sh) (passed sh) (ends sh) (by_shape sh (ap (shape_of f p) z)) refl refl
+          out true (is_set_in s) (ltb (after f p) l.end) (deep sh) true (result sh) (ends sh) (by_shape sh (ap (shape_of f p) z)) refl refl
           (λ d on g. let w = fits sh d in (and-end _, ltb-true (after f p) l.end on, w.main_within, w.ptr_within))
           (λ g. absurd (true≢false g))
       go (call n) z y =
           let sh = shape_of f p (call n) in
-          out sh.known (is_set_in s) (ltb (after f p) l.end) (deep sh) true (result sh) (passed sh) (ends sh) (by_shape sh (ap (shape_of f p) z)) refl refl
+          out sh.known (is_set_in s) (ltb (after f p) l.end) (deep sh) true (result sh) (ends sh) (by_shape sh (ap (shape_of f p) z)) refl refl
           (λ d on g. let w = fits sh d in (and-end _, ltb-true (after f p) l.end on, w.main_within, w.ptr_within))
           (λ g. absurd (true≢false g))
       go raise z y =
           let sh = shape_of f p raise in
-          out true (is_set_in s) true (deep sh) false (result sh) (passed sh) (good m) (by_shape sh (ap (shape_of f p) z)) refl refl
+          out true (is_set_in s) true (deep sh) false (result sh) (good m) (by_shape sh (ap (shape_of f p) z)) refl refl
           (λ d on g. absurd (true≢false (sym g)))
           (λ g. refl)
       go (jump q) z y = absurd (true≢false (sym y))
@@ -489,20 +486,20 @@ module _ {f m : List ℕ} {p : ℕ} {l : Procedure} {r : Onward} (W : Onwards f 
   pub onwards-on : r.next ≡ after f p
   onwards-on = W.comes.0
 
-  pub onwards-stopped : r.depths ≡ None → good m ≡ take_in f p m
+  pub onwards-stopped : r.goes ≡ false → good m ≡ take_in f p m
   onwards-stopped e = rw e at W.comes.1
 
-  module _ {d : Depths} (e : r.depths ≡ Some d) where
-    pub onwards-passing : Passing f m p l r.next (Some d)
+  module _ (e : r.goes ≡ true) where
+    pub onwards-passing : PassesOn f m p l r.next r.depths true
     onwards-passing = rw e at W.comes.1
 
-    pub onwards-passed : {s : Numbers} → StateIs m p s → (n : ℕ) (m' : List ℕ) → take_ans n m' ≡ pass_one_in m r.next (state d.main d.ptr s.inner) →
+    pub onwards-passed : {s : Numbers} → StateIs m p s → (n : ℕ) (m' : List ℕ) → take_ans n m' ≡ pass_one_in m r.next (state r.depths.main r.depths.ptr s.inner) →
         take_ans n m' ≡ take_in f p m
     onwards-passed {s} S n m' e = let z : s.inner ≡ (state_in m p).inner = ap (λ (u : State). u.inner) S.is in (rw (onwards-on, z) at e) ∙ sym onwards-passing.0
 
     -- what passing that state on answers is what taking the instruction leaves
     pub plain-passed : {s : Numbers} → StateIs m p s → (x : Result ℕ Refusal) (m' : List ℕ) →
-        take_ans (fault_of x) m' ≡ pass_one_in m r.next (state d.main d.ptr s.inner) → IfOk x (λ q. q ≡ r.next) → Took f p m m' x
+        take_ans (fault_of x) m' ≡ pass_one_in m r.next (state r.depths.main r.depths.ptr s.inner) → IfOk x (λ q. q ≡ r.next) → Took f p m m' x
     plain-passed S (Ok q) m' w h = record { is = onwards-passed S 0 m' w; on = h ∙ onwards-on }
     plain-passed S (Err e) m' w h = record { is = onwards-passed S (number_of e) m' w; on = tt }
 
@@ -512,7 +509,7 @@ next_in (Ok r) = Ok r.next
 next_in (Err e) = Err e
 
 -- an instruction that is refused, or passes no state on, leaves the map as it was
-pub plain-stopped : {f m : List ℕ} {p : ℕ} {l : Procedure} (r : Result Onward Refusal) → Onwards f m p l r → IfOk r (λ o. o.depths ≡ None) →
+pub plain-stopped : {f m : List ℕ} {p : ℕ} {l : Procedure} (r : Result Onward Refusal) → Onwards f m p l r → IfOk r (λ o. o.goes ≡ false) →
     Took f p m m (next_in r)
 plain-stopped (Ok r) W h = record { is = onwards-stopped W h; on = onwards-on W }
 plain-stopped (Err e) W h = record { is = W.comes; on = tt }

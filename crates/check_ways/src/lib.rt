@@ -12,7 +12,7 @@ ghost use Rattle.check_rows.specs.Site.{Table};
 ghost use Rattle.check_rows.specs.Kinds.{NoJump, elsewhere};
 ghost use Rattle.check_rows.specs.Tests.{as_state};
 ghost use Rattle.check_ways.specs.Takes.{own_in, pass_one_in, pass_all_in, take_in};
-ghost use Rattle.check_ways.specs.Faults.{take_ans, StateIs, Reached, OuterIs, HandlerIn, Fitting};
+ghost use Rattle.check_ways.specs.Faults.{take_ans, StateIs, ReachedState, OuterIs, HandlerIn, Fitting};
 ghost use Rattle.check_ways.specs.Ways.{leads_to, branch_way, Led, Among, Took};
 
 use check_rows::{Instruction, Procedure, State};
@@ -35,7 +35,7 @@ fn state_in(m: &[u16], q: usize) -> State
 // The state at p, if one has come there. Refusal 6.
 fn reached(m: &[u16], p: usize) -> Result<State, Refusal>
     requires { (3 * p + 2 < length m.now) × (p < file_most) }
-    ensures { Reached m.now p result }
+    ensures { ReachedState m.now p result }
 {
     let s = state_in(m, p);
     if s.main < UNREACHED_DEPTH {
@@ -281,13 +281,13 @@ pub fn plain(
         procedure,
     };
     let to = at.comes_to(file, heads, kind)?;
-    if let Some(depths) = to.depths {
+    if to.goes {
         pass_one(
             m,
             to.next,
             State {
-                main: depths.main,
-                ptr: depths.ptr,
+                main: to.depths.main,
+                ptr: to.depths.ptr,
                 inner: s.inner,
             },
         )?;

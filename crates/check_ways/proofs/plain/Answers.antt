@@ -19,7 +19,7 @@ pass_one-requires c =
     let A = c.requires.1 in
     let S = c.state_in-s.ensures in
     let W = onwards-taken A c.requires.2 c.requires.3 S c.outer_of-o.ensures c.in_ok-to.ensures in
-    let w = onwards-passing W c.in-Some.is in
+    let w = onwards-passing W c.if-to.true in
     let x = bounded-here S {l = c.args.procedure} A.here A.bounds c.outer_of-o.ensures in
     fitting (next_place A.here _ w.1) (omega (arith, w.2, x.x_byte)) (omega (arith, w.3, x.y_byte)) S.inner_small
 
@@ -35,15 +35,15 @@ returns-in_err-pass_one c =
     let W = onwards-taken c.requires.1 c.requires.2 c.requires.3 S c.outer_of-o.ensures c.in_ok-to.ensures in
     let r = c.from_residual-in_err-pass_one in
     let p = err_from_is_err_and r.result r.ensures.1 in
-    rw (p.1, p.2) (took_not (onwards-passed W c.in-Some.is S _ _ c.in_err-pass_one.ensures))
+    rw (p.1, p.2) (took_not (onwards-passed W c.if-to.true S _ _ c.in_err-pass_one.ensures))
 
 pub returns-in_ok-pass_one : goal.returns-in_ok-pass_one
 returns-in_ok-pass_one c =
     let S = c.state_in-s.ensures in
     let W = onwards-taken c.requires.1 c.requires.2 c.requires.3 S c.outer_of-o.ensures c.in_ok-to.ensures in
-    record { is = onwards-passed W c.in-Some.is S 0 _ c.in_ok-pass_one.ensures; on = onwards-on W }
+    record { is = onwards-passed W c.if-to.true S 0 _ c.in_ok-pass_one.ensures; on = onwards-on W }
 
-pub returns-in_default : goal.returns-in_default
-returns-in_default c =
+pub returns-else-to : goal.returns-else-to
+returns-else-to c =
     let W = onwards-taken c.requires.1 c.requires.2 c.requires.3 c.state_in-s.ensures c.outer_of-o.ensures c.in_ok-to.ensures in
-    record { is = onwards-stopped W c.in_default.is; on = onwards-on W }
+    record { is = onwards-stopped W c.if-to.false; on = onwards-on W }
