@@ -52,10 +52,10 @@ pub cut-drops : {main ptr : List ℕ} {r : Regs} {put : Put} {main' ptr' : List 
 cut-drops D em ep = (D.retract, λ e. rw (em, length_cut) (D.in_main e), λ e. rw (ep, length_cut) (D.in_ptr e))
 
 -- the words from t on zeroed, k of them; behind those all is 0 already
-pub cleared : (t k : ℕ) (l : List ℕ) → t + k ≤ length l → ((i : ℕ) → t + k ≤ i → word_at l i ≡ 0) → take t l ++ (replicate k 0 ++ drop k (drop t l)) ≡ cut t l
+pub fill-cuts : (t k : ℕ) (l : List ℕ) → t + k ≤ length l → ((i : ℕ) → t + k ≤ i → word_at l i ≡ 0) → take t l ++ (replicate k 0 ++ drop k (drop t l)) ≡ cut t l
 unfolding cut
-cleared zero zero l h z = sym (cut-same 0 l (λ i u. z i (omega arith)))
-cleared zero (suc k) [] h z = absurd (omega arith)
-cleared zero (suc k) (w ∷ l) h z = ap (λ (x : List ℕ). 0 ∷ x) (cleared zero k l (omega arith) (λ i u. z (suc i) (omega arith)))
-cleared (suc t) k [] h z = absurd (omega arith)
-cleared (suc t) k (w ∷ l) h z = ap (λ (x : List ℕ). w ∷ x) (cleared t k l (omega arith) (λ i u. z (suc i) (omega arith)))
+fill-cuts zero zero l h z = sym (cut-same 0 l (λ i u. z i (omega arith)))
+fill-cuts zero (suc k) [] h z = absurd (omega arith)
+fill-cuts zero (suc k) (w ∷ l) h z = ap (λ (x : List ℕ). 0 ∷ x) (fill-cuts zero k l (omega arith) (λ i u. z (suc i) (omega arith)))
+fill-cuts (suc t) k [] h z = absurd (omega arith)
+fill-cuts (suc t) k (w ∷ l) h z = ap (λ (x : List ℕ). w ∷ x) (fill-cuts t k l (omega arith) (λ i u. z (suc i) (omega arith)))

@@ -43,22 +43,24 @@ in-past first count far f l = rw (← f, le-ltb far count l)
 pub in-found : (first count far : ℕ) {z : ℤ} → pos far ≡ z → far < count → element_in first count z ≡ found (first + far)
 in-found first count far f l = rw (← f, lt-ltb far count l)
 
--- the object q and the index i
-module _ (d : Side) (h : List ℕ) (q i : ℕ) where
-  pub nil-sought : q ≡ 0 → element_of d h q i ≡ of_nil
+-- the object q, which is read as r, and the index i
+module _ (d : Side) (h : List ℕ) (q i : ℕ) {r : ℕ} (e : r ≡ q) where
+  pub nil-sought : r ≡ 0 → element_of d h q i ≡ of_nil
   unfolding element_of
-  nil-sought z = rw (eq-eqb q 0 z)
+  nil-sought z = rw (← e, eq-eqb r 0 z)
 
-  module _ (n : q ≢ 0) where
-    pub other-kind : kind_at h q ≢ vector_kind d → element_of d h q i ≡ nowhere
+  -- its kind is read as k
+  module _ (n : r ≢ 0) {k : ℕ} (is : k ≡ kind_at h r) where
+    pub other-kind : k ≢ vector_kind d → element_of d h q i ≡ nowhere
     unfolding element_of
-    other-kind u = rw (ne_eqb q 0 n, ne_eqb (kind_at h q) (vector_kind d) u)
+    other-kind u = rw (← e, ne_eqb r 0 n, ← is, ne_eqb k (vector_kind d) u)
 
-    -- of a vector, as its elements are counted and its bound is read
-    pub sought : kind_at h q ≡ vector_kind d → {count bound : ℕ} → count ≡ elements_at d h q → bound ≡ bound_at h q →
-        element_of d h q i ≡ element_in (q + first_element d) count (signed i -ℤ signed bound)
-    unfolding element_of
-    sought u c b = rw (ne_eqb q 0 n, eq-eqb (kind_at h q) (vector_kind d) u, ← c, ← b)
+-- of a vector, as its elements are counted and its bound is read
+module _ (d : Side) (h : List ℕ) (q i : ℕ) (n : q ≢ 0) where
+  pub sought : kind_at h q ≡ vector_kind d → {count bound : ℕ} → count ≡ elements_at d h q → bound ≡ bound_at h q →
+      element_of d h q i ≡ element_in (q + first_element d) count (signed i -ℤ signed bound)
+  unfolding element_of
+  sought u c b = rw (ne_eqb q 0 n, eq-eqb (kind_at h q) (vector_kind d) u, ← c, ← b)
 
 -- the object q, which is read as r, its kind as k, the number of its elements and its bound: the index below the bound, past the elements, or found
 module _ (d : Side) (h : List ℕ) (q i : ℕ) {r : ℕ} (e : r ≡ q) (n : r ≢ 0) {k : ℕ} (is : k ≡ kind_at h r) (u : k ≡ vector_kind d)

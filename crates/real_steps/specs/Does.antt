@@ -46,17 +46,17 @@ Does l r q t l' i =
     ≡ rule f (record { regs = r; main = l; ptr = ptr; ctl = ctl; heap = heap }) q i
 
 -- that; and where 1 is raised the main stack stays, where it is not the state register
-pub record Stepped (l : List ℕ) (r : Regs) (q : ℕ) (t : Option Regs) (l' : List ℕ) (i : Ins) : Type 0 where
+pub record RealStepped (l : List ℕ) (r : Regs) (q : ℕ) (t : Option Regs) (l' : List ℕ) (i : Ins) : Type 0 where
   pub does : Does l r q t l' i
   pub kept : IfNone t (l' ≡ l)
   pub running : IfSome t (λ r'. r'.state ≡ r.state)
 
 -- both follow where the registers are those moved on, and where nothing is written
 module _ {l : List ℕ} {r : Regs} {q : ℕ} {i : Ins} where
-  pub moves-on : {t : ℕ} {l' : List ℕ} → Does l r q (Some (moved_on r q t)) l' i → Stepped l r q (Some (moved_on r q t)) l' i
+  pub moves-on : {t : ℕ} {l' : List ℕ} → Does l r q (Some (moved_on r q t)) l' i → RealStepped l r q (Some (moved_on r q t)) l' i
   moves-on d = record { does = d; kept = tt; running = refl }
 
-  pub raises : Does l r q None l i → Stepped l r q None l i
+  pub raises : Does l r q None l i → RealStepped l r q None l i
   raises d = record { does = d; kept = refl; running = tt }
 
 -- what is asked: an instruction on reals stands at the place, its record is in the file, the words popped are there, and those pushed fit

@@ -8,7 +8,7 @@ ghost use Rattle.model.specs.File as model;
 ghost use Rattle.model.specs.Calls.{main_most};
 ghost use Rattle.laws.specs.Cuts.{Topped};
 ghost use Rattle.reals.specs.Given.{as_point};
-ghost use Rattle.real_steps.specs.Does.{real_at, point_at, put_real, moved_on, Does, Stepped, RealHere};
+ghost use Rattle.real_steps.specs.Does.{real_at, point_at, put_real, moved_on, Does, RealStepped, RealHere};
 
 use model::Regs;
 use reals::Point;
@@ -56,7 +56,7 @@ fn put_real(main: &mut [u32], i: usize, x: f64)
 // 53: no f64 is made of its words, so that every pattern stays as it is.
 fn literal(file: &[u8], main: &mut [u32], regs: Regs, next: usize) -> Option<Regs>
     requires { (regs.place + 8 < length file.now) × (regs.mtop + 1 < length main.old) }
-    ensures { Stepped main.old regs next result main.new (model.ins_of file.now regs.place 53) }
+    ensures { RealStepped main.old regs next result main.new (model.ins_of file.now regs.place 53) }
 {
     let top = regs.mtop;
     main[top] = code_file::operand4(file, regs.place);
@@ -67,7 +67,7 @@ fn literal(file: &[u8], main: &mut [u32], regs: Regs, next: usize) -> Option<Reg
 // 150 to 153.
 fn operation(main: &mut [u32], regs: Regs, next: usize, kind: u8) -> Option<Regs>
     requires { Topped regs.mtop main.old × (4 ≤ regs.mtop) × ((kind ≡ 150) ⊎ ((kind ≡ 151) ⊎ ((kind ≡ 152) ⊎ (kind ≡ 153)))) }
-    ensures { (f : List ℕ) (p : ℕ) → Stepped main.old regs next result main.new (model.ins_of f p kind) }
+    ensures { (f : List ℕ) (p : ℕ) → RealStepped main.old regs next result main.new (model.ins_of f p kind) }
 {
     let at = regs.mtop - 4;
     let x = reals::operate(kind, real_at(main, at), real_at(main, at + 2));
@@ -82,7 +82,7 @@ fn operation(main: &mut [u32], regs: Regs, next: usize, kind: u8) -> Option<Regs
 // 155.
 fn less(main: &mut [u32], regs: Regs, next: usize) -> Option<Regs>
     requires { Topped regs.mtop main.old × (4 ≤ regs.mtop) }
-    ensures { Stepped main.old regs next result main.new (model.basic model.real_less) }
+    ensures { RealStepped main.old regs next result main.new (model.basic model.real_less) }
 {
     let at = regs.mtop - 4;
     let word = reals::less(real_at(main, at), real_at(main, at + 2));
@@ -94,7 +94,7 @@ fn less(main: &mut [u32], regs: Regs, next: usize) -> Option<Regs>
 // 156.
 fn hoop(main: &mut [u32], regs: Regs, next: usize) -> Option<Regs>
     requires { Topped regs.mtop main.old × (10 ≤ regs.mtop) × (length main.old ≤ main_most) }
-    ensures { Stepped main.old regs next result main.new (model.basic model.hoop) }
+    ensures { RealStepped main.old regs next result main.new (model.basic model.hoop) }
 {
     let at = regs.mtop - 10;
     let shift = point_at(main, at + 4);

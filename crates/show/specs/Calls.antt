@@ -32,11 +32,11 @@ abbrev pub begin_of : ℕ → Lent → After
 begin_of budget l = run_if_ready budget (start_of l).answer (start_of l).lists
 
 -- the main top; 0 where the list has another length than the registers
-abbrev pub main_top : List ℕ → ℕ
-main_top bytes = if length bytes == register_bytes then (regs_from bytes).mtop else 0
+abbrev pub shown_top : List ℕ → ℕ
+shown_top bytes = if length bytes == register_bytes then (regs_from bytes).mtop else 0
 
-abbrev pub main_words : Lists → List ℕ
-main_words l = take (min (main_top l.registers.now) (length l.main.now)) l.main.now
+abbrev pub shown_words : Lists → List ℕ
+shown_words l = take (min (shown_top l.registers.now) (length l.main.now)) l.main.now
 
 -- Manual 7.3: what the bench lends with a file
 pub record IsBench (l : Lists) : Type 0 where

@@ -7,7 +7,7 @@ ghost use Rattle.std.specs.Prelude.{◌≡◌};
 ghost use Rattle.model.specs.Calls.{answers, start_of, run_of};
 ghost use Rattle.std.specs.Fn.{FnOnceReturnsAtMut};
 ghost use Rattle.show.specs.declared.Lists.{Lists};
-ghost use Rattle.show.specs.Calls.{IsBench, lent, begin_of, main_words};
+ghost use Rattle.show.specs.Calls.{IsBench, lent, begin_of, shown_words};
 
 pub use line::Line;
 use model::{Answer, FILE_MOST, REGISTER_BYTES};
@@ -66,7 +66,7 @@ impl Lists<'_> {
     // The line for an answer, with the words below the main top; with none where the registers have another length.
     pub fn line(&self, answer: Answer) -> Line<'_>
         ensures told { result.answer ≡ answer }
-        ensures words { result.main.now ≡ main_words self.now }
+        ensures words { result.main.now ≡ shown_words self.now }
     {
         let top = if self.registers.len() == REGISTER_BYTES {
             registers::regs_from(self.registers).mtop

@@ -5,7 +5,7 @@ use Prim.Native.Nat.{ℕ, ◌-◌}
 use Rattle.std.proofs.lemmas.Grind.{common_steps}
 use Rattle.std.specs.Prelude.{replicate, take, drop, length}
 use Rattle.laws.specs.Cuts.{cut-above}
-use Rattle.apply_words.specs.Laws.{cleared}
+use Rattle.apply_words.specs.Laws.{fill-cuts}
 use Rattle.apply_words.proofs.cut_to.Goals as goal
 
 pub returns-then-old-new : goal.returns-then-old-new
@@ -16,4 +16,4 @@ returns c =
     let k = c.args.old - c.args.new in
     let d : length (take k (drop c.args.new c.args.l.now)) ≡ k = grind (arith, common_steps) in
     let e : c.fill.new.self ≡ replicate k 0 = c.fill.ensures.after (λ y h. h) ∙ ap (λ (n : ℕ). replicate n 0) d in
-    rw e (cleared c.args.new k c.args.l.now (omega arith) (λ i h. c.requires.zero i (omega arith)))
+    rw e (fill-cuts c.args.new k c.args.l.now (omega arith) (λ i h. c.requires.zero i (omega arith)))

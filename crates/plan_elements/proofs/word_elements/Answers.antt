@@ -47,14 +47,14 @@ pub returns-then-object-eq0 : goal.returns-then-object-eq0
 unfolding planned plan_of basic_plan ins_of
 returns-then-object-eq0 c =
     let S = c.args in
-    let n = nil-sought on_main S.heap.now (word_at S.ptr.now (S.regs.ptop - 1)) (word_at S.main.now (S.regs.mtop - 1)) c.if-object-eq0.true in
+    let n = nil-sought on_main S.heap.now (word_at S.ptr.now (S.regs.ptop - 1)) (word_at S.main.now (S.regs.mtop - 1)) refl c.if-object-eq0.true in
     λ f m. ⊎_elim (λ e. rw e (rw n)) (λ e. rw e (rw n)) c.requires.7
 
 pub returns-then-ne : goal.returns-then-ne
 unfolding planned plan_of basic_plan ins_of
 returns-then-ne c =
     let S = c.args in
-    let o = other-kind on_main S.heap.now (word_at S.ptr.now (S.regs.ptop - 1)) (word_at S.main.now (S.regs.mtop - 1)) c.if-object-eq0.false (not-words c) in
+    let o = other-kind on_main S.heap.now (word_at S.ptr.now (S.regs.ptop - 1)) (word_at S.main.now (S.regs.mtop - 1)) refl c.if-object-eq0.false refl (not-words c) in
     λ f m. ⊎_elim (λ e. rw e (rw o)) (λ e. rw e (rw o)) c.requires.7
 
 pub returns-in_default : goal.returns-in_default
