@@ -10,7 +10,7 @@ use borrow.Author.Tests.{le-leb}
 use Rattle.model.specs.Heap.{mark_of, ptrs_at, size_at, Object, fault, clean, and_object}
 use Rattle.model.specs.Heap.{walk}
 use Rattle.audit_heap.specs.declared.BadWord.{BadWord}
-use Rattle.audit_heap.specs.Checked.{Checked, faultless}
+use Rattle.audit_heap.specs.Judgement.{Judgement, faultless}
 use Rattle.audit_heap.specs.First.{walked, or_audit}
 use Rattle.audit_heap.specs.Found.{Range, fault_at, objects_found, Walked}
 use Rattle.numbers.specs.Small.{Small}
@@ -23,7 +23,7 @@ module _ (h : List ℕ) (q links : ℕ) (t : List Bool) (M : Marking h q links t
   step_of a zero e = absurd (omega arith)
   step_of a (suc n) e = let p : suc n - 1 ≡ n = omega arith in rw p (walk_step h q (mark_of h) n a)
 
-  pub marking-fault : (a : Checked) (p : BadWord) (t' : List Bool) → q < mark_of h → a ≡ fault_at h q (mark_of h) → a ≡ Err p → Walked h (Err p) t'
+  pub marking-fault : (a : Judgement) (p : BadWord) (t' : List Bool) → q < mark_of h → a ≡ fault_at h q (mark_of h) → a ≡ Err p → Walked h (Err p) t'
   marking-fault a p t' w e f =
       let g : fault_at h q (mark_of h) ≡ Err p = sym e ∙ f in
       let k : walked h ≡ fault p.at = M.same ∙ rw (step_of w M.left M.enough, g) (objects-fault M.done p.at) in
@@ -33,10 +33,10 @@ module _ (h : List ℕ) (q links : ℕ) (t : List Bool) (M : Marking h q links t
         linked = λ n c. let z : ◌≡◌ {A = ℕ} 0 1 = cc in absurd (omega arith);
       }
 
-  pub marking-object : (a : Checked) → a ≡ fault_at h q (mark_of h) → a ≡ faultless → Object h q (mark_of h)
+  pub marking-object : (a : Judgement) → a ≡ fault_at h q (mark_of h) → a ≡ faultless → Object h q (mark_of h)
   marking-object a e f = judged-object h q (mark_of h) (sym e ∙ f)
 
-  pub marking-more : (a : Checked) (ptrs c size d : ℕ) → Range h → q < mark_of h → a ≡ fault_at h q (mark_of h) → a ≡ faultless →
+  pub marking-more : (a : Judgement) (ptrs c size d : ℕ) → Range h → q < mark_of h → a ≡ fault_at h q (mark_of h) → a ≡ faultless →
       Small c (ptrs_at h q) ptrs → Small d (size_at h q) size → Marking h (q + size) (links + ptrs) (set t q true)
   marking-more a ptrs c size d R w e f P D =
       let g : fault_at h q (mark_of h) ≡ faultless = sym e ∙ f in

@@ -6,7 +6,7 @@ use Rattle.std.proofs.Common.{Result, Ok, Err, sym, ◌∙◌, ap, arith}
 use Rattle.model.specs.Words.{word_at}
 use Rattle.model.specs.Heap.{Heap, mark_of, first_object, Objects, Audit, fault, clean, pointer_words, objects_in, heap_of, objects_of}
 use Rattle.audit_heap.specs.declared.BadWord.{BadWord}
-use Rattle.audit_heap.specs.Checked.{Checked, faultless, faulty, same-fault, uncounted}
+use Rattle.audit_heap.specs.Judgement.{Judgement, faultless, faulty, same-fault, uncounted}
 use Rattle.audit_heap.specs.First.{first_bad, walked, free_words, audit_answer, or_else, or_audit, pointer_at, bad-append}
 use Rattle.audit_heap.specs.Audited.{heap_clean, clean-heap, heap-judged, heap-walk-fault, heap-mark-fault, walk-shows}
 use Rattle.audit_words.specs.Every.{zero_at}
@@ -53,7 +53,7 @@ audited-walk h t t' r w R W e = go (walked h) refl (sym W.is ∙ ap uncounted e)
 
 module _ (h : List ℕ) (t : List Bool) (w : Result ℕ BadWord) (n : ℕ) (R : Range h) (W : Walked h w t) (e : w ≡ Ok n) where
   -- the three tests that are left: the root, the pointer words, the free words
-  pub audited-is : (a b c r : Checked) → first_bad (marked_at t h) (1 ∷ []) ≡ a → first_bad (marked_at t h) (pointer_words h (objects_found h)) ≡ b →
+  pub audited-is : (a b c r : Judgement) → first_bad (marked_at t h) (1 ∷ []) ≡ a → first_bad (marked_at t h) (pointer_words h (objects_found h)) ≡ b →
       first_bad (zero_at h) (free_words h) ≡ c → r ≡ or_else a (or_else b c) → Audited h r t
   unfolding objects_of
   audited-is a b c r f g k l =
@@ -67,13 +67,13 @@ module _ (h : List ℕ) (t : List Bool) (w : Result ℕ BadWord) (n : ℕ) (R : 
         marks = λ u. same a b c J (sym l ∙ u) M;
       }
     where
-      all_told : (a b c : Checked) → or_else a (or_else b c) ≡ audit_answer (or_audit (or_else a b) (or_audit c (clean (objects_found h))))
+      all_told : (a b c : Judgement) → or_else a (or_else b c) ≡ audit_answer (or_audit (or_else a b) (or_audit c (clean (objects_found h))))
       all_told (Ok u) (Ok v) (Ok w) = refl
       all_told (Ok u) (Ok v) (Err w) = refl
       all_told (Ok u) (Err w) c = refl
       all_told (Err w) b c = refl
 
-      same : (a b c : Checked) → heap_of h ≡ or_audit (or_else a b) (or_audit c (clean (objects_found h))) →
+      same : (a b c : Judgement) → heap_of h ≡ or_audit (or_else a b) (or_audit c (clean (objects_found h))) →
           or_else a (or_else b c) ≡ faultless → Marks (objects_found h) t → Marks (objects_of h) t
       same (Ok u) (Ok v) (Ok w) J x M = rw J M
       same (Ok u) (Ok v) (Err w) J x M = let z : ◌≡◌ {A = ℕ} 0 1 = cc in absurd (omega arith)
@@ -82,7 +82,7 @@ module _ (h : List ℕ) (t : List Bool) (w : Result ℕ BadWord) (n : ℕ) (R : 
 
 -- What the audit's answer shows
 
-pub audited-sound : {h : List ℕ} {r : Checked} {t : List Bool} → Audited h r t → r ≡ faultless → Heap h (objects_of h)
+pub audited-sound : {h : List ℕ} {r : Judgement} {t : List Bool} → Audited h r t → r ≡ faultless → Heap h (objects_of h)
 unfolding objects_of
 audited-sound {h} A e = heap_clean h (objects_of h) (told-clean (heap_of h) (sym A.is ∙ e))
   where
@@ -90,10 +90,10 @@ audited-sound {h} A e = heap_clean h (objects_of h) (told-clean (heap_of h) (sym
     told-clean (clean os) f = refl
     told-clean (fault q) f = cc
 
-pub audited-clean : {h : List ℕ} {r : Checked} {t : List Bool} → Audited h r t → r ≡ faultless → heap_of h ≡ clean (objects_of h)
+pub audited-clean : {h : List ℕ} {r : Judgement} {t : List Bool} → Audited h r t → r ≡ faultless → heap_of h ≡ clean (objects_of h)
 audited-clean {h} A e = clean-heap h (objects_of h) (audited-sound A e)
 
-pub audited-fault : {h : List ℕ} {r : Checked} {t : List Bool} (w : BadWord) → Audited h r t → r ≡ Err w → heap_of h ≡ fault w.at
+pub audited-fault : {h : List ℕ} {r : Judgement} {t : List Bool} (w : BadWord) → Audited h r t → r ≡ Err w → heap_of h ≡ fault w.at
 audited-fault {h} w A e = told-fault (heap_of h) (sym A.is ∙ e)
   where
     told-fault : (a : Audit) → audit_answer a ≡ Err w → a ≡ fault w.at

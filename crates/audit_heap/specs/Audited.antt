@@ -17,7 +17,7 @@ use Rattle.model.specs.Faults.{FirstFault, mark_word, on_walk, after_walk}
 use Rattle.model.specs.Claim.{FaultExactly, FaultUnsound}
 use Rattle.heap.specs.Objects.{object-of, objects-snoc, same-objects}
 use Rattle.heap.specs.Pointers.{pointer-true, true-pointer}
-use Rattle.audit_heap.specs.Checked.{Checked, faultless, faulty}
+use Rattle.audit_heap.specs.Judgement.{Judgement, faultless, faulty}
 use Rattle.audit_words.specs.Every.{zero_at}
 use Rattle.audit_heap.specs.First.{first_bad, walked, free_words, or_audit, pointer_at, pointers-first, zeros-first, all-good}
 use Rattle.audit_heap.specs.First.{bad-in, good-below, range-mem, range-rising, mem-range}
@@ -266,7 +266,7 @@ module _ (h os : List ℕ) (R : MarkInRange h) (W : Objects h first_object (mark
           absurd (B.1 (pointer-true os (word_at h i) good))
       lowest i (inr F) = free i F (dec_lt i q)
 
-  words-say : (a : Checked) → first_bad (pointer_at h os) (1 ∷ pointer_words h os) ≡ a → (b : Checked) → first_bad (zero_at h) (free_words h) ≡ b →
+  words-say : (a : Judgement) → first_bad (pointer_at h os) (1 ∷ pointer_words h os) ≡ a → (b : Judgement) → first_bad (zero_at h) (free_words h) ≡ b →
       Says h (or_audit a (or_audit b (clean os)))
   words-say (Ok u) e (Ok v) f = all_pass e f
   words-say (Ok u) e (Err w) f = first-free w.at e f

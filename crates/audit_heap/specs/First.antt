@@ -11,9 +11,9 @@ use Rattle.model.specs.Words.{word_at}
 use Rattle.laws.specs.Members.{Rising}
 use Rattle.model.specs.Heap.{mark_of, first_object, Audit, fault, clean, walk, is_pointer, range, pointers_first, zeros_first}
 use Rattle.audit_words.specs.Every.{zero_at}
-use Rattle.audit_heap.specs.Checked.{Checked, faultless, faulty, same-fault}
+use Rattle.audit_heap.specs.Judgement.{Judgement, faultless, faulty, same-fault}
 
-unfoldable pub first_bad : (ℕ → Bool) → List ℕ → Checked
+unfoldable pub first_bad : (ℕ → Bool) → List ℕ → Judgement
 first_bad P [] = faultless
 first_bad P (i ∷ is) = when P i then first_bad P is else faulty i
 
@@ -25,16 +25,16 @@ abbrev pub free_words : List ℕ → List ℕ
 free_words h = range (mark_of h) (length h - mark_of h)
 
 -- what the audit answers of the model's
-abbrev pub audit_answer : Audit → Checked
+abbrev pub audit_answer : Audit → Judgement
 audit_answer (fault q) = faulty q
 audit_answer (clean os) = faultless
 
 -- the first fault of two
-abbrev pub or_else : Checked → Checked → Checked
+abbrev pub or_else : Judgement → Judgement → Judgement
 or_else (Ok u) b = b
 or_else (Err w) b = Err w
 
-abbrev pub or_audit : Checked → Audit → Audit
+abbrev pub or_audit : Judgement → Audit → Audit
 or_audit (Ok u) b = b
 or_audit (Err w) b = fault w.at
 

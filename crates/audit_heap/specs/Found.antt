@@ -3,7 +3,7 @@ use Rattle.std.specs.Prelude.{ℕ, ◌+◌, ◌≤◌, ◌≡◌, Bool, List, []
 use Rattle.model.specs.Choice.{when◌then◌else◌}
 use Rattle.model.specs.Heap.{mark_of, first_object, bad_header, bad_size, pointer_words, objects_in, heap_of, objects_of}
 use Rattle.audit_heap.specs.declared.BadWord.{BadWord}
-use Rattle.audit_heap.specs.Checked.{Checked, faultless, faulty, uncounted}
+use Rattle.audit_heap.specs.Judgement.{Judgement, faultless, faulty, uncounted}
 use Rattle.audit_heap.specs.First.{walked, audit_answer}
 use Rattle.audit_words.specs.Table.{Marks}
 use Rattle.model.specs.Calls.{heap_most}
@@ -15,7 +15,7 @@ pub record Range (h : List ℕ) : Type 0 where
   pub long : length h ≤ heap_most
 
 -- the fault of one object
-unfoldable pub fault_at : List ℕ → ℕ → ℕ → Checked
+unfoldable pub fault_at : List ℕ → ℕ → ℕ → Judgement
 fault_at h q mark = when bad_header h q mark then faulty q else when bad_size h q mark then faulty (q + 1) else faultless
 
 -- the objects that the walk finds
@@ -33,6 +33,6 @@ pub record Walked (h : List ℕ) (r : Result ℕ BadWord) (t : List Bool) : Type
   pub linked : (links : ℕ) → r ≡ Ok links → LinksCounted h (objects_found h) links
 
 -- the audit's answer, and the table behind it
-pub record Audited (h : List ℕ) (r : Checked) (t : List Bool) : Type 0 where
+pub record Audited (h : List ℕ) (r : Judgement) (t : List Bool) : Type 0 where
   pub is : r ≡ audit_answer (heap_of h)
   pub marks : r ≡ faultless → Marks (objects_of h) t

@@ -19,7 +19,7 @@ use Rattle.model.specs.Words.{word_at}
 use Rattle.model.specs.Heap.{mark_of, first_object, ptrs_at, size_at, kind_of, Object, Objects, Audit, fault, clean, and_object, bad_header}
 use Rattle.model.specs.Heap.{bad_size, walk, is_pointer, range, pointer_words}
 use Rattle.audit_heap.specs.declared.BadWord.{BadWord}
-use Rattle.audit_heap.specs.Checked.{Checked, faultless, faulty}
+use Rattle.audit_heap.specs.Judgement.{Judgement, faultless, faulty}
 use Rattle.audit_words.specs.Every.{zero_at, Passing}
 use Rattle.audit_words.specs.Table.{Unmarked, Marks, is_marked, marked_at}
 use Rattle.audit_heap.specs.First.{first_bad, walked, or_else, or_audit, bad-append, none-bad, range-mem}
@@ -96,14 +96,14 @@ unfolding zero_at
 zero-good h i e = eq-eqb (word_at h i) 0 e
 
 -- the search for the first of the words from `from` up to `end` that fails
-abbrev pub told : ℕ → Option ℕ → Checked
-told from None = faultless
-told from (Some k) = faulty (from + k)
+abbrev pub searched : ℕ → Option ℕ → Judgement
+searched from None = faultless
+searched from (Some k) = faulty (from + k)
 
 pub search-told : (Q : ℕ → Bool) (h : List ℕ) (from end : ℕ) (r : Option ℕ) → from ≤ end → end ≤ length h →
     MatchOption r (AllWithin (λ w. Q w ≡ true) (between from end h) 0 (length (between from end h)))
     (λ k. (k < length (between from end h)) × HoldsAt (λ w. Q w ≡ false) (between from end h) k × AllWithin (λ w. Q w ≡ true) (between from end h) 0 k) →
-    told from r ≡ first_bad (λ i. Q (word_at h i)) (range from (end - from))
+    searched from r ≡ first_bad (λ i. Q (word_at h i)) (range from (end - from))
 search-told Q h from end None a b E =
     let n = length-between h from end b in
     every-clean (λ i. Q (word_at h i)) from end a
@@ -349,16 +349,16 @@ module _ (h : List ℕ) (q : ℕ) (t : List Bool) (M : Pointing h q t) where
   pointing-object w = (next w).object
 
   -- the object's pointer words, as the code counts them
-  pub own-words : (ptrs d : ℕ) (a : Checked) → Small d (ptrs_at h q) ptrs → a ≡ first_bad (marked_at t h) (range (q + 2) (q + 2 + ptrs - (q + 2))) →
+  pub own-words : (ptrs d : ℕ) (a : Judgement) → Small d (ptrs_at h q) ptrs → a ≡ first_bad (marked_at t h) (range (q + 2) (q + 2 + ptrs - (q + 2))) →
       first_bad (marked_at t h) (range (q + 2) (ptrs_at h q)) ≡ a
   own-words ptrs d a D e = let z : ptrs_at h q ≡ q + 2 + ptrs - (q + 2) = omega (arith, D.is) in rw z (sym e)
 
-  pub pointing-bad : (ptrs d : ℕ) (a : Checked) (p : BadWord) → q < mark_of h → Small d (ptrs_at h q) ptrs →
+  pub pointing-bad : (ptrs d : ℕ) (a : Judgement) (p : BadWord) → q < mark_of h → Small d (ptrs_at h q) ptrs →
       a ≡ first_bad (marked_at t h) (range (q + 2) (q + 2 + ptrs - (q + 2))) → a ≡ Err p →
       Err p ≡ first_bad (marked_at t h) (pointer_words h (objects_found h))
   pointing-bad ptrs d a p w D e f = sym ((next w).words ∙ rw (own-words ptrs d a D e, f))
 
-  pub pointing-more : (ptrs d : ℕ) (a : Checked) (size g : ℕ) → q < mark_of h → Small d (ptrs_at h q) ptrs →
+  pub pointing-more : (ptrs d : ℕ) (a : Judgement) (size g : ℕ) → q < mark_of h → Small d (ptrs_at h q) ptrs →
       a ≡ first_bad (marked_at t h) (range (q + 2) (q + 2 + ptrs - (q + 2))) → a ≡ faultless → Small g (size_at h q) size → Pointing h (q + size) t
   pointing-more ptrs d a size g w D e f G =
       let N = next w in

@@ -98,15 +98,15 @@ popped-params f map lm lp w c h H e =
     (p.0 ∙ sym H.a_is, p.1 ∙ sym H.b_is)
 
 -- the tests of a frame's record with the procedure that it names
-module _ (f map : List ℕ) (lm lp : ℕ) (w : FrameRead) (rs : List Rec) (s : LookRead) where
+module _ (f map : List ℕ) (lm lp : ℕ) (w : FrameRead) (rs : List Rec) (k : Look) where
   abbrev tests : List Test
-  tests = frame_tests f map lm lp (the_frame w) rs (the_look s)
+  tests = frame_tests f map lm lp (the_frame w) rs k
 
-  pub not_within : in_proc f w.proc s.place ≡ false → false ≡ all tests
+  pub not_within : in_proc f w.proc k.place ≡ false → false ≡ all tests
   unfolding in_proc
-  not_within e = go (is_ins f s.place) refl e
+  not_within e = go (is_ins f k.place) refl e
     where
-      go : (t : Bool) → is_ins f s.place ≡ t → (t && eqb w.proc (proc_at f s.place)) ≡ false → false ≡ all tests
+      go : (t : Bool) → is_ins f k.place ≡ t → (t && eqb w.proc (proc_at f k.place)) ≡ false → false ≡ all tests
       go true i e = fails-at 4 tests e
       go false i e = fails-at 0 tests i
 
@@ -114,9 +114,9 @@ module _ (f map : List ℕ) (lm lp : ℕ) (w : FrameRead) (rs : List Rec) (s : L
   pub frame_fits : true ≡ all tests → lm ≤ main_most → lp ≤ ptr_most → BasesFit w
   frame_fits e m p = let h = all_true tests (sym e) in record { main = omega arith; ptr = omega arith }
 
-  pub frame-proc : true ≡ all tests → in_proc f w.proc s.place ≡ true
+  pub frame-proc : true ≡ all tests → in_proc f w.proc k.place ≡ true
   unfolding in_proc
-  frame-proc e = let h = all_true tests (sym e) in rw h.0 (eq-eqb w.proc (proc_at f s.place) h.1.1.1.1.0)
+  frame-proc e = let h = all_true tests (sym e) in rw h.0 (eq-eqb w.proc (proc_at f k.place) h.1.1.1.1.0)
 
 -- the verdict, or what the records below come to
 abbrev pub tells : ControlFlow Bool LookRead → (LookRead → Bool) → Bool
@@ -124,74 +124,74 @@ tells (Break t) k = t
 tells (Continue s) k = k s
 
 -- what a record tells, on top of rs
-pub record RecordTells (f map : List ℕ) (lm lp : ℕ) (w : Rec) (rs : List Rec) (s : LookRead) (r : ControlFlow Bool LookRead) : Type 0 where
-  pub is : stack? f map lm lp (w ∷ rs) (the_look s) ≡ tells r (λ (t : LookRead). stack? f map lm lp rs (the_look t))
+pub record RecordTells (f map : List ℕ) (lm lp : ℕ) (w : Rec) (rs : List Rec) (k : Look) (r : ControlFlow Bool LookRead) : Type 0 where
+  pub is : stack? f map lm lp (w ∷ rs) k ≡ tells r (λ (t : LookRead). stack? f map lm lp rs (the_look t))
 
-module _ (f map : List ℕ) (lm lp : ℕ) (rs : List Rec) (s : LookRead) where
-  module _ (v : Rec) (w : FrameRead) (v-is : the_frame w ≡ as_frame v) (bare : s.inner ≡ none) where
+module _ (f map : List ℕ) (lm lp : ℕ) (rs : List Rec) (k : Look) where
+  module _ (v : Rec) (w : FrameRead) (v-is : the_frame w ≡ as_frame v) (bare : k.inner ≡ none) where
     abbrev pops : ℕ → Effect
     pops c = effect_of f (ins_at f c)
 
     -- what follows a frame's own tests, where c is the call
     abbrev rest : ℕ → Bool
     rest c =
-        when eqb s.frame 1
-        then all (first_tests f map lm lp (the_frame w) (the_look s))
+        when eqb k.frame 1
+        then all (first_tests f map lm lp (the_frame w) k)
         else
         (when all (caller_tests f map lm lp (the_frame w) c (pops c))
-        then stack? f map lm lp rs (caller f map lm lp (the_frame w) (the_look s) c (pops c))
+        then stack? f map lm lp rs (caller f map lm lp (the_frame w) k c (pops c))
         else false)
 
-    stack-frame : (t : Bool) → t ≡ all (frame_tests f map lm lp (the_frame w) rs (the_look s)) →
-        stack? f map lm lp (v ∷ rs) (the_look s) ≡ (when t then rest (call_before f w.returns) else false)
+    stack-frame : (t : Bool) → t ≡ all (frame_tests f map lm lp (the_frame w) rs k) →
+        stack? f map lm lp (v ∷ rs) k ≡ (when t then rest (call_before f w.returns) else false)
     unfolding stack?
     stack-frame t e =
-        ap (λ (x : Frame). stack? f map lm lp (frame_rec x ∷ rs) (the_look s)) (sym v-is)
-        ∙ rw (eq-eqb s.inner none bare) (ap (λ (b : Bool). when b then rest (call_before f w.returns) else false) (sym e))
+        ap (λ (x : Frame). stack? f map lm lp (frame_rec x ∷ rs) k) (sym v-is)
+        ∙ rw (eq-eqb k.inner none bare) (ap (λ (b : Bool). when b then rest (call_before f w.returns) else false) (sym e))
 
-    pub told-frame : false ≡ all (frame_tests f map lm lp (the_frame w) rs (the_look s)) →
-        RecordTells f map lm lp v rs s (Break false)
+    pub told-frame : false ≡ all (frame_tests f map lm lp (the_frame w) rs k) →
+        RecordTells f map lm lp v rs k (Break false)
     told-frame e = record { is = stack-frame false e }
 
-    module _ (e : true ≡ all (frame_tests f map lm lp (the_frame w) rs (the_look s))) where
-      pub told-first : (r : Bool) → s.frame ≡ 1 → r ≡ all (first_tests f map lm lp (the_frame w) (the_look s)) →
-          RecordTells f map lm lp v rs s (Break r)
-      told-first r h d = record { is = stack-frame true e ∙ rw (eq-eqb s.frame 1 h) (sym d) }
+    module _ (e : true ≡ all (frame_tests f map lm lp (the_frame w) rs k)) where
+      pub told-first : (r : Bool) → k.frame ≡ 1 → r ≡ all (first_tests f map lm lp (the_frame w) k) →
+          RecordTells f map lm lp v rs k (Break r)
+      told-first r h d = record { is = stack-frame true e ∙ rw (eq-eqb k.frame 1 h) (sym d) }
 
-      module _ (later : s.frame ≡ 1 → ⊥) (c : ℕ) (c-is : c ≡ call_before f w.returns) where
+      module _ (later : k.frame ≡ 1 → ⊥) (c : ℕ) (c-is : c ≡ call_before f w.returns) where
         later-frame : (t : Bool) → t ≡ all (caller_tests f map lm lp (the_frame w) c (pops c)) →
-            stack? f map lm lp (v ∷ rs) (the_look s)
-            ≡ (when t then stack? f map lm lp rs (caller f map lm lp (the_frame w) (the_look s) c (pops c)) else false)
+            stack? f map lm lp (v ∷ rs) k
+            ≡ (when t then stack? f map lm lp rs (caller f map lm lp (the_frame w) k c (pops c)) else false)
         later-frame t d =
             stack-frame true e
             ∙ ap rest (sym c-is)
-            ∙ rw (ne_eqb s.frame 1 later)
-            (ap (λ (b : Bool). when b then stack? f map lm lp rs (caller f map lm lp (the_frame w) (the_look s) c (pops c)) else false) (sym d))
+            ∙ rw (ne_eqb k.frame 1 later)
+            (ap (λ (b : Bool). when b then stack? f map lm lp rs (caller f map lm lp (the_frame w) k c (pops c)) else false) (sym d))
 
         pub told-call : false ≡ all (caller_tests f map lm lp (the_frame w) c (pops c)) →
-            RecordTells f map lm lp v rs s (Break false)
+            RecordTells f map lm lp v rs k (Break false)
         told-call d = record { is = later-frame false d }
 
         pub told-caller : (t : LookRead) → true ≡ all (caller_tests f map lm lp (the_frame w) c (pops c)) →
-            the_look t ≡ caller f map lm lp (the_frame w) (the_look s) c (pops c) →
-            RecordTells f map lm lp v rs s (Continue t)
+            the_look t ≡ caller f map lm lp (the_frame w) k c (pops c) →
+            RecordTells f map lm lp v rs k (Continue t)
         told-caller t d t-is = record { is = later-frame true d ∙ ap (stack? f map lm lp rs) (sym t-is) }
 
-  module _ (v : Rec) (w : HandlerRead) (v-is : the_handler w ≡ as_handler v) (held : s.inner ≡ none → ⊥) where
-    stack-handler : (t : Bool) → t ≡ all (handler_tests f map lm lp (the_handler w) rs (the_look s)) →
-        stack? f map lm lp (v ∷ rs) (the_look s)
-        ≡ (when t then stack? f map lm lp rs (outside f map lm lp (the_handler w) (the_look s)) else false)
+  module _ (v : Rec) (w : HandlerRead) (v-is : the_handler w ≡ as_handler v) (held : k.inner ≡ none → ⊥) where
+    stack-handler : (t : Bool) → t ≡ all (handler_tests f map lm lp (the_handler w) rs k) →
+        stack? f map lm lp (v ∷ rs) k
+        ≡ (when t then stack? f map lm lp rs (outside f map lm lp (the_handler w) k) else false)
     unfolding stack?
     stack-handler t e =
-        ap (λ (x : Handler). stack? f map lm lp (handler_rec x ∷ rs) (the_look s)) (sym v-is)
-        ∙ rw (ne_eqb s.inner none held)
-        (ap (λ (b : Bool). when b then stack? f map lm lp rs (outside f map lm lp (the_handler w) (the_look s)) else false) (sym e))
+        ap (λ (x : Handler). stack? f map lm lp (handler_rec x ∷ rs) k) (sym v-is)
+        ∙ rw (ne_eqb k.inner none held)
+        (ap (λ (b : Bool). when b then stack? f map lm lp rs (outside f map lm lp (the_handler w) k) else false) (sym e))
 
-    pub told-handler : false ≡ all (handler_tests f map lm lp (the_handler w) rs (the_look s)) →
-        RecordTells f map lm lp v rs s (Break false)
+    pub told-handler : false ≡ all (handler_tests f map lm lp (the_handler w) rs k) →
+        RecordTells f map lm lp v rs k (Break false)
     told-handler e = record { is = stack-handler false e }
 
-    pub told-outside : (t : LookRead) → true ≡ all (handler_tests f map lm lp (the_handler w) rs (the_look s)) →
-        the_look t ≡ outside f map lm lp (the_handler w) (the_look s) →
-        RecordTells f map lm lp v rs s (Continue t)
+    pub told-outside : (t : LookRead) → true ≡ all (handler_tests f map lm lp (the_handler w) rs k) →
+        the_look t ≡ outside f map lm lp (the_handler w) k →
+        RecordTells f map lm lp v rs k (Continue t)
     told-outside t e t-is = record { is = stack-handler true e ∙ ap (stack? f map lm lp rs) (sym t-is) }

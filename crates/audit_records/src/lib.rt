@@ -150,7 +150,7 @@ impl Audited<'_> {
     fn read_handler(&self, left: usize, look: Look) -> ControlFlow<bool, Look>
         requires { record_words * left + 4 < length self.now.ctl.now }
         ensures { (f : List ℕ) (lm lp : ℕ) → (look.inner ≡ none → ⊥) →
-            RecordTells f self.now.passed.map.now lm lp (rec_at self.now.ctl.now left) (down self.now.ctl.now left) look result }
+            RecordTells f self.now.passed.map.now lm lp (rec_at self.now.ctl.now left) (down self.now.ctl.now left) (the_look look) result }
     {
         let handler = control_stack::handler_at(self.ctl, left);
         if !self.handler_right(left, handler, look) {
@@ -163,7 +163,7 @@ impl Audited<'_> {
     fn read_frame(&self, left: usize, look: Look) -> ControlFlow<bool, Look>
         requires { (record_words * left + 4 < length self.now.ctl.now) × (look.inner ≡ none) }
         ensures { RecordTells self.now.passed.file.now self.now.passed.map.now (length self.now.main.now) (length self.now.ptr.now)
-            (rec_at self.now.ctl.now left) (down self.now.ctl.now left) look result }
+            (rec_at self.now.ctl.now left) (down self.now.ctl.now left) (the_look look) result }
     {
         let frame = control_stack::frame_at(self.ctl, left);
         if !self.frame_right(left, frame, look) {
@@ -186,7 +186,7 @@ impl Audited<'_> {
     pub fn read_record(&self, left: usize, look: Look) -> ControlFlow<bool, Look>
         requires { record_words * left + 4 < length self.now.ctl.now }
         ensures { RecordTells self.now.passed.file.now self.now.passed.map.now (length self.now.main.now) (length self.now.ptr.now)
-            (rec_at self.now.ctl.now left) (down self.now.ctl.now left) look result }
+            (rec_at self.now.ctl.now left) (down self.now.ctl.now left) (the_look look) result }
     {
         if look.inner == NONE_OPEN {
             self.read_frame(left, look)

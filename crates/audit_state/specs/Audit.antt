@@ -7,13 +7,11 @@ use Rattle.model.specs.Choice.{when◌then◌else◌, Test, same, at_most, yes?,
 use Rattle.model.specs.File.{results_main, results_ptr}
 use Rattle.model.specs.Heap.{objects_of}
 use Rattle.model.specs.Control.{Machine, set_regs, record_words, down, records, root_words}
-use Rattle.model.specs.Sound.{main_at, ptr_at, zeros, pointers, stack?, stack_tests, topmost, running_tests, finished_tests, sound?}
+use Rattle.model.specs.Sound.{Look, main_at, ptr_at, zeros, pointers, stack?, stack_tests, topmost, running_tests, finished_tests, sound?}
 use Rattle.model.specs.declared.Regs.{Regs}
-use Rattle.audit_records.specs.declared.Look.{Look}
 use Rattle.code_file.specs.declared.Head.{Head}
 use Rattle.audit_places.specs.Places.{HeadFor}
 use Rattle.laws.specs.Tests.{Fails, test, fails-all, decided, all_both}
-use Rattle.audit_records.specs.Records.{the_look}
 
 module _ (map : List ℕ) (r : Regs) (n : ℕ) where
   -- running: state and tops; n is the length of the control stack
@@ -110,8 +108,8 @@ module _ (f map : List ℕ) (m : Machine) where
     pub sound-tops : tops_ok map m.regs (length m.ctl) ≡ false → false ≡ sound? f map m
     sound-tops e = sym (on-is false e)
 
-    module _ (t : tops_ok map m.regs (length m.ctl) ≡ true) (top : Look) (top-is : (m' : Machine) → the_look top ≡ topmost map (set_regs m.regs m')) {b : Bool}
-        (b_is : b ≡ stack? f map (length m.main) (length m.ptr) (down m.ctl (records m)) (the_look top)) where
+    module _ (t : tops_ok map m.regs (length m.ctl) ≡ true) (top : Look) (top-is : (m' : Machine) → top ≡ topmost map (set_regs m.regs m')) {b : Bool}
+        (b_is : b ≡ stack? f map (length m.main) (length m.ptr) (down m.ctl (records m)) top) where
       records-are : (u : Bool) → b ≡ u → sound? f map m ≡ (when u then all (stack_tests m) else false)
       records-are u e =
           let same-look = ap (stack? f map (length m.main) (length m.ptr) (down m.ctl (records m))) (top-is m) in

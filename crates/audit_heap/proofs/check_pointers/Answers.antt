@@ -6,7 +6,7 @@ use Rattle.audit_words.specs.Every.{Every, every-within}
 use Rattle.audit_words.specs.Table.{is_marked, marked_at}
 use Rattle.model.specs.Heap.{range}
 use Rattle.audit_heap.specs.First.{first_bad}
-use Rattle.audit_heap.specs.Turns.{every-clean, told, search-told}
+use Rattle.audit_heap.specs.Turns.{every-clean, searched, search-told}
 use Rattle.audit_heap.proofs.check_pointers.Goals as goal
 use Rattle.audit_heap.proofs.check_pointers.Goals.{After-position}
 
@@ -21,7 +21,7 @@ returns-then-all_pointers c =
 
 found : (c : After-position) →
     let a = c.args in
-    told a.from c.position.result ≡ first_bad (marked_at a.marks.now a.heap.now) (range a.from (a.end - a.from))
+    searched a.from c.position.result ≡ first_bad (marked_at a.marks.now a.heap.now) (range a.from (a.end - a.from))
 unfolding marked_at
 found c =
     let a = c.args in

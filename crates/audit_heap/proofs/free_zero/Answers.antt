@@ -5,7 +5,7 @@ use Rattle.std.proofs.lemmas.Iterator.{IsFirst-from_position, YieldsList-from_sl
 use Rattle.model.specs.Heap.{mark_of}
 use Rattle.audit_words.specs.Every.{Every, zero_at}
 use Rattle.audit_heap.specs.First.{first_bad, free_words}
-use Rattle.audit_heap.specs.Turns.{every-clean, told, search-told}
+use Rattle.audit_heap.specs.Turns.{every-clean, searched, search-told}
 use Rattle.audit_heap.proofs.free_zero.Goals as goal
 use Rattle.audit_heap.proofs.free_zero.Goals.{After-position}
 
@@ -16,7 +16,7 @@ returns-then-all_zero c =
 
 found : (c : After-position) →
     let h = c.args.heap.now in
-    told (mark_of h) c.position.result ≡ first_bad (zero_at h) (free_words h)
+    searched (mark_of h) c.position.result ≡ first_bad (zero_at h) (free_words h)
 unfolding zero_at
 found c =
     let h = c.args.heap.now in

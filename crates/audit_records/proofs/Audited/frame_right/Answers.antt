@@ -2,13 +2,13 @@
 use Rattle.std.proofs.Common.{sym, ◌∙◌, arith, length}
 use Rattle.std.proofs.lemmas.Bool.Decides.{nat_tests}
 use Rattle.audit_places.specs.Places.{in-proc-true, in-proc-below}
-use Rattle.audit_records.specs.Records.{not_within}
+use Rattle.audit_records.specs.Records.{the_look, not_within}
 use Rattle.audit_records.proofs.Audited.frame_right.Goals as goal
 
 pub returns-then-not-within : goal.returns-then-not-within
 returns-then-not-within c =
     let a = c.args in
-    λ rs e. not_within _ a.self.now.passed.map.now (length a.self.now.main.now) (length a.self.now.ptr.now) a.frame rs a.look
+    λ rs e. not_within _ a.self.now.passed.map.now (length a.self.now.main.now) (length a.self.now.ptr.now) a.frame rs (the_look a.look)
     (sym c.within.ensures ∙ c.if-not-within.true)
 
 pub head_of-head-requires : goal.head_of-head-requires

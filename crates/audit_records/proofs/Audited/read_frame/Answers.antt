@@ -32,7 +32,7 @@ fits-at : (c : Else-not-frame_right) → BasesFit c.frame_at-frame.result
 fits-at c =
     let a = c.args in
     let s = a.self.now in
-    frame_fits s.passed.file.now s.passed.map.now (length s.main.now) (length s.ptr.now) _ (down s.ctl.now a.left) a.look (own_at c) s.main_fits s.ptr_fits
+    frame_fits s.passed.file.now s.passed.map.now (length s.main.now) (length s.ptr.now) _ (down s.ctl.now a.left) (the_look a.look) (own_at c) s.main_fits s.ptr_fits
 
 pub returns-then-look-eq1 : goal.returns-then-look-eq1
 returns-then-look-eq1 c =
@@ -46,7 +46,7 @@ head_of-head-requires c =
     let a = c.args in
     let s = a.self.now in
     in-proc-below _ _ _ s.passed.ready.heads _ _
-    (frame-proc s.passed.file.now s.passed.map.now (length s.main.now) (length s.ptr.now) c.frame_at-frame.result (down s.ctl.now a.left) a.look
+    (frame-proc s.passed.file.now s.passed.map.now (length s.main.now) (length s.ptr.now) c.frame_at-frame.result (down s.ctl.now a.left) (the_look a.look)
     (own_at (goal.at.head_of-head-requires c).Else-not-frame_right))
 
 pub caller_right-requires : goal.caller_right-requires

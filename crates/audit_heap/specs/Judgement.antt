@@ -3,16 +3,16 @@ use Rattle.std.specs.Prelude.{ℕ, ◌≡◌, Result, Ok, Err}
 use Rattle.std.proofs.Common.{ap}
 use Rattle.audit_heap.specs.declared.BadWord.{BadWord}
 
-abbrev pub Checked : Type 0
-Checked = Result (Unit {0}) BadWord
+abbrev pub Judgement : Type 0
+Judgement = Result (Unit {0}) BadWord
 
-abbrev pub faultless : Checked
+abbrev pub faultless : Judgement
 faultless = Ok tt
 
-abbrev pub faulty : ℕ → Checked
+abbrev pub faulty : ℕ → Judgement
 faulty q = Err (record { at = q })
 
-place : Checked → ℕ
+place : Judgement → ℕ
 place (Ok u) = 0
 place (Err b) = b.at
 
@@ -21,6 +21,6 @@ unfolding place
 same-fault p q e = ap place e
 
 -- an answer that counts, without its count
-abbrev pub uncounted : Result ℕ BadWord → Checked
+abbrev pub uncounted : Result ℕ BadWord → Judgement
 uncounted (Ok n) = faultless
 uncounted (Err b) = Err b
