@@ -63,7 +63,8 @@ pub struct Depths {
     pub ptr: usize,
 }
 
-// What an instruction comes to that is not refused: the place behind it, the depths there, and whether the state passes on.
+// What an instruction comes to that is not refused: the place behind it, the depths there, and whether the state passes on. No Option: 162's depths
+// are told, too.
 #[derive(Clone, Copy)]
 pub struct Onward {
     pub next: usize,
